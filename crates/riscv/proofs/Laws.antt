@@ -1,0 +1,7 @@
+-- The laws of the definitions in specs/.
+pub mod Layouts
+pub mod Fields
+pub mod Halves
+pub mod Data
+pub mod Types
+pub mod Bench

@@ -1,0 +1,7 @@
+pub mod Layouts
+pub mod Fields
+pub mod Halves
+pub mod Ranges
+pub mod Forms
+pub mod Types
+pub mod Data

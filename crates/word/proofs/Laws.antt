@@ -1,0 +1,7 @@
+-- The laws of the definitions in specs/.
+pub mod Lists
+pub mod Bytes
+pub mod First
+pub mod Modulo
+pub mod Whole
+pub mod Powers

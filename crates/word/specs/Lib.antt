@@ -1,0 +1,4 @@
+pub mod Bytes
+pub mod First
+pub mod Whole
+pub mod Powers

@@ -1,0 +1,2 @@
+# No byte at all: three empty sections are placed and none is laid.
+        .globl  unused

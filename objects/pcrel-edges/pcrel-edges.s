@@ -1,0 +1,27 @@
+# PCREL_HI20, PCREL_LO12_I, PCREL_LO12_S: distances on each side of every step of the high half.
+        .macro near name
+1:      auipc   a0, %pcrel_hi(\name)
+        addi    a0, a0, %pcrel_lo(1b)
+        sw      zero, %pcrel_lo(1b)(a0)
+        nop
+        .endm
+        .text
+        near    d_7ff           # at 0x00
+        near    d_800           # at 0x10
+        near    d_fff           # at 0x20
+        near    d_000           # at 0x30
+        near    d_minus_800     # at 0x40
+        near    d_minus_801     # at 0x50
+        near    far_last        # at 0x60: distance 0x7ffff7ff
+        near    far_next        # at 0x70: distance 0x7ffff800
+        near    far_back        # at 0x80: distance 0xfffff800
+        near    all_ones        # at 0x90
+        near    zero_address    # at 0xa0
+        near    self            # at 0xb0
+        near    self - 1        # at 0xc0
+        near    self + 0x1000   # at 0xd0
+        near    after           # at 0xe0
+self:   .word   self
+        .bss
+        .space  3
+after:  .space  1

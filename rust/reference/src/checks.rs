@@ -1,0 +1,126 @@
+//! "When the fitter says no": the checks in document 01's order, a line each,
+//! with the number that a broken one gives.
+
+use crate::journal::{self, Standing};
+use crate::object::{Header, Object};
+use crate::order::{is_allowed_length, Order, Window};
+use crate::placement::{
+    addresses, lowest_differing_section, lowest_misplaced, lowest_wrong_external,
+};
+use crate::plan::Plan;
+use crate::relocate::{
+    breaks_shape_rule, distance_is_odd_or_too_far, has_not_one_pair, instruction_form_is_wrong,
+    padding_misses_boundary, symbol_does_not_resolve, Site,
+};
+use crate::symbol::Symbols;
+use crate::Answer;
+
+/// Checks 2 to 14: everything that depends on object, order and image length
+/// alone. Gives the first broken check, or what to lay.
+#[rustfmt::skip]
+pub fn judge(object: &[u8], order: &[u8], image_length: usize) -> Result<Plan, Answer> {
+    let order = read(2, Order::read(order))?;                       // order bytes malformed
+    let window = read(3, Window::new(order.base, image_length))?;   // window rule broken
+    let header = read(4, Header::read(object))?;                    // header or file length
+    let object = read_at(5, Object::read(object, header))?;         // row table or row rule
+    broken_at(6, lowest_differing_section(&object, &order))?;       // placements differ
+    broken_at(7, lowest_wrong_external(&object, &order))?;          // outside value, wrong symbol
+    let addresses = addresses(&order);
+    broken_at(8, lowest_misplaced(&object, addresses, window))?;    // placing
+    let symbols = Symbols { object: &object, addresses, external_values: &order.external_values };
+    let lists = object.relocation_sections();
+    let sites = lists.iter().flat_map(|list| {
+        (0..list.relocations.len()).map(|index| Site { symbols: &symbols, list, index })
+    });
+    first_broken_relocation(sites)?;                                // 9 to 14
+    Ok(Plan::new(&symbols, window, &lists))
+}
+
+/// A check's number, and whether a relocation breaks it.
+type RelocationCheck = (u32, fn(&Site) -> bool);
+
+/// The checks of one relocation.
+const RELOCATION_CHECKS: [RelocationCheck; 6] = [
+    (9, breaks_shape_rule),           // type, offset, overlap, addend rule
+    (10, symbol_does_not_resolve),    // (24, 25: or is not in the target row)
+    (11, instruction_form_is_wrong),  // instruction form
+    (12, has_not_one_pair),           // not exactly one partner
+    (13, distance_is_odd_or_too_far), // distance odd or too far
+    (14, padding_misses_boundary),    // padding not on its boundary
+];
+
+/// "Records go by RELA row, then file order, each through 9 to 14 before the
+/// next." The place is the "record, counted from 0 over all".
+fn first_broken_relocation<'a>(sites: impl Iterator<Item = Site<'a>>) -> Result<(), Answer> {
+    for (place, site) in sites.enumerate() {
+        for (number, is_broken) in RELOCATION_CHECKS {
+            broken_at(number, is_broken(&site).then_some(place as u32))?;
+        }
+    }
+    Ok(())
+}
+
+/// The checks of an install, in order.
+fn check_install(
+    object: &[u8],
+    order: &[u8],
+    image_length: usize,
+    journal: &[u8],
+) -> Result<(Standing, Plan), Answer> {
+    let standing = read(1, Standing::read(journal, image_length))?; // ledger unsound
+    let plan = judge(object, order, image_length)?; // 2 to 14
+    holds(15, standing.has_room_for(plan.span, journal.len()))?; // n is 16, or no room
+    Ok((standing, plan))
+}
+
+/// The checks of a rollback, in order. "A taking-back checks 1, 3 (length
+/// only), 16."
+fn check_rollback(image_length: usize, journal: &[u8]) -> Result<Standing, Answer> {
+    let standing = read(1, Standing::read(journal, image_length))?; // ledger unsound
+    holds(3, is_allowed_length(image_length))?; // window rule broken
+    holds(16, !standing.spans.is_empty())?; // no fit stands
+    Ok(standing)
+}
+
+/// Document 01: a fit.
+pub fn install(object: &[u8], order: &[u8], image: &mut [u8], journal: &mut [u8]) -> Answer {
+    match check_install(object, order, image.len(), journal) {
+        Err(refusal) => refusal,
+        Ok((standing, plan)) => {
+            journal::save(journal, &standing, plan.span, image);
+            plan.lay(image);
+            Answer::DONE
+        }
+    }
+}
+
+/// Document 01: a taking-back.
+pub fn rollback(image: &mut [u8], journal: &mut [u8]) -> Answer {
+    match check_rollback(image.len(), journal) {
+        Err(refusal) => refusal,
+        Ok(standing) => {
+            journal::undo(journal, &standing, image);
+            Answer::DONE
+        }
+    }
+}
+
+/// What was read, or the refusal with this number at place 0.
+fn read<T>(number: u32, read: Option<T>) -> Result<T, Answer> {
+    read.ok_or(Answer { number, place: 0 })
+}
+
+/// What was read, or the refusal with this number at the place in the error.
+fn read_at<T>(number: u32, read: Result<T, u32>) -> Result<T, Answer> {
+    read.map_err(|place| Answer { number, place })
+}
+
+/// The refusal with this number at the broken place, if there is one.
+fn broken_at(number: u32, broken: Option<u32>) -> Result<(), Answer> {
+    broken.map_or(Ok(()), |place| Err(Answer { number, place }))
+}
+
+/// The refusal with this number at place 0, unless the rule holds.
+fn holds(number: u32, holds: bool) -> Result<(), Answer> {
+    broken_at(number, (!holds).then_some(0))
+}

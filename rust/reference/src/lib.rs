@@ -1,0 +1,57 @@
+//! A second fitter, written from document 01 alone and kept as close to its
+//! sentences as code can be.
+//!
+//! | part of document 01 | module | checks |
+//! |---|---|---|
+//! | What the object may hold | [`object`] | 4, 5 |
+//! | Order, window and ledger | [`order`], [`journal`] | 2, 3; 1, 15, 16 |
+//! | Placing | [`placement`] | 6, 7, 8 |
+//! | How a record is read: S | [`symbol`] | 10 |
+//! | How a record is read: the type table | [`relocation`] | |
+//! | How a record is read: halves and fields | [`fields`] | |
+//! | How a record is read: instruction forms | [`instruction`] | 11 |
+//! | How a record is read: rules and bytes | [`relocate`] | 9 to 14 |
+//! | The laid bytes and their span | [`plan`] | |
+//! | When the fitter says no | [`checks`] | all, in order |
+//! | The history behind demand 3 | [`history`] | |
+//!
+//! The words are the field's; the comment at each definition has document
+//! 01's term. Quoted sentences in comments are document 01's.
+
+#![forbid(unsafe_code)]
+
+pub mod checks;
+pub mod fields;
+pub mod history;
+pub mod instruction;
+pub mod journal;
+pub mod numbers;
+pub mod object;
+pub mod order;
+pub mod placement;
+pub mod plan;
+pub mod relocate;
+pub mod relocation;
+pub mod symbol;
+
+pub use checks::{install, judge, rollback};
+pub use journal::Span;
+pub use plan::{Piece, Plan};
+
+/// The longest object, image or file. "at most 65,536 bytes"
+pub const MAX_BYTES: usize = 65_536;
+
+/// Document 01: number and place.
+#[derive(Clone, Copy, PartialEq, Eq, Debug)]
+pub struct Answer {
+    pub number: u32,
+    pub place: u32,
+}
+
+impl Answer {
+    /// "done", place 0.
+    pub const DONE: Answer = Answer {
+        number: 0,
+        place: 0,
+    };
+}

@@ -1,0 +1,54 @@
+//! Little-endian numbers in byte strings, and the three kinds of place that
+//! must not be mixed: "a file offset, a row offset and a run-time address are
+//! three types".
+
+/// A whole number, wide enough that no sum or difference of document 01 leaves
+/// it; every reduction is written out.
+pub type Whole = i128;
+
+/// 2^32, the end of the address space and the modulus of T.
+pub const ADDRESS_END: Whole = 1 << 32;
+
+/// Counts from the object's first byte.
+#[derive(Clone, Copy, PartialEq, Eq, PartialOrd, Ord, Debug)]
+pub struct FileOffset(pub u32);
+
+/// Counts from a section's first byte. Document 01: row offset.
+#[derive(Clone, Copy, PartialEq, Eq, PartialOrd, Ord, Debug)]
+pub struct SectionOffset(pub u32);
+
+/// A run-time address.
+#[derive(Clone, Copy, PartialEq, Eq, PartialOrd, Ord, Debug)]
+pub struct Address(pub u32);
+
+/// The number of `N` bytes at `offset`, if they are all there.
+fn chunk_at<const N: usize>(bytes: &[u8], offset: usize) -> Option<[u8; N]> {
+    bytes.get(offset..)?.first_chunk::<N>().copied()
+}
+
+pub fn u16_at(bytes: &[u8], offset: usize) -> Option<u16> {
+    chunk_at(bytes, offset).map(u16::from_le_bytes)
+}
+
+pub fn u32_at(bytes: &[u8], offset: usize) -> Option<u32> {
+    chunk_at(bytes, offset).map(u32::from_le_bytes)
+}
+
+pub fn i32_at(bytes: &[u8], offset: usize) -> Option<i32> {
+    chunk_at(bytes, offset).map(i32::from_le_bytes)
+}
+
+/// The whole of up to eight bytes as one number.
+pub fn number_from(bytes: &[u8]) -> u64 {
+    bytes
+        .iter()
+        .rev()
+        .fold(0, |number, byte| number * 256 + u64::from(*byte))
+}
+
+/// The lowest bytes of `number`, as many as `bytes` has.
+pub fn write_number(bytes: &mut [u8], number: u64) {
+    let all = number.to_le_bytes();
+    let count = bytes.len();
+    bytes.copy_from_slice(&all[..count]);
+}

@@ -1,0 +1,274 @@
+//! "What the object may hold": the ELF header (check 4), the section header
+//! table and the rules of its sections (check 5).
+
+use crate::numbers::{u16_at, u32_at, FileOffset};
+use crate::relocation::{Relocation, RELOCATION_SIZE};
+use crate::symbol::{SymbolTable, MAX_SYMBOLS, SYMBOL_SIZE};
+use crate::MAX_BYTES;
+
+/// Document 01: at most 32 rows.
+pub const MAX_SECTIONS: usize = 32;
+/// Document 01: at most 4,096 records in all counting RELA rows together.
+pub const MAX_RELOCATIONS: u64 = 4_096;
+
+pub const NULL: u32 = 0;
+pub const PROGBITS: u32 = 1;
+pub const SYMTAB: u32 = 2;
+pub const RELA: u32 = 4;
+pub const NOBITS: u32 = 8;
+pub const REL: u32 = 9;
+
+const HEADER_SIZE: usize = 52;
+const SECTION_HEADER_SIZE: usize = 40;
+/// "flag bit 2 (value 2)"
+const ALLOCATED: u32 = 2;
+
+/// What later checks need of a header that passed check 4.
+#[derive(Clone, Copy, Debug)]
+pub struct Header {
+    section_table: FileOffset,
+    section_entry_size: u16,
+    section_count: u16,
+}
+
+impl Header {
+    /// Check 4: `None` where "header or file length" is wrong.
+    pub fn read(file: &[u8]) -> Option<Header> {
+        let ident_and_versions = file.len() <= MAX_BYTES
+            && file.len() >= HEADER_SIZE
+            && file[0..4] == [0x7F, 0x45, 0x4C, 0x46]
+            && file[4] == 1 // class
+            && file[5] == 1 // data
+            && file[6] == 1 // ident version
+            && u16_at(file, 16)? == 1 // e_type
+            && u16_at(file, 18)? == 243 // e_machine
+            && u32_at(file, 20)? == 1 // e_version
+            && u16_at(file, 40)? == 52; // e_ehsize
+        if !ident_and_versions {
+            return None;
+        }
+        Some(Header {
+            section_table: FileOffset(u32_at(file, 32)?),
+            section_entry_size: u16_at(file, 46)?,
+            section_count: u16_at(file, 48)?,
+        })
+    }
+
+    /// Check 5 at place 0: "e_shentsize 40, 1 to 32 rows of 40 bytes, wholly
+    /// inside the file".
+    fn section_table<'a>(&self, file: &'a [u8]) -> Option<&'a [u8]> {
+        let count = usize::from(self.section_count);
+        if usize::from(self.section_entry_size) != SECTION_HEADER_SIZE
+            || !(1..=MAX_SECTIONS).contains(&count)
+        {
+            return None;
+        }
+        let start = self.section_table.0 as usize;
+        file.get(start..start + count * SECTION_HEADER_SIZE)
+    }
+}
+
+/// Document 01: row. One header of the section header table.
+#[derive(Clone, Copy, Debug)]
+pub struct Section {
+    pub kind: u32,
+    pub flags: u32,
+    pub offset: FileOffset,
+    pub size: u32,
+    pub link: u32,
+    pub info: u32,
+    pub alignment: u32,
+    pub entry_size: u32,
+}
+
+impl Section {
+    fn read(header: &[u8]) -> Option<Section> {
+        Some(Section {
+            kind: u32_at(header, 4)?,
+            flags: u32_at(header, 8)?,
+            offset: FileOffset(u32_at(header, 16)?),
+            size: u32_at(header, 20)?,
+            link: u32_at(header, 24)?,
+            info: u32_at(header, 28)?,
+            alignment: u32_at(header, 32)?,
+            entry_size: u32_at(header, 36)?,
+        })
+    }
+
+    /// "allocated if flag bit 2 (value 2) is set and its type is not NULL"
+    pub fn is_allocated(&self) -> bool {
+        self.flags & ALLOCATED != 0 && self.kind != NULL
+    }
+
+    /// Document 01: laid. "allocated and not NOBITS"
+    pub fn is_loaded(&self) -> bool {
+        self.is_allocated() && self.kind != NOBITS
+    }
+}
+
+/// An object that passed checks 4 and 5.
+#[derive(Debug)]
+pub struct Object<'a> {
+    file: &'a [u8],
+    sections: Vec<Section>,
+}
+
+/// The relocations of one counting RELA section.
+#[derive(Debug)]
+pub struct RelocationSection {
+    /// The index of the section that they patch.
+    pub target: usize,
+    /// In file order.
+    pub relocations: Vec<Relocation>,
+}
+
+impl<'a> Object<'a> {
+    /// Check 5: the error is the place, 0 for the table itself and otherwise
+    /// the lowest section that breaks a rule.
+    pub fn read(file: &'a [u8], header: Header) -> Result<Object<'a>, u32> {
+        let table = header.section_table(file).ok_or(0_u32)?;
+        let sections = table
+            .chunks_exact(SECTION_HEADER_SIZE)
+            .filter_map(Section::read)
+            .collect();
+        let object = Object { file, sections };
+        let broken = |index: &usize| SECTION_RULES.iter().any(|holds| !holds(&object, *index));
+        match (0..object.sections.len()).find(broken) {
+            Some(index) => Err(index as u32),
+            None => Ok(object),
+        }
+    }
+
+    pub fn sections(&self) -> &[Section] {
+        &self.sections
+    }
+
+    /// The section with this index, if the table has one.
+    pub fn section(&self, index: u32) -> Option<&Section> {
+        self.sections.get(index as usize)
+    }
+
+    /// The allocated sections with their indexes, upward.
+    pub fn allocated(&self) -> impl Iterator<Item = (usize, &Section)> {
+        let indexed = self.sections.iter().enumerate();
+        indexed.filter(|(_, section)| section.is_allocated())
+    }
+
+    /// "A row's bytes are handed back as a part of the caller's object, never
+    /// copied first."
+    pub fn bytes_of(&self, section: &Section) -> &'a [u8] {
+        let start = section.offset.0 as usize;
+        &self.file[start..start + section.size as usize]
+    }
+
+    /// The entries of the SYMTAB, if there is one.
+    pub fn symbol_table(&self) -> Option<SymbolTable<'a>> {
+        let section = &self.sections[self.lowest_symbol_table()?];
+        Some(SymbolTable::new(self.bytes_of(section)))
+    }
+
+    /// The counting RELA sections, upward.
+    pub fn relocation_sections(&self) -> Vec<RelocationSection> {
+        let counting = self.sections.iter().filter(|s| self.is_counting(s));
+        counting
+            .map(|section| RelocationSection {
+                target: section.info as usize,
+                relocations: Relocation::read_all(self.bytes_of(section)),
+            })
+            .collect()
+    }
+
+    fn lowest_symbol_table(&self) -> Option<usize> {
+        self.sections.iter().position(|s| s.kind == SYMTAB)
+    }
+
+    /// "A RELA or REL row counts only if its info names an allocated row."
+    fn is_counting(&self, section: &Section) -> bool {
+        matches!(section.kind, RELA | REL)
+            && self
+                .section(section.info)
+                .is_some_and(Section::is_allocated)
+    }
+}
+
+/// The section rules, a function for each sentence in the paper's order; each
+/// says whether the section with that index keeps the rule.
+const SECTION_RULES: [fn(&Object, usize) -> bool; 6] = [
+    section_0_is_null,
+    stays_inside_the_file,
+    allocated_section_is_well_formed,
+    symbol_table_is_well_formed,
+    is_no_counting_rel,
+    counting_rela_is_well_formed,
+];
+
+/// "Row 0 is NULL."
+fn section_0_is_null(object: &Object, index: usize) -> bool {
+    index != 0 || object.sections[0].kind == NULL
+}
+
+/// "Except for NULL and NOBITS, offset + size stays inside the file."
+fn stays_inside_the_file(object: &Object, index: usize) -> bool {
+    let section = &object.sections[index];
+    let end = u64::from(section.offset.0) + u64::from(section.size);
+    matches!(section.kind, NULL | NOBITS) || end <= object.file.len() as u64
+}
+
+/// "An allocated row has alignment 0, or an alignment with exactly one bit
+/// set; it is not SYMTAB, RELA or REL."
+fn allocated_section_is_well_formed(object: &Object, index: usize) -> bool {
+    let section = &object.sections[index];
+    let alignment_fits = section.alignment == 0 || section.alignment.count_ones() == 1;
+    let kind_fits = !matches!(section.kind, SYMTAB | RELA | REL);
+    !section.is_allocated() || (alignment_fits && kind_fits)
+}
+
+/// "At most one SYMTAB: entry size 16, whole entries, at most 1,024. The
+/// higher row of two is at fault."
+fn symbol_table_is_well_formed(object: &Object, index: usize) -> bool {
+    let section = &object.sections[index];
+    section.kind != SYMTAB
+        || (object.lowest_symbol_table() == Some(index)
+            && section.entry_size == SYMBOL_SIZE
+            && section.size.is_multiple_of(SYMBOL_SIZE)
+            && section.size / SYMBOL_SIZE <= MAX_SYMBOLS)
+}
+
+/// "A counting REL is refused."
+fn is_no_counting_rel(object: &Object, index: usize) -> bool {
+    let section = &object.sections[index];
+    section.kind != REL || !object.is_counting(section)
+}
+
+/// "A counting RELA has entry size 12, whole entries, links to the SYMTAB (the
+/// lowest, if there are two), and targets a laid row that no lower counting
+/// RELA targets."
+fn counting_rela_is_well_formed(object: &Object, index: usize) -> bool {
+    let section = &object.sections[index];
+    if section.kind != RELA || !object.is_counting(section) {
+        return true;
+    }
+    let lower = || counting_rela_sections(&object.sections[..index], object);
+    section.entry_size == RELOCATION_SIZE
+        && section.size.is_multiple_of(RELOCATION_SIZE)
+        && object.lowest_symbol_table() == Some(section.link as usize)
+        && object.section(section.info).is_some_and(Section::is_loaded)
+        && !lower().any(|other| other.info == section.info)
+        && relocations_up_to(index, object) <= MAX_RELOCATIONS
+}
+
+/// "All counting RELA rows together hold at most 4,096 records; the row that
+/// passes this is at fault." Here: how many the rows up to this one hold.
+fn relocations_up_to(index: usize, object: &Object) -> u64 {
+    counting_rela_sections(&object.sections[..=index], object)
+        .map(|section| u64::from(section.size / RELOCATION_SIZE))
+        .sum()
+}
+
+fn counting_rela_sections<'s>(
+    sections: &'s [Section],
+    object: &'s Object,
+) -> impl Iterator<Item = &'s Section> {
+    let rela = sections.iter().filter(|section| section.kind == RELA);
+    rela.filter(|section| object.is_counting(section))
+}

@@ -1,0 +1,104 @@
+//! Symbols, and S: the value of a symbol in a relocation (check 10).
+
+use crate::numbers::{u16_at, u32_at, Whole, ADDRESS_END};
+use crate::object::Object;
+use crate::order::ExternalValue;
+use crate::placement::Addresses;
+
+/// Document 01: entry size 16.
+pub const SYMBOL_SIZE: u32 = 16;
+/// Document 01: at most 1,024 entries.
+pub const MAX_SYMBOLS: u32 = 1_024;
+
+/// The section number of an undefined symbol.
+pub const UNDEFINED: u16 = 0;
+/// "the value for section 0xFFF1"
+const ABSOLUTE: u16 = 0xFFF1;
+const WEAK: u8 = 2;
+const TLS: u8 = 6;
+const IFUNC: u8 = 10;
+
+/// One entry of the symbol table.
+#[derive(Clone, Copy, PartialEq, Eq, Debug)]
+pub struct Symbol {
+    pub value: u32,
+    pub binding: u8,
+    pub kind: u8,
+    pub section: u16,
+}
+
+/// The bytes of a SYMTAB section that passed check 5.
+#[derive(Clone, Copy, Debug)]
+pub struct SymbolTable<'a>(&'a [u8]);
+
+impl<'a> SymbolTable<'a> {
+    pub fn new(entries: &'a [u8]) -> SymbolTable<'a> {
+        SymbolTable(entries)
+    }
+
+    /// The symbol with this index; `None` for "an index past the table".
+    pub fn get(&self, index: u32) -> Option<Symbol> {
+        let start = index as usize * SYMBOL_SIZE as usize;
+        let entry = self.0.get(start..start + SYMBOL_SIZE as usize)?;
+        let info = entry[12];
+        Some(Symbol {
+            value: u32_at(entry, 4)?,
+            binding: info / 16,
+            kind: info % 16,
+            section: u16_at(entry, 14)?,
+        })
+    }
+}
+
+/// What S depends on: the object, where its sections are placed, and the
+/// order's external values.
+#[derive(Clone, Copy, Debug)]
+pub struct Symbols<'a> {
+    pub object: &'a Object<'a>,
+    pub addresses: Addresses,
+    pub external_values: &'a [ExternalValue],
+}
+
+impl Symbols<'_> {
+    /// S, from 0 to 2^32 - 1; `None` where the symbol does "not resolve".
+    pub fn value(&self, index: u32) -> Option<Whole> {
+        // "0 for symbol 0, whatever its entry holds and even in an empty table"
+        if index == 0 {
+            return Some(0);
+        }
+        let symbol = self.entry(index)?;
+        // "types TLS 6 and IFUNC 10 do not resolve"
+        if matches!(symbol.kind, TLS | IFUNC) {
+            return None;
+        }
+        match symbol.section {
+            UNDEFINED => self.undefined_value(index, symbol),
+            ABSOLUTE => Some(Whole::from(symbol.value)),
+            section => self.placed_value(section, symbol),
+        }
+    }
+
+    /// The entry of a symbol in the object's table.
+    pub fn entry(&self, index: u32) -> Option<Symbol> {
+        self.object.symbol_table()?.get(index)
+    }
+
+    /// "for an undefined symbol the order's value, else 0 if weak (binding 2)"
+    fn undefined_value(&self, index: u32, symbol: Symbol) -> Option<Whole> {
+        let mut values = self.external_values.iter();
+        match values.find(|external| external.symbol == index) {
+            Some(external) => Some(Whole::from(external.value)),
+            None => (symbol.binding == WEAK).then_some(0),
+        }
+    }
+
+    /// "placed address plus value modulo 2^32 for a symbol of an allocated row"
+    fn placed_value(&self, section: u16, symbol: Symbol) -> Option<Whole> {
+        let section = u32::from(section);
+        if !self.object.section(section)?.is_allocated() {
+            return None;
+        }
+        let address = self.addresses[section as usize];
+        Some((Whole::from(address.0) + Whole::from(symbol.value)).rem_euclid(ADDRESS_END))
+    }
+}

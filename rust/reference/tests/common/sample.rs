@@ -1,0 +1,355 @@
+//! Random fits: most are done, some break one rule.
+
+use super::build::{object, order, Relocation, Section, Symbol, ABSOLUTE, GLOBAL, WEAK};
+use super::random::Random;
+
+/// What a fit is asked with, besides image and ledger.
+#[derive(Clone, Debug)]
+pub struct Call {
+    pub object: Vec<u8>,
+    pub order: Vec<u8>,
+}
+
+/// Every section is made of items of this many bytes.
+const ITEM: u32 = 8;
+
+/// What a section header will stand for; a number says which loaded section.
+#[derive(Clone, Copy, PartialEq)]
+enum Row {
+    Loaded(usize),
+    Relocations(usize),
+    Nobits,
+    Symbols,
+    Text,
+}
+
+/// A loaded section before its bytes are made.
+#[derive(Clone, Copy)]
+struct Shape {
+    alignment: u32,
+    address: u32,
+    size: u32,
+}
+
+/// One item's bytes and its relocations.
+#[derive(Default)]
+struct Item {
+    bytes: Vec<u8>,
+    relocations: Vec<Relocation>,
+}
+
+struct Sampler<'r> {
+    random: &'r mut Random,
+    symbols: Vec<Symbol>,
+    /// S of each symbol; `None` where it does not resolve.
+    values: Vec<Option<u32>>,
+    external_values: Vec<(u32, u32)>,
+}
+
+/// A random call for an image of this length.
+pub fn call(random: &mut Random, image_length: usize) -> Call {
+    let length = image_length as u32;
+    let highest_base = (1_u64 << 32) - u64::from(length);
+    let base = match random.below(4) {
+        0 => 0,
+        1 => 0x2000_0000,
+        2 => (highest_base - 1) as u32,
+        _ => (random.next() % highest_base) as u32,
+    };
+    let shapes = shapes(random, base, length);
+    let rows = rows(random, shapes.len());
+    let mut sampler = Sampler {
+        random,
+        symbols: vec![Symbol::default()],
+        values: vec![Some(0)],
+        external_values: Vec::new(),
+    };
+    sampler.add_symbols(&rows, &shapes);
+    sampler.finish(base, &rows, &shapes)
+}
+
+/// Sections one behind the other in the window, until it is full.
+fn shapes(random: &mut Random, base: u32, length: u32) -> Vec<Shape> {
+    let mut shapes = Vec::new();
+    let mut next = u64::from(base) + random.below(12) as u64;
+    for _ in 0..random.below(5) {
+        let alignment = random.pick(&[0, 1, 2, 2, 4, 4, 8, 16]);
+        let step = u64::from(alignment.max(2));
+        let address = next.next_multiple_of(step);
+        let size = ITEM * random.below(6) as u32 + random.pick(&[0, 0, 0, 1, 2, 5]);
+        next = address + u64::from(size);
+        if next > u64::from(base) + u64::from(length) || next > 0xFFFF_FFF0 {
+            break;
+        }
+        shapes.push(Shape {
+            alignment,
+            address: address as u32,
+            size,
+        });
+        next += random.below(9) as u64;
+    }
+    shapes
+}
+
+/// The sections in any order.
+fn rows(random: &mut Random, loaded: usize) -> Vec<Row> {
+    let mut rows: Vec<Row> = (0..loaded).map(Row::Loaded).collect();
+    rows.extend((0..loaded).map(Row::Relocations));
+    rows.push(Row::Symbols);
+    rows.extend([Row::Nobits, Row::Text].into_iter().take(random.below(3)));
+    for last in (1..rows.len()).rev() {
+        rows.swap(last, random.below(last + 1));
+    }
+    rows
+}
+
+fn index_of(rows: &[Row], row: Row) -> Option<u32> {
+    let found = rows.iter().position(|other| *other == row)?;
+    Some(found as u32 + 1)
+}
+
+impl Sampler<'_> {
+    fn add(&mut self, symbol: Symbol, value: Option<u32>) -> u32 {
+        self.symbols.push(symbol);
+        self.values.push(value);
+        self.symbols.len() as u32 - 1
+    }
+
+    fn add_symbols(&mut self, rows: &[Row], shapes: &[Shape]) {
+        for (which, shape) in shapes.iter().enumerate() {
+            let section = index_of(rows, Row::Loaded(which)).unwrap_or(0);
+            let value = self.random.below(64) as u32;
+            let symbol = Symbol::new(0, section as u16, value);
+            self.add(symbol, Some(shape.address.wrapping_add(value)));
+        }
+        let absolute = self.random.u32();
+        self.add(Symbol::new(GLOBAL, ABSOLUTE, absolute), Some(absolute));
+        for info in [GLOBAL, WEAK] {
+            let value = self.random.u32();
+            let symbol = self.add(Symbol::new(info, 0, 0), Some(value));
+            self.external_values.push((symbol, value));
+        }
+        self.add(Symbol::new(WEAK, 0, 0), Some(0));
+        self.add(Symbol::new(GLOBAL, 0, 0), None);
+        self.add(Symbol::new(GLOBAL + 6, ABSOLUTE, 0), None);
+    }
+
+    fn finish(mut self, base: u32, rows: &[Row], shapes: &[Shape]) -> Call {
+        let made: Vec<Item> = (0..shapes.len())
+            .map(|which| self.section(index_of(rows, Row::Loaded(which)), shapes[which]))
+            .collect();
+        let symtab = index_of(rows, Row::Symbols).unwrap_or(0);
+        let mut sections = vec![Section::default()];
+        let mut placements = Vec::new();
+        for row in rows {
+            let index = sections.len() as u32;
+            sections.push(match *row {
+                Row::Loaded(which) => {
+                    placements.push((index, shapes[which].address));
+                    Section::loaded(shapes[which].alignment, &made[which].bytes)
+                }
+                Row::Relocations(which) => {
+                    let target = index_of(rows, Row::Loaded(which)).unwrap_or(0);
+                    Section::relocations(target, symtab, &made[which].relocations)
+                }
+                Row::Nobits => {
+                    // Half the address space away from the window.
+                    placements.push((index, (base ^ 0x8000_0000) & !15));
+                    Section::nobits(4, self.random.below(16) as u32)
+                }
+                Row::Symbols => Section::symbols(&self.symbols),
+                Row::Text => Section {
+                    kind: 3,
+                    bytes: vec![0; 3],
+                    ..Section::default()
+                },
+            });
+        }
+        Call {
+            object: object(&sections),
+            order: order(base, &placements, &self.external_values),
+        }
+    }
+
+    /// A section's bytes and relocations, item by item.
+    fn section(&mut self, index: Option<u32>, shape: Shape) -> Item {
+        let mut whole = Item::default();
+        for number in 0..shape.size / ITEM {
+            let mut item = self.item(index.unwrap_or(0) as u16, shape, number * ITEM);
+            if self.random.one_in(60) {
+                self.spoil(&mut item);
+            }
+            item.bytes.resize(ITEM as usize, 0x13);
+            whole.bytes.extend(item.bytes);
+            whole.relocations.extend(item.relocations);
+        }
+        let rest = shape.size as usize - whole.bytes.len();
+        whole.bytes.extend(self.random.bytes(rest));
+        whole
+    }
+
+    fn item(&mut self, section: u16, shape: Shape, offset: u32) -> Item {
+        let place = shape.address + offset;
+        match self.random.below(9) {
+            0 => self.jump(offset, place, 17, 0x6F, 1_048_576),
+            1 => self.jump(offset, place, 16, 0x63, 4_096),
+            2 => self.compressed_jump(offset, place),
+            3 => self.call(offset),
+            4 => self.absolute_half(offset),
+            5 => self.pair(section, offset),
+            6 => self.stack(offset),
+            7 => self.marker(offset, place, shape.size),
+            _ => {
+                let kind = self.random.pick(&[1, 57]);
+                let relocation = self.anywhere(offset, kind);
+                self.with(&[], vec![relocation])
+            }
+        }
+    }
+
+    fn with(&mut self, words: &[u32], relocations: Vec<Relocation>) -> Item {
+        let mut bytes: Vec<u8> = words.iter().flat_map(|word| word.to_le_bytes()).collect();
+        bytes.extend(self.random.bytes(ITEM as usize - bytes.len()));
+        Item { bytes, relocations }
+    }
+
+    /// A symbol that resolves, with its value.
+    fn symbol(&mut self) -> (u32, u32) {
+        loop {
+            let symbol = self.random.below(self.values.len());
+            if let Some(value) = self.values[symbol] {
+                return (symbol as u32, value);
+            }
+        }
+    }
+
+    fn anywhere(&mut self, offset: u32, kind: u8) -> Relocation {
+        let (symbol, _) = self.symbol();
+        let addend = self.random.pick(&[0, 1, -1, 2_047, -2_048, i32::MIN]);
+        Relocation::new(offset, kind, symbol, addend)
+    }
+
+    /// An addend for which T is this target.
+    fn towards(&mut self, offset: u32, kind: u8, target: u32) -> Relocation {
+        let (symbol, value) = self.symbol();
+        Relocation::new(offset, kind, symbol, target.wrapping_sub(value) as i32)
+    }
+
+    /// An instruction of this opcode, and otherwise any bits.
+    fn instruction(&mut self, opcode: u32) -> u32 {
+        let funct3_is_0 = matches!(opcode, 0x13 | 0x67);
+        let kept = if funct3_is_0 { !0x707F } else { !0x7F };
+        self.random.u32() & kept | opcode
+    }
+
+    /// An even distance that a field of this reach takes, if the target is an
+    /// address at all.
+    fn target(&mut self, place: u32, reach: i64) -> u32 {
+        let distance = match self.random.below(4) {
+            0 => -reach,
+            1 => reach - 2,
+            _ => self.random.below(reach as usize) as i64 * 2 - reach,
+        };
+        u32::try_from(i64::from(place) + distance).unwrap_or(place)
+    }
+
+    fn jump(&mut self, offset: u32, place: u32, kind: u8, opcode: u32, reach: i64) -> Item {
+        let target = self.target(place, reach);
+        let relocation = self.towards(offset, kind, target);
+        let word = self.instruction(opcode);
+        self.with(&[word], vec![relocation])
+    }
+
+    fn compressed_jump(&mut self, offset: u32, place: u32) -> Item {
+        let (kind, funct3, reach) =
+            self.random
+                .pick(&[(44, 6, 256), (44, 7, 256), (45, 1, 2_048), (45, 5, 2_048)]);
+        let target = self.target(place, reach);
+        let relocation = self.towards(offset, kind, target);
+        let word = self.random.u32() & !0xE003 | (funct3 << 13) | 1;
+        self.with(&[word], vec![relocation])
+    }
+
+    fn call(&mut self, offset: u32) -> Item {
+        let kind = self.random.pick(&[18, 19]);
+        let target = self.random.u32() & !1;
+        let relocation = self.towards(offset, kind, target);
+        let register = 1 + self.random.below(31) as u32;
+        let first = self.instruction(0x17) & !0xF80 | (register << 7);
+        let second = self.instruction(0x67) & !0xF_8000 | (register << 15);
+        self.with(&[first, second], vec![relocation])
+    }
+
+    fn absolute_half(&mut self, offset: u32) -> Item {
+        let (kind, opcode) =
+            self.random
+                .pick(&[(26, 0x37), (27, 0x13), (27, 0x03), (28, 0x23), (28, 0x27)]);
+        let word = self.instruction(opcode);
+        let relocation = self.anywhere(offset, kind);
+        self.with(&[word], vec![relocation])
+    }
+
+    fn pair(&mut self, section: u16, offset: u32) -> Item {
+        let (kind, opcode) = self.random.pick(&[(24, 0x67), (24, 0x07), (25, 0x23)]);
+        let label = self.add(Symbol::new(0, section, offset), None);
+        let words = [self.instruction(0x17), self.instruction(opcode)];
+        let high = self.anywhere(offset, 23);
+        let low = Relocation::new(offset + 4, kind, label, 0);
+        self.with(&words, vec![high, low])
+    }
+
+    /// ADD, SUB and SET of one width at one place.
+    fn stack(&mut self, offset: u32) -> Item {
+        let widths: [&[u8]; 5] = [
+            &[52, 53],
+            &[33, 37, 54],
+            &[34, 38, 55],
+            &[35, 39, 56],
+            &[36, 40],
+        ];
+        let kinds = self.random.pick(&widths);
+        let relocations = (0..1 + self.random.below(3))
+            .map(|_| {
+                let kind = self.random.pick(kinds);
+                self.anywhere(offset, kind)
+            })
+            .collect();
+        self.with(&[], relocations)
+    }
+
+    fn marker(&mut self, offset: u32, place: u32, size: u32) -> Item {
+        let room = (size - offset).min(4_094);
+        let fits = |addend: &u32| {
+            let boundary = (addend + 2).next_power_of_two();
+            (u64::from(place) + u64::from(*addend)) % u64::from(boundary) == 0
+        };
+        let paddings: Vec<u32> = (0..=room).step_by(2).filter(fits).collect();
+        let any = self.random.u32();
+        let mut relocations = vec![Relocation::new(offset, 51, any >> 8, any as i32)];
+        if !paddings.is_empty() {
+            let addend = self.random.pick(&paddings) as i32;
+            relocations.push(Relocation::new(offset, 43, any >> 8, addend));
+        }
+        relocations.push(Relocation::new(offset, 0, any >> 8, any as i32));
+        self.with(&[], relocations)
+    }
+
+    /// Breaks one relocation or the bytes under it.
+    fn spoil(&mut self, item: &mut Item) {
+        let unresolved = self.values.iter().position(Option::is_none).unwrap_or(0);
+        let any = self.random.u32();
+        let Some(last) = item.relocations.last_mut() else {
+            return;
+        };
+        match any % 8 {
+            0 => last.kind = (any >> 8) as u8,
+            1 => last.symbol = unresolved as u32,
+            2 => last.symbol = any >> 8,
+            3 => last.addend = last.addend.wrapping_add(1),
+            4 => last.addend = last.addend.wrapping_add(8_192),
+            5 => last.offset = last.offset.wrapping_sub(any >> 29),
+            6 => last.offset += 1 + (any >> 30),
+            _ => item.bytes[(any >> 29) as usize] ^= (any >> 8) as u8,
+        }
+    }
+}

@@ -1,0 +1,46 @@
+//! The shared vectors: `vectors/README.md` has their format.
+
+use std::fs;
+use std::path::Path;
+
+/// The lines of a vector file with their numbers, split at spaces.
+pub fn lines(name: &str) -> Vec<(usize, Vec<String>)> {
+    let path = Path::new(env!("CARGO_MANIFEST_DIR"))
+        .join("../../vectors")
+        .join(name);
+    let text = fs::read_to_string(&path).expect("the vectors are in the repository");
+    let split = |line: &str| line.split(' ').map(str::to_string).collect();
+    let numbered = text.lines().enumerate();
+    numbered.map(|(at, line)| (at + 1, split(line))).collect()
+}
+
+/// "Bytes are in hexadecimal, `-` is no byte"
+pub fn bytes(word: &str) -> Vec<u8> {
+    if word == "-" {
+        return Vec::new();
+    }
+    assert!(word.len().is_multiple_of(2), "whole bytes");
+    let digits: Vec<u8> = word.bytes().map(digit).collect();
+    digits.chunks(2).map(|two| two[0] * 16 + two[1]).collect()
+}
+
+fn digit(character: u8) -> u8 {
+    match character {
+        b'0'..=b'9' => character - b'0',
+        b'a'..=b'f' => character - b'a' + 10,
+        _ => panic!("not a hexadecimal digit: {character}"),
+    }
+}
+
+/// "`=` means as before the call"
+pub fn bytes_after(word: &str, before: &[u8]) -> Vec<u8> {
+    if word == "=" {
+        before.to_vec()
+    } else {
+        bytes(word)
+    }
+}
+
+pub fn number(word: &str) -> u32 {
+    word.parse().expect("a number")
+}

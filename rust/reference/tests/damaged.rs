@@ -1,0 +1,125 @@
+//! Three million damaged and random inputs: each is answered, a refusal changes no
+//! byte, and a done call changes only what it may.
+
+mod common;
+
+use std::panic::{catch_unwind, AssertUnwindSafe};
+
+use common::damage::{damage, right_input, Input};
+use common::random::Random;
+use common::vectors::{bytes, lines};
+use reference::journal::Standing;
+use reference::{install, judge, rollback, Answer};
+
+const INPUTS: u64 = 3_000_000;
+/// Right inputs that are damaged, besides those of the vectors.
+const RIGHT_INPUTS: u64 = 6_000;
+
+/// The fits of the vectors.
+fn vector_inputs() -> Vec<Input> {
+    let fit = |(_, words): (usize, Vec<String>)| {
+        (words[0] == "fit").then(|| Input {
+            object: bytes(&words[1]),
+            order: bytes(&words[2]),
+            image: bytes(&words[3]),
+            journal: bytes(&words[4]),
+        })
+    };
+    lines("calls.txt").into_iter().filter_map(fit).collect()
+}
+
+/// The ledger of a done fit: one entry and the span's old bytes are new, and
+/// all else stays.
+fn check_done_install(before: &Input, image: &[u8], journal: &[u8]) {
+    let length = image.len();
+    let old = Standing::read(&before.journal, length).expect("sound before");
+    let new = Standing::read(journal, length).expect("sound after");
+    let plan = judge(&before.object, &before.order, length).expect("a done fit has a plan");
+    let mut expected = before.image.clone();
+    plan.lay(&mut expected);
+    assert_eq!(image, expected, "the image is the plan's");
+
+    let (newest, older) = new.spans.split_last().expect("an entry more");
+    assert_eq!(older, old.spans);
+    assert_eq!(*newest, plan.span);
+    let (start, end) = (
+        newest.start as usize,
+        (newest.start + newest.length) as usize,
+    );
+    assert_eq!(image[..start], before.image[..start], "before the span");
+    assert_eq!(image[end..], before.image[end..], "behind the span");
+    let (kept, all) = (136 + old.old_bytes, 136 + new.old_bytes);
+    assert_eq!(journal[136..kept], before.journal[136..kept]);
+    assert_eq!(journal[kept..all], before.image[start..end]);
+    assert_eq!(journal[all..], before.journal[all..]);
+}
+
+fn check_done_rollback(before: &Input, image: &[u8], journal: &[u8]) {
+    let length = image.len();
+    let old = Standing::read(&before.journal, length).expect("sound before");
+    let new = Standing::read(journal, length).expect("sound after");
+    let (newest, older) = old.spans.split_last().expect("a fit stood");
+    assert_eq!(new.spans, older);
+    let (start, end) = (
+        newest.start as usize,
+        (newest.start + newest.length) as usize,
+    );
+    let (kept, all) = (136 + new.old_bytes, 136 + old.old_bytes);
+    assert_eq!(image[..start], before.image[..start], "before the span");
+    assert_eq!(image[start..end], before.journal[kept..all]);
+    assert_eq!(image[end..], before.image[end..], "behind the span");
+    assert_eq!(journal[136..kept], before.journal[136..kept]);
+    assert!(journal[kept..all].iter().all(|byte| *byte == 0));
+    assert_eq!(journal[all..], before.journal[all..]);
+}
+
+/// One call on a copy of the input, checked against the input.
+fn try_input(input: &Input, is_rollback: bool) -> u32 {
+    let (mut image, mut journal) = (input.image.clone(), input.journal.clone());
+    let answer = if is_rollback {
+        rollback(&mut image, &mut journal)
+    } else {
+        install(&input.object, &input.order, &mut image, &mut journal)
+    };
+    match (answer == Answer::DONE, is_rollback) {
+        (true, true) => check_done_rollback(input, &image, &journal),
+        (true, false) => check_done_install(input, &image, &journal),
+        (false, _) => {
+            assert!(image == input.image, "a refusal keeps the image");
+            assert!(journal == input.journal, "a refusal keeps the ledger");
+        }
+    }
+    answer.number
+}
+
+#[test]
+fn millions_of_inputs() {
+    let mut right = vector_inputs();
+    right.extend((0..RIGHT_INPUTS).map(|seed| right_input(&mut Random::new(seed))));
+    let mut fits = [0_u64; 17];
+    let mut rollbacks = [0_u64; 17];
+    for seed in 0..INPUTS {
+        let random = &mut Random::new(seed + (1 << 32));
+        let mut input = right[random.below(right.len())].clone();
+        damage(random, &mut input);
+        let is_rollback = random.one_in(8);
+        let counts = if is_rollback {
+            &mut rollbacks
+        } else {
+            &mut fits
+        };
+        match catch_unwind(AssertUnwindSafe(|| try_input(&input, is_rollback))) {
+            Ok(number) => counts[number as usize] += 1,
+            Err(_) => panic!("input {seed}, a taking-back: {is_rollback}"),
+        }
+    }
+    println!("fits: {fits:?}\ntakings-back: {rollbacks:?}");
+    for (number, count) in fits[..16].iter().enumerate() {
+        assert!(*count >= 100, "answer {number} occurs often in fits");
+    }
+    assert_eq!(fits[16], 0);
+    for (number, count) in rollbacks.iter().enumerate() {
+        let occurs = [0, 1, 3, 16].contains(&number);
+        assert_eq!(*count > 0, occurs, "answer {number} in takings-back");
+    }
+}

@@ -1,0 +1,16 @@
+//! Hand-made cases for the sentences of document 01's rules: just kept and just
+//! broken.
+
+#[path = "../common/mod.rs"]
+mod common;
+
+mod fields;
+mod instruction;
+mod journal;
+mod object;
+mod order;
+mod placement;
+mod relocation;
+mod symbol;
+
+const DONE: (u32, u32) = (0, 0);

@@ -1,0 +1,181 @@
+//! Placements (check 6), outside values (check 7) and placing (check 8).
+
+use crate::common::build::*;
+use crate::DONE;
+
+const BASE: u32 = 0x1000;
+
+/// Loaded sections of these sizes on an image of 100 bytes from 0x1000 on, each
+/// with its address.
+fn placed(sections: &[(Section, u32)]) -> Fit {
+    let mut fit = Fit::code(BASE, &[], &[], &[]);
+    fit.sections = vec![Section::default()];
+    fit.placements.clear();
+    for (section, address) in sections {
+        fit.placements.push((fit.sections.len() as u32, *address));
+        fit.sections.push(section.clone());
+    }
+    fit.base = BASE;
+    fit.image = vec![0x5A; 100];
+    fit.journal = journal(100);
+    fit
+}
+
+fn bytes(size: usize) -> Section {
+    Section::loaded(1, &vec![7; size])
+}
+
+#[test]
+fn placements_name_exactly_the_allocated_rows() {
+    let two = placed(&[(bytes(1), BASE), (bytes(1), BASE + 1)]);
+    let with = |placements: &[(u32, u32)]| {
+        let mut fit = two.clone();
+        fit.placements = placements.to_vec();
+        fit.answer()
+    };
+    let (first, second) = (two.placements[0], two.placements[1]);
+    assert_eq!(with(&[first, second]), DONE);
+    assert_eq!(with(&[]), (6, 1));
+    assert_eq!(with(&[first]), (6, 2));
+    assert_eq!(with(&[second]), (6, 1));
+    assert_eq!(with(&[(0, BASE), first, second]), (6, 0));
+    assert_eq!(with(&[first, second, (3, BASE)]), (6, 3), "no such row");
+    assert_eq!(with(&[first, second, (u32::MAX, 0)]), (6, u32::MAX));
+    assert_eq!(with(&[(0, BASE), first]), (6, 0), "the lowest of two");
+    assert_eq!(with(&[first, (77, BASE)]), (6, 2), "the lowest of two");
+}
+
+#[test]
+fn rows_that_need_a_placement() {
+    let nobits = placed(&[(Section::nobits(1, 4), 0)]);
+    assert_eq!(nobits.answer(), DONE);
+    let with_none = |section: Section| {
+        let mut fit = placed(&[(section, BASE)]);
+        fit.placements.clear();
+        fit.answer()
+    };
+    assert_eq!(with_none(Section::nobits(1, 4)), (6, 1));
+    assert_eq!(with_none(bytes(0)), (6, 1), "an empty row too");
+    let unallocated = Section {
+        flags: !ALLOCATED,
+        ..bytes(3)
+    };
+    assert_eq!(with_none(unallocated.clone()), DONE);
+    assert_eq!(placed(&[(unallocated, BASE)]).answer(), (6, 1));
+}
+
+#[test]
+fn outside_values_name_undefined_symbols() {
+    let symbols = [
+        Symbol::new(GLOBAL, 0, 0),
+        Symbol::absolute(5),
+        Symbol::new(0, 1, 0),
+        Symbol::new(WEAK + 6, 0, 0),
+        Symbol::new(0, 0xFFF2, 0),
+    ];
+    let with = |list: &[(u32, u32)]| {
+        let mut fit = Fit::code(BASE, &[0; 4], &symbols, &[]);
+        fit.external_values = list.to_vec();
+        fit.answer()
+    };
+    assert_eq!(with(&[(1, 9)]), DONE);
+    assert_eq!(with(&[(1, 9), (4, 9)]), DONE, "undefined, even if TLS");
+    assert_eq!(with(&[(0, 9)]), (7, 0));
+    assert_eq!(with(&[(1, 9), (2, 9), (3, 9)]), (7, 2));
+    assert_eq!(with(&[(3, 9)]), (7, 3));
+    assert_eq!(with(&[(5, 9)]), (7, 5));
+    assert_eq!(with(&[(6, 9)]), (7, 6), "past the table");
+    assert_eq!(with(&[(u32::MAX, 9)]), (7, u32::MAX));
+    let mut no_table = placed(&[]);
+    no_table.external_values = vec![(1, 0)];
+    assert_eq!(no_table.answer(), (7, 1));
+}
+
+#[test]
+fn addresses_are_multiples_of_the_alignment() {
+    let at = |alignment, address| placed(&[(Section::loaded(alignment, &[1]), address)]).answer();
+    assert_eq!(at(0, BASE + 3), DONE);
+    assert_eq!(at(1, BASE + 3), DONE);
+    assert_eq!(at(4, BASE + 4), DONE);
+    assert_eq!(at(4, BASE + 2), (8, 1));
+    let empty = |address| placed(&[(Section::loaded(16, &[]), address)]).answer();
+    assert_eq!(empty(0xFFFF_FFF0), DONE);
+    assert_eq!(empty(0xFFFF_FFF8), (8, 1), "an empty row too");
+    let top = |address| placed(&[(Section::nobits(1 << 31, 1), address)]).answer();
+    assert_eq!(top(1 << 31), DONE);
+    assert_eq!(top(1 << 30), (8, 1));
+}
+
+#[test]
+fn rows_end_at_or_below_the_top() {
+    let at = |size, address| placed(&[(Section::nobits(1, size), address)]).answer();
+    assert_eq!(at(16, 0xFFFF_FFF0), DONE);
+    assert_eq!(at(17, 0xFFFF_FFF0), (8, 1));
+    assert_eq!(at(u32::MAX, 1), DONE);
+    assert_eq!(at(u32::MAX, 2), (8, 1));
+}
+
+#[test]
+fn laid_rows_lie_in_the_window() {
+    let at = |size, address| placed(&[(bytes(size), address)]).answer();
+    assert_eq!(at(100, BASE), DONE);
+    assert_eq!(at(1, BASE + 99), DONE);
+    assert_eq!(at(1, BASE - 1), (8, 1));
+    assert_eq!(at(2, BASE + 99), (8, 1));
+    assert_eq!(at(1, BASE + 100), (8, 1));
+    assert_eq!(at(0, 5), DONE, "an empty row lies anywhere");
+    assert_eq!(placed(&[(Section::nobits(1, 9), 5)]).answer(), DONE);
+    let note = Section {
+        kind: 7,
+        ..bytes(1)
+    };
+    assert_eq!(placed(&[(note, 5)]).answer(), (8, 1), "any laid type");
+}
+
+#[test]
+fn rows_share_no_address() {
+    let two = |first: Section, at: u32, second: Section, also_at: u32| {
+        placed(&[(first, BASE + at), (second, BASE + also_at)]).answer()
+    };
+    assert_eq!(two(bytes(4), 0, bytes(4), 4), DONE);
+    assert_eq!(two(bytes(4), 4, bytes(4), 0), DONE);
+    assert_eq!(two(bytes(4), 0, bytes(4), 3), (8, 2));
+    assert_eq!(two(bytes(4), 3, bytes(4), 0), (8, 2));
+    assert_eq!(two(bytes(9), 0, bytes(1), 4), (8, 2), "one inside another");
+    assert_eq!(two(bytes(9), 0, bytes(0), 4), DONE, "an empty row");
+    assert_eq!(two(bytes(0), 4, bytes(9), 0), DONE, "an empty row");
+    assert_eq!(two(bytes(4), 0, Section::nobits(1, 4), 3), (8, 2));
+    assert_eq!(two(Section::nobits(1, 4), 3, bytes(4), 0), (8, 2));
+    let far = Section::nobits(1, 4);
+    assert_eq!(two(far.clone(), 5_000, far.clone(), 5_003), (8, 2));
+    assert_eq!(two(far.clone(), 5_000, far, 5_004), DONE);
+}
+
+#[test]
+fn the_lowest_row_is_named() {
+    let three = placed(&[
+        (bytes(4), BASE),
+        (bytes(4), BASE + 2),
+        (bytes(4), BASE + 200),
+    ]);
+    assert_eq!(three.answer(), (8, 2));
+}
+
+/// Each check in turn is broken together with all later ones.
+#[test]
+fn checks_5_to_9_in_order() {
+    let list = [Relocation::new(0, 2, 9, 0)];
+    let mut fit = Fit::code(BASE, &[0; 4], &[], &list);
+    fit.sections[1].alignment = 3;
+    fit.placements = vec![(2, 5)];
+    fit.external_values = vec![(8, 0)];
+    assert_eq!(fit.answer(), (5, 1));
+    fit.sections[1].alignment = 4;
+    assert_eq!(fit.answer(), (6, 1));
+    fit.placements = vec![(1, 5)];
+    assert_eq!(fit.answer(), (7, 8));
+    fit.external_values.clear();
+    assert_eq!(fit.answer(), (8, 1));
+    fit.placements = vec![(1, BASE)];
+    assert_eq!(fit.answer(), (9, 0));
+}

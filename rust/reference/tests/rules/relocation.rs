@@ -1,0 +1,306 @@
+//! The rules of a record, checks 9 to 14 but for symbols and instruction forms.
+
+use crate::common::build::*;
+use crate::DONE;
+
+const PLACE: u32 = 0x1000;
+const MARKERS: [u8; 3] = [0, 43, 51];
+
+/// Relocations against symbol 1, which is absolute 0, as (offset, type, A).
+fn list(size: usize, relocations: &[(u32, u8, i32)]) -> (u32, u32) {
+    let relocation = |(offset, kind, addend): &(u32, u8, i32)| {
+        let symbol = if MARKERS.contains(kind) { 999 } else { 1 };
+        Relocation::new(*offset, *kind, symbol, *addend)
+    };
+    let relocations: Vec<Relocation> = relocations.iter().map(relocation).collect();
+    Fit::code(PLACE, &vec![0; size], &[Symbol::absolute(0)], &relocations).answer()
+}
+
+#[test]
+fn every_type_has_a_line() {
+    const SUPPORTED: [u8; 31] = [
+        0, 1, 16, 17, 18, 19, 23, 24, 25, 26, 27, 28, 33, 34, 35, 36, 37, 38, 39, 40, 43, 44, 45,
+        51, 52, 53, 54, 55, 56, 57, 57,
+    ];
+    for kind in 0..=255 {
+        let (number, _) = list(8, &[(0, kind, 0)]);
+        assert_eq!(number == 9, !SUPPORTED.contains(&kind), "type {kind}");
+    }
+}
+
+#[test]
+fn record_offsets_never_fall() {
+    assert_eq!(list(8, &[(4, 1, 0), (0, 1, 0)]), (9, 1));
+    assert_eq!(list(8, &[(4, 51, 0), (3, 51, 0)]), (9, 1), "markers too");
+    assert_eq!(list(8, &[(4, 51, 0), (0, 1, 0)]), (9, 1));
+    assert_eq!(list(8, &[(4, 1, 0), (3, 0, 0)]), (9, 1));
+    assert_eq!(list(8, &[(4, 1, 0), (4, 51, 0)]), DONE);
+    assert_eq!(list(8, &[(4, 51, 0), (4, 1, 0)]), DONE);
+    assert_eq!(list(8, &[(4, 1, 0), (6, 51, 0)]), DONE, "inside a field");
+}
+
+#[test]
+fn bytes_touched_lie_in_the_row() {
+    let widths: [(u32, &[u8]); 4] = [
+        (1, &[33, 37, 52, 53, 54]),
+        (2, &[34, 38, 55]),
+        (4, &[1, 57, 35, 39, 56]),
+        (8, &[36, 40]),
+    ];
+    for (width, kinds) in widths {
+        for kind in kinds {
+            assert_eq!(list(9, &[(9 - width, *kind, 0)]), DONE, "type {kind}");
+            assert_eq!(list(9, &[(10 - width, *kind, 0)]), (9, 0), "type {kind}");
+        }
+    }
+    for kind in [16, 17, 23, 26, 27, 28, 24, 25] {
+        assert_eq!(list(8, &[(6, kind, 0)]), (9, 0), "type {kind}");
+    }
+    for (kind, offset) in [(18, 2), (19, 2), (44, 8), (45, 8)] {
+        assert_eq!(list(8, &[(offset, kind, 0)]), (9, 0), "type {kind}");
+    }
+    assert_eq!(list(8, &[(u32::MAX, 1, 0)]), (9, 0));
+}
+
+#[test]
+fn a_marker_starts_at_most_at_the_row_size() {
+    for kind in MARKERS {
+        assert_eq!(list(8, &[(8, kind, 0)]), DONE, "type {kind}");
+        assert_eq!(list(8, &[(9, kind, 0)]), (9, 0), "type {kind}");
+        assert_eq!(list(0, &[(0, kind, 0)]), DONE, "type {kind}");
+    }
+}
+
+#[test]
+fn non_markers_do_not_overlap() {
+    assert_eq!(list(9, &[(0, 1, 0), (4, 1, 0)]), DONE);
+    assert_eq!(list(9, &[(0, 1, 0), (3, 1, 0)]), (9, 1));
+    assert_eq!(list(9, &[(0, 1, 0), (0, 1, 0)]), (9, 1), "1 shares nothing");
+    assert_eq!(list(9, &[(0, 57, 0), (0, 35, 0)]), (9, 1));
+    assert_eq!(list(9, &[(0, 35, 0), (0, 1, 0)]), (9, 1));
+    let over_marker = [(0, 1, 0), (2, 51, 0), (3, 1, 0)];
+    assert_eq!(list(9, &over_marker), (9, 2), "the previous non-marker");
+}
+
+#[test]
+fn records_that_share_a_place() {
+    let widths: [&[u8]; 5] = [
+        &[52, 53],
+        &[33, 37, 54],
+        &[34, 38, 55],
+        &[35, 39, 56],
+        &[36, 40],
+    ];
+    for (at, first) in widths.iter().enumerate() {
+        for (also_at, second) in widths.iter().enumerate() {
+            let expected = if at == also_at { DONE } else { (9, 1) };
+            for (one, two) in first
+                .iter()
+                .flat_map(|a| second.iter().map(move |b| (a, b)))
+            {
+                let both = [(0, *one, 0), (0, *two, 0)];
+                assert_eq!(list(8, &both), expected, "{one} and {two}");
+            }
+        }
+    }
+    assert_eq!(list(8, &[(0, 35, 0), (1, 35, 0)]), (9, 1), "another offset");
+    let three = [(0, 35, 0), (0, 51, 0), (0, 39, 0), (0, 56, 0)];
+    assert_eq!(list(4, &three), DONE);
+}
+
+#[test]
+fn align_addend() {
+    // P + A is 0x2000, a multiple of everything asked for.
+    let with = |addend: i32, size: i32| {
+        let offset = 4_096 - addend.clamp(0, 4_096);
+        list((offset + size) as usize, &[(offset as u32, 43, addend)])
+    };
+    assert_eq!(with(0, 0), DONE);
+    assert_eq!(with(2, 2), DONE);
+    assert_eq!(with(2, 1), (9, 0), "offset + A past the row");
+    assert_eq!(with(3, 3), (9, 0), "odd");
+    assert_eq!(with(4_094, 4_094), DONE);
+    assert_eq!(with(4_096, 4_096), (9, 0));
+    assert_eq!(with(-2, 8), (9, 0));
+    assert_eq!(with(i32::MIN, 8), (9, 0));
+}
+
+#[test]
+fn align_boundary() {
+    // A, and the smallest power of two at least A + 2.
+    for (addend, boundary) in [(0, 2), (2, 4), (4, 8), (6, 8), (8, 16), (14, 16), (16, 32)] {
+        for offset in 0..64_u32 {
+            let reached = (PLACE + offset + addend).is_multiple_of(boundary);
+            let expected = if reached { DONE } else { (14, 0) };
+            let given = list(128, &[(offset, 43, addend as i32)]);
+            assert_eq!(given, expected, "A {addend} at {offset}");
+        }
+    }
+    for (offset, expected) in [(2, DONE), (4, (14, 0)), (0, (14, 0)), (4_098, DONE)] {
+        assert_eq!(list(9_000, &[(offset, 43, 4_094)]), expected);
+    }
+}
+
+#[test]
+fn markers_skip_10() {
+    for kind in MARKERS {
+        let relocation = [Relocation::new(0, kind, 0xFF_FFFF, 0)];
+        assert_eq!(Fit::code(PLACE, &[0; 4], &[], &relocation).answer(), DONE);
+    }
+}
+
+/// auipc a0 at 0, addi a0, a0 at 4; symbol 1 is absolute, symbol 2 the label.
+fn pair(label: Symbol, relocations: &[(u32, u8, u32, i32)]) -> Fit {
+    let code = [0x517_u32, 0x50513, 0x517, 0x50513].map(u32::to_le_bytes);
+    let list: Vec<Relocation> = relocations
+        .iter()
+        .map(|(offset, kind, symbol, addend)| Relocation::new(*offset, *kind, *symbol, *addend))
+        .collect();
+    let symbols = [Symbol::absolute(0x2345_6FFF), label];
+    Fit::code(PLACE, &code.concat(), &symbols, &list)
+}
+
+const HIGH: (u32, u8, u32, i32) = (0, 23, 1, 0);
+const LOW: (u32, u8, u32, i32) = (4, 24, 2, 0);
+
+#[test]
+fn exactly_one_pair() {
+    let label = Symbol::new(0, 1, 0);
+    assert_eq!(pair(label, &[HIGH, LOW]).answer(), DONE);
+    assert_eq!(pair(label, &[LOW]).answer(), (12, 0), "none");
+    let other = (8, 23, 1, 0);
+    assert_eq!(pair(label, &[LOW, other]).answer(), (12, 0), "elsewhere");
+    let absolute_high = (0, 26, 1, 0);
+    assert_eq!(
+        pair(label, &[absolute_high, LOW]).answer(),
+        (11, 0),
+        "HI20 is no pair, and auipc no lui"
+    );
+    // Two at one offset overlap, so that the second comes behind the low half.
+    let at_8 = Symbol::new(0, 1, 8);
+    let twice = [LOW, other, other];
+    assert_eq!(pair(at_8, &twice).answer(), (12, 0), "two");
+    assert_eq!(
+        pair(at_8, &[LOW, other]).answer(),
+        DONE,
+        "it may come later"
+    );
+}
+
+#[test]
+fn the_low_half_is_the_pairs() {
+    let laid = pair(Symbol::new(0, 1, 0), &[HIGH, LOW]).laid();
+    let distance = 0x2345_6FFF - PLACE;
+    let high = u32::from_le_bytes([laid[0], laid[1], laid[2], laid[3]]) & 0xFFFF_F000;
+    let low = u32::from_le_bytes([laid[4], laid[5], laid[6], laid[7]]) as i32 >> 20;
+    assert_eq!(high.wrapping_add(low as u32), distance);
+    let with_addend = (0, 23, 1, -0x7FF);
+    let laid = pair(Symbol::new(0, 1, 0), &[with_addend, LOW]).laid();
+    let low = u32::from_le_bytes([laid[4], laid[5], laid[6], laid[7]]) as i32 >> 20;
+    assert_eq!(low, -2_048, "with the pair's addend");
+}
+
+#[test]
+fn symbol_of_a_low_half() {
+    let with = |label| pair(label, &[HIGH, LOW]).answer();
+    assert_eq!(with(Symbol::absolute(0)), (10, 1));
+    assert_eq!(with(Symbol::new(0, 2, 0)), (10, 1), "another row");
+    assert_eq!(with(Symbol::new(WEAK, 0, 0)), (10, 1), "undefined");
+    assert_eq!(with(Symbol::new(6, 1, 0)), (10, 1), "TLS");
+    assert_eq!(with(Symbol::new(10, 1, 0)), (10, 1), "IFUNC");
+    assert_eq!(with(Symbol::new(3, 1, 0)), DONE, "a section symbol");
+    let symbol_0 = (4, 24, 0, 0);
+    let mut fit = pair(Symbol::new(0, 1, 0), &[HIGH, symbol_0]);
+    assert_eq!(fit.answer(), (10, 1), "symbol 0");
+    fit.sections[2].bytes[14] = 1;
+    assert_eq!(fit.answer(), (10, 1), "symbol 0, whatever its entry holds");
+    let mut two_rows = pair(Symbol::new(0, 4, 0), &[HIGH, LOW]);
+    two_rows.sections.push(Section::nobits(1, 8));
+    two_rows.placements.push((4, 0x9000));
+    assert_eq!(two_rows.answer(), (10, 1), "another allocated row");
+}
+
+#[test]
+fn addend_of_a_low_half_is_0() {
+    for addend in [1, -1, 4] {
+        let low = (4, 24, 2, addend);
+        assert_eq!(pair(Symbol::new(0, 1, 0), &[HIGH, low]).answer(), (9, 1));
+    }
+}
+
+/// The pair is looked for in the same RELA row only.
+#[test]
+fn a_pair_in_another_row_is_none() {
+    let mut fit = pair(Symbol::new(0, 1, 0), &[LOW]);
+    let code = fit.sections[1].clone();
+    fit.sections.push(code);
+    let high = [Relocation::new(0, 23, 1, 0)];
+    fit.sections.push(Section::relocations(4, 2, &high));
+    fit.placements.push((4, PLACE + 16));
+    assert_eq!(fit.answer(), (12, 0));
+}
+
+#[test]
+fn a_broken_pair_is_named_in_its_own_turn() {
+    let label = Symbol::new(0, 1, 8);
+    let unresolved = (8, 23, 99, 0);
+    assert_eq!(pair(label, &[LOW, unresolved]).answer(), (10, 1));
+}
+
+/// "each through 9 to 14 before the next", counted over all RELA rows.
+#[test]
+fn records_go_one_by_one() {
+    let jal = 0x6F_u32.to_le_bytes();
+    let code = [jal, jal].concat();
+    let far = Relocation::new(0, 17, 1, 1);
+    let refused = Relocation::new(4, 2, 1, 0);
+    let symbols = [Symbol::absolute(PLACE)];
+    let fit = Fit::code(PLACE, &code, &symbols, &[far, refused]);
+    assert_eq!(fit.answer(), (13, 0));
+    let near = Relocation::new(0, 17, 1, 0);
+    let mut fit = Fit::code(PLACE, &code, &symbols, &[near]);
+    fit.sections.push(Section::loaded(1, &code));
+    fit.placements.push((4, PLACE + 8));
+    let list = [near, Relocation::new(4, 17, 1, 1)];
+    fit.sections.push(Section::relocations(4, 2, &list));
+    assert_eq!(fit.answer(), (13, 2));
+}
+
+/// Each check in turn is broken together with all later ones that can be.
+#[test]
+fn checks_9_to_12_in_order() {
+    let with = |addend, symbol, opcode: u8, pair: u8| {
+        let code = [opcode, 0, 0, 0, 0x17, 0, 0, 0];
+        let list = [
+            Relocation::new(0, 24, symbol, addend),
+            Relocation::new(4, pair, 0, 0),
+        ];
+        Fit::code(PLACE, &code, &[Symbol::new(0, 1, 4)], &list).answer()
+    };
+    assert_eq!(with(1, 9, 0x33, 51), (9, 0));
+    assert_eq!(with(0, 9, 0x33, 51), (10, 0));
+    assert_eq!(with(0, 1, 0x33, 51), (11, 0));
+    assert_eq!(with(0, 1, 0x13, 51), (12, 0));
+    assert_eq!(with(0, 1, 0x13, 23), DONE);
+}
+
+#[test]
+fn checks_9_to_13_in_order() {
+    let with = |offset, symbol, opcode: u8, target| {
+        let code = [opcode, 0, 0, 0];
+        let list = [Relocation::new(offset, 17, symbol, 0)];
+        Fit::code(PLACE, &code, &[Symbol::absolute(target)], &list).answer()
+    };
+    assert_eq!(with(1, 9, 0x33, PLACE + 1), (9, 0));
+    assert_eq!(with(0, 9, 0x33, PLACE + 1), (10, 0));
+    assert_eq!(with(0, 1, 0x33, PLACE + 1), (11, 0));
+    assert_eq!(with(0, 1, 0x6F, PLACE + 1), (13, 0));
+    assert_eq!(with(0, 1, 0x6F, PLACE + 2), DONE);
+}
+
+/// "A even" is 9, and the boundary 14.
+#[test]
+fn align_9_before_14() {
+    assert_eq!(list(8, &[(1, 43, 1)]), (9, 0));
+    assert_eq!(list(8, &[(1, 43, 2)]), (14, 0));
+}
