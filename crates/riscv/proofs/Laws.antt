@@ -2,6 +2,7 @@
 pub mod Layouts
 pub mod Fields
 pub mod Halves
+pub mod Ranges
 pub mod Data
 pub mod Types
 pub mod Bench

@@ -1,9 +1,9 @@
--- "Instruction at an even address, as found in the object": which words a relocation asks for. Assumes nothing: these are definitions.
+-- "Instruction at an even address, as found in the object": which words a relocation asks for. Data may be any. Assumes nothing: these are definitions.
 use Prim.Native.Nat.{ℕ, _/_, _%_}
-use mathlib.Core.Bool.{Bool, not, _&&_, _||_}
+use mathlib.Core.Bool.{Bool, true, not, _&&_, _||_}
 use lib.Dec.{eqb}
 use Rattle.riscv.specs.declared.forms.Form.{Form}
-use Rattle.riscv.specs.declared.forms.Form.the-variants.{Lui, Auipc, Jal, Branch, LowI, LowS, CallPair, CBranch, CJump}
+use Rattle.riscv.specs.declared.forms.Form.the-variants.{Any, Lui, Auipc, Jal, Branch, LowI, LowS, CallPair, CBranch, CJump}
 
 -- the manual's fields of a 32-bit instruction
 abbrev pub opcode : ℕ → ℕ
@@ -31,6 +31,7 @@ isJalr w register = eqb (opcode w) 0x67 && eqb (funct3 w) 0 && eqb (rs1 w) regis
 
 -- the word w has the form; of a CALL, w is followed by the word next
 unfoldable pub hasForm : Form → ℕ → ℕ → Bool
+hasForm Any w next = true
 hasForm Lui w next = eqb (opcode w) 0x37
 hasForm Auipc w next = eqb (opcode w) 0x17
 hasForm Jal w next = eqb (opcode w) 0x6F

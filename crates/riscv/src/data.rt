@@ -1,23 +1,16 @@
 // ADD, SUB and SET on data fields. `x` is S + A in two's complement of 64 bits.
 ghost use mathlib.Core.Path.{_≡_};
 ghost use Rattle.word.specs.Whole.{signed};
-ghost use Rattle.riscv.specs.Layouts.{put};
-ghost use Rattle.riscv.specs.Fields.{dataLayout};
 ghost use Rattle.riscv.specs.Data.{added, subtracted, replaced};
 use super::fields::Width;
+use super::fields::put_data;
 
-// A byte whose low six bits are set anew.
-fn put_six(byte: u64, value: u64) -> u64
-    ensures { λ r. ⌜ r ≡ put (dataLayout Width.W6) byte value ⌝ }
-{
-    value % 64 + byte / 64 % 4 * 64
-}
-
+// The present value with x added.
 pub fn add(width: Width, v: u64, x: u64) -> u64
     ensures { λ r. ⌜ r ≡ added width v (signed 64 x) ⌝ }
 {
     match width {
-        Width::W6 => put_six(v, word::add8((v % 64) as u8, x) as u64),
+        Width::W6 => put_data(Width::W6, v, word::add8((v % 64) as u8, x) as u64),
         Width::W8 => word::add8((v % 256) as u8, x) as u64,
         Width::W16 => word::add16((v % 65536) as u16, x) as u64,
         Width::W32 => word::add32((v % 4294967296) as u32, x) as u64,
@@ -25,11 +18,12 @@ pub fn add(width: Width, v: u64, x: u64) -> u64
     }
 }
 
+// The present value less x.
 pub fn sub(width: Width, v: u64, x: u64) -> u64
     ensures { λ r. ⌜ r ≡ subtracted width v (signed 64 x) ⌝ }
 {
     match width {
-        Width::W6 => put_six(v, word::sub8((v % 64) as u8, x) as u64),
+        Width::W6 => put_data(Width::W6, v, word::sub8((v % 64) as u8, x) as u64),
         Width::W8 => word::sub8((v % 256) as u8, x) as u64,
         Width::W16 => word::sub16((v % 65536) as u16, x) as u64,
         Width::W32 => word::sub32((v % 4294967296) as u32, x) as u64,
@@ -37,14 +31,9 @@ pub fn sub(width: Width, v: u64, x: u64) -> u64
     }
 }
 
+// x in the place of the present value.
 pub fn set(width: Width, v: u64, x: u64) -> u64
     ensures { λ r. ⌜ r ≡ replaced width v (signed 64 x) ⌝ }
 {
-    match width {
-        Width::W6 => put_six(v, x),
-        Width::W8 => x % 256,
-        Width::W16 => x % 65536,
-        Width::W32 => x % 4294967296,
-        Width::W64 => x,
-    }
+    put_data(width, v, x)
 }

@@ -160,3 +160,62 @@ pub fn put_cj(word: u64, value: u64) -> u64
         + value / 0x800 % 2 * 0x1000
         + word / 0x2000 % 8 * 0x2000
 }
+
+// A data field: all of its bytes, or the low six bits of one.
+pub fn read_data(width: Width, word: u64) -> u64
+    ensures { λ r. ⌜ r ≡ read (dataLayout width) word ⌝ }
+{
+    match width {
+        Width::W6 => word % 0x40,
+        Width::W8 => word % 0x100,
+        Width::W16 => word % 0x1_0000,
+        Width::W32 => word % 0x1_0000_0000,
+        Width::W64 => word,
+    }
+}
+
+pub fn put_data(width: Width, word: u64, value: u64) -> u64
+    ensures { λ r. ⌜ r ≡ put (dataLayout width) word value ⌝ }
+{
+    match width {
+        Width::W6 => value % 0x40 + word / 0x40 % 4 * 0x40,
+        Width::W8 => value % 0x100,
+        Width::W16 => value % 0x1_0000,
+        Width::W32 => value % 0x1_0000_0000,
+        Width::W64 => value,
+    }
+}
+
+// The value in a field.
+pub fn read_field(field: Field, word: u64) -> u64
+    ensures { λ r. ⌜ r ≡ read (layout field) word ⌝ }
+{
+    match field {
+        Field::U => read_u(word),
+        Field::I => read_i(word),
+        Field::S => read_s(word),
+        Field::B => read_b(word),
+        Field::J => read_j(word),
+        Field::Cb => read_cb(word),
+        Field::Cj => read_cj(word),
+        Field::Call => read_u(word) + read_i(word / 0x1_0000_0000),
+        Field::Data(width) => read_data(width, word),
+    }
+}
+
+// The bytes of a field, as one number, with a value put in.
+pub fn put_field(field: Field, word: u64, value: u64) -> u64
+    ensures { λ r. ⌜ r ≡ put (layout field) word value ⌝ }
+{
+    match field {
+        Field::U => put_u(word, value),
+        Field::I => put_i(word, value),
+        Field::S => put_s(word, value),
+        Field::B => put_b(word, value),
+        Field::J => put_j(word, value),
+        Field::Cb => put_cb(word, value),
+        Field::Cj => put_cj(word, value),
+        Field::Call => { put_u(word, value) + put_i(word / 0x1_0000_0000, value) * 0x1_0000_0000 }
+        Field::Data(width) => put_data(width, word, value),
+    }
+}

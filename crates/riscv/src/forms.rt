@@ -2,8 +2,10 @@
 ghost use mathlib.Core.Path.{_≡_};
 ghost use Rattle.riscv.specs.Forms.{hasForm, isJalr};
 
-// What stands at the place of a relocation: of LowI and LowS an instruction that takes a low half; of CallPair AUIPC and JALR.
+// What is asked of the words at the place of a relocation: Any of data, LowI and LowS of an instruction that takes a low half,
+// CallPair of AUIPC and JALR.
 pub enum Form {
+    Any,
     Lui,
     Auipc,
     Jal,
@@ -25,6 +27,7 @@ pub fn has_form(form: Form, word: u64, next: u64) -> bool
     let quadrant = word % 4;
     let cfunct3 = word / 8192 % 8;
     match form {
+        Form::Any => true,
         Form::Lui => opcode == 0x37,
         Form::Auipc => opcode == 0x17,
         Form::Jal => opcode == 0x6f,

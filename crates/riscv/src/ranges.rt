@@ -4,12 +4,19 @@ ghost use Rattle.riscv.specs.Ranges.{distance, reaches};
 
 // The ends of each range, back and ahead.
 pub const BRANCH_BACK: u32 = 4096;
+
 pub const BRANCH_AHEAD: u32 = 4094;
+
 pub const JAL_BACK: u32 = 1048576;
+
 pub const JAL_AHEAD: u32 = 1048574;
+
 pub const RVC_BRANCH_BACK: u32 = 256;
+
 pub const RVC_BRANCH_AHEAD: u32 = 254;
+
 pub const RVC_JUMP_BACK: u32 = 2048;
+
 pub const RVC_JUMP_AHEAD: u32 = 2046;
 
 // Whether the distance from p to t is even and from -back to ahead.

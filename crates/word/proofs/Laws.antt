@@ -1,4 +1,5 @@
 -- The laws of the definitions in specs/.
+pub mod Tests
 pub mod Lists
 pub mod Bytes
 pub mod First

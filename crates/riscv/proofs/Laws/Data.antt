@@ -1,13 +1,17 @@
 -- Laws of data fields, over the width. Assumes nothing.
-use mathlib.Core.Path.{_≡_, refl, sym, ap, _∙_}
-use Prim.Native.Nat.{ℕ, zero, suc, _+_, _-_, _*_, _/_, _%_, _^_, _≤_, _<_}
-use native.Mathlib.Nat.{mod-mod, mod-eq-of-lt, pow-zero, div-one, sub-zero}
+use mathlib.Core.Path.{_≡_, sym, ap, _∙_}
+use Prim.Native.Nat.{ℕ, suc, _+_, _*_, _/_, _%_, _^_, _<_}
+use native.Mathlib.Nat.{mod-eq-of-lt, pow-zero, div-one, sub-zero}
 use native.Mathlib.Omega.{arith}
 use mathlib.Core.List.{List, [], _∷_}
 use lib.IntN.{ℤ, pos, _+ℤ_, _-ℤ_}
 use Rattle.word.specs.Whole.{residue, signed, plus, minus}
 use Rattle.word.proofs.Laws.Whole.{residue-lt, residue-narrow, plus-signed, minus-signed, cut-signed}
+use Rattle.riscv.specs.declared.fields.Width.{Width}
+use Rattle.riscv.specs.declared.fields.Width.the-variants.{W6, W8, W16, W32, W64}
 use Rattle.riscv.specs.Layouts.{Bits, imm, keep, read, put}
+use Rattle.riscv.specs.Fields.{dataLayout}
+use Rattle.riscv.specs.Data.{replaced}
 
 -- a field of whole bytes
 pub read-whole : (h v : ℕ) → read (imm h 0 ∷ []) v ≡ v % 2 ^ suc h
@@ -49,9 +53,13 @@ six-cut : (v a b : ℕ) → a % 64 ≡ b % 64 → put six v a ≡ put six v b
 unfolding put
 six-cut v a b e = omega arith
 
-read-six : (v : ℕ) → read six v ≡ v % 64
+pub read-six : (v : ℕ) → read six v ≡ v % 64
 unfolding read
 read-six v = omega arith
+
+pub put-six : (v x : ℕ) → put six v x ≡ x % 64 + v / 64 % 4 * 64
+unfolding put
+put-six v x = omega arith
 
 pub add-six : (j v x : ℕ) → x < 2 ^ (j + 8) → put six v (plus 8 (v % 64) x) ≡ put six v (residue 6 (pos (read six v) +ℤ signed (j + 8) x))
 add-six j v x b =
@@ -69,3 +77,12 @@ sub-six j v x b =
 
 pub set-six : (j v x : ℕ) → x < 2 ^ (j + 6) → put six v x ≡ put six v (residue 6 (signed (j + 6) x))
 set-six j v x b = six-cut v x (residue 6 (signed (j + 6) x)) (cut-signed j 6 x b ∙ sym (mod-eq-of-lt (residue-lt 6 (signed (j + 6) x))))
+
+-- at every width, of what is put in the field's bits count
+pub set-data : (n : Width) (v x : ℕ) → x < 2 ^ 64 → put (dataLayout n) v x ≡ replaced n v (signed 64 x)
+unfolding replaced
+set-data W6 v x b = set-six 58 v x b
+set-data W8 v x b = put-whole 7 v x ∙ set-whole 56 7 v x b
+set-data W16 v x b = put-whole 15 v x ∙ set-whole 48 15 v x b
+set-data W32 v x b = put-whole 31 v x ∙ set-whole 32 31 v x b
+set-data W64 v x b = put-whole 63 v x ∙ set-whole 0 63 v x b

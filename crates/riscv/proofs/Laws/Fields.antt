@@ -1,17 +1,16 @@
 -- What is put into a field is read back, for every field. Assumes nothing.
-use mathlib.Core.Path.{_≡_, refl, sym, ap, _∙_}
-use Prim.Native.Nat.{ℕ, zero, suc, _+_, _-_, _*_, _/_, _%_, _^_, _≤_, _<_}
+use mathlib.Core.Path.{_≡_, sym, ap, _∙_}
+use Prim.Native.Nat.{ℕ, _+_, _*_, _/_, _%_, _^_}
 use native.Mathlib.Omega.{arith}
 use lib.Pow.{mod-pow-add}
 use lib.IntN.{ℤ}
 use Rattle.word.specs.Whole.{residue, signed}
 use Rattle.word.proofs.Laws.Whole.{Spelt, residue-narrow, signed-residue}
-use Rattle.riscv.specs.declared.fields.Width.{Width}
 use Rattle.riscv.specs.declared.fields.Width.the-variants.{W6, W8, W16, W32, W64}
 use Rattle.riscv.specs.declared.fields.Field.{Field}
 use Rattle.riscv.specs.declared.fields.Field.the-variants.{U, I, S, B, J, Cb, Cj, Call, Data}
 use Rattle.riscv.specs.Layouts.{read, put}
-use Rattle.riscv.specs.Fields.{bits, dataLayout, layout, valueBits, unit}
+use Rattle.riscv.specs.Fields.{layout, valueBits, unit}
 use Rattle.riscv.proofs.Laws.Layouts.{held, read-put}
 
 -- one more digit of a value: n bits from bit k on, above the lower ones

@@ -1,14 +1,13 @@
 -- Laws of the halves, over the width, which is k + 12 bits. Assumes nothing.
-use mathlib.Core.Path.{_≡_, refl, sym, ap, _∙_, subst}
-use Prim.Native.Nat.{ℕ, suc, _+_, _-_, _*_, _/_, _%_, _^_, _≤_, _<_}
-use native.Mathlib.Nat.{mod-lt, mod-mod, mod-eq-of-lt, add-comm, mul-comm, add-sub-cancel, add-mod-mod, mul-mod-right, mul-div-right, add-zero}
+use mathlib.Core.Path.{_≡_, sym, ap, _∙_, subst}
+use Prim.Native.Nat.{ℕ, _+_, _*_, _/_, _%_, _^_, _≤_}
+use native.Mathlib.Nat.{mod-eq-of-lt, add-comm, add-sub-cancel, mul-mod-right, mul-div-right, add-zero}
 use native.Mathlib.Omega.{arith}
 use lib.Arith.{mod-mul}
 use lib.Dec.{lit<}
 use lib.Pow.{pow-pos, pow-add, pow-mono}
 use lib.IntN.{ℤ, pos, _+ℤ_, _-ℤ_}
 use Rattle.word.specs.Whole.{residue, signed, minus}
-use Rattle.word.proofs.Laws.Modulo.{mod-unique}
 use Rattle.word.proofs.Laws.Whole.{Spelt, spelt-sub, residue-lt, residue-add, residue-sub, residue-narrow, residue-signed, signed-residue, minus-unique}
 use Rattle.riscv.specs.Halves.{high, low}
 
@@ -67,7 +66,7 @@ unfolding low minus
 low-rest k x =
     let w : ℕ = k + 12 in
     let sum : (residue w (rest x) + 4096 * high w x) % 2 ^ w ≡ x % 2 ^ w =
-      rw high-multiple (unfold residue in residue-sub w (pos x) (pos (4096 * ((x + 2048) / 4096)))) in
+    rw high-multiple (unfold residue in residue-sub w (pos x) (pos (4096 * ((x + 2048) / 4096)))) in
     ap (signed w) (sym (minus-unique w x (4096 * high w x) (residue w (rest x)) (residue-lt w (rest x)) sum))
     ∙ signed-residue w (rest x) (rest-spelt k x)
 

@@ -1,9 +1,9 @@
 -- Laws of layouts: what is put in is read back, and the bits outside the field stay. Assumes nothing.
-use mathlib.Core.Path.{_≡_, refl, sym, ap, ap₂, _∙_}
-use Prim.Native.Nat.{ℕ, zero, suc, _+_, _-_, _*_, _/_, _%_, _^_, _≤_, _<_}
-use native.Mathlib.Nat.{mod-lt, mul-comm, add-comm}
+use mathlib.Core.Path.{_≡_, refl}
+use Prim.Native.Nat.{ℕ, suc, _+_, _-_, _*_, _/_, _%_, _^_, _<_}
+use native.Mathlib.Nat.{mod-lt, mul-comm, mul-assoc, mul-add, one-mul, add-comm, add-assoc, zero-add, div-one, div-div-eq-div-mul}
 use native.Mathlib.Omega.{arith}
-use mathlib.Core.List.{List, [], _∷_}
+use mathlib.Core.List.{List, [], _∷_, _++_}
 use lib.Arith.{digits-div, digits-mod, digits-lt}
 use lib.Pow.{pow-pos, pow-add}
 use Rattle.riscv.specs.Layouts.{Bits, keep, imm, size, read, put, outside}
@@ -67,3 +67,23 @@ put-lt (imm high low ∷ runs) w v =
     let d : ℕ = v / 2 ^ low % 2 ^ n in
     rw (pow-add 2 (total runs) n, add-comm d (2 ^ n * put runs (w / 2 ^ n) v), mul-comm (2 ^ n) (put runs (w / 2 ^ n) v))
     (digits-lt (put-lt runs (w / 2 ^ n) v) (mod-lt (v / 2 ^ low) (pow-pos n)))
+
+-- ---- one layout above another
+
+pub read-append : (xs ys : List Bits) (w : ℕ) → read (xs ++ ys) w ≡ read xs w + read ys (w / 2 ^ total xs)
+unfolding read total
+read-append [] ys w = rw (div-one, zero-add)
+read-append (keep n ∷ xs) ys w =
+    rw (read-append xs ys (w / 2 ^ n), div-div-eq-div-mul, pow-add 2 (total xs) n, mul-comm (2 ^ total xs) (2 ^ n))
+read-append (imm high low ∷ xs) ys w =
+    let n : ℕ = suc high - low in
+    rw (read-append xs ys (w / 2 ^ n), div-div-eq-div-mul, pow-add 2 (total xs) n, mul-comm (2 ^ total xs) (2 ^ n), add-assoc)
+
+pub put-append : (xs ys : List Bits) (w v : ℕ) → put (xs ++ ys) w v ≡ put xs w v + 2 ^ total xs * put ys (w / 2 ^ total xs) v
+unfolding put total
+put-append [] ys w v = rw (div-one, one-mul, zero-add)
+put-append (keep n ∷ xs) ys w v =
+    rw (put-append xs ys (w / 2 ^ n) v, div-div-eq-div-mul, pow-add 2 (total xs) n, mul-comm (2 ^ total xs) (2 ^ n), mul-add, mul-assoc, add-assoc)
+put-append (imm high low ∷ xs) ys w v =
+    let n : ℕ = suc high - low in
+    rw (put-append xs ys (w / 2 ^ n) v, div-div-eq-div-mul, pow-add 2 (total xs) n, mul-comm (2 ^ total xs) (2 ^ n), mul-add, mul-assoc, add-assoc)

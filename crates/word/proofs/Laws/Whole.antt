@@ -7,8 +7,8 @@ use mathlib.Core.Bool.{Bool, true, false, cond}
 use lib.Dec.{ltb}
 use lib.Pow.{pow-pos, mod-mod-pow}
 use lib.IntN.{ℤ, pos, negsuc, subℕ, _+ℤ_, _-ℤ_, -ℤ-+ℤ-cancel}
-use borrow.Author.Tests.{ltb-true, ltb-false, lt-ltb, le-ltb}
-use Rattle.word.specs.Whole.{residue, signed, plus, minus}
+use borrow.Author.Tests.{ltb-true, ltb-false, lt-ltb, le-ltb, eqb-true, leb-true}
+use Rattle.word.specs.Whole.{residue, signed, within, even, plus, minus}
 use Rattle.word.proofs.Laws.Modulo.{mod-sum, mod-unique}
 
 -- ---- a whole number as a difference of two natural numbers
@@ -190,3 +190,22 @@ minus-signed j k v x h = ap (minus k v) (sym (residue-signed (j + k) x h)) ∙ m
 
 pub cut-signed : (j k x : ℕ) → x < 2 ^ (j + k) → x % 2 ^ k ≡ residue k (signed (j + k) x)
 cut-signed j k x h = ap (λ n. n % 2 ^ k) (sym (residue-signed (j + k) x h)) ∙ residue-narrow j k (signed (j + k) x)
+
+-- ---- even numbers
+
+even-lowest : (z : ℤ) → even z ≡ true → residue 1 z ≡ 0
+unfolding even residue
+even-lowest (pos n) e = eqb-true _ _ e
+even-lowest (negsuc n) e = let none : suc n % 2 ≡ 0 = eqb-true _ _ e in omega arith
+
+-- an even number's residue is even
+pub even-residue : (j : ℕ) (z : ℤ) → even z ≡ true → residue (j + 1) z % 2 ≡ 0
+even-residue j z e = residue-narrow j 1 z ∙ even-lowest z e
+
+-- ---- ranges
+
+-- a number within a range that w bits spell
+pub within-spelt : (w back ahead : ℕ) (z : ℤ) → 2 * back ≤ 2 ^ w → 2 * ahead < 2 ^ w → within back ahead z ≡ true → Spelt w z
+unfolding within
+within-spelt w back ahead (pos n) b a e = let h : n ≤ ahead = leb-true n ahead e in omega arith
+within-spelt w back ahead (negsuc n) b a e = let h : suc n ≤ back = leb-true (suc n) back e in omega arith

@@ -2,7 +2,7 @@
 use mathlib.Core.Path.{sym, ap, _∙_}
 use native.Mathlib.Nat.{mod-eq-of-lt}
 use native.Mathlib.Omega.{arith}
-use Rattle.word.specs.Whole.{signed, plus, minus}
+use Rattle.word.specs.Whole.{signed, minus}
 use Rattle.riscv.specs.Layouts.{put}
 use Rattle.riscv.specs.Data.{subtracted}
 use Rattle.riscv.proofs.Laws.Data.{six, sub-whole, sub-six}
@@ -19,11 +19,11 @@ cast-sub8 c = search needs
 sub8-requires : tie.Need-sub8-requires
 sub8-requires c κs = search needs
 
-cast-put-six : tie.Need-cast-put-six
-cast-put-six c = search needs
+cast-put-data : tie.Need-cast-put-data
+cast-put-data c = search needs
 
-put-six-requires : tie.Need-put-six-requires
-put-six-requires c κs = search needs
+put-data-requires : tie.Need-put-data-requires
+put-data-requires c κs = search needs
 
 enum-told-2 : tie.Need-enum-told-2
 enum-told-2 c = search needs
@@ -69,34 +69,34 @@ sub64-requires c κs = search needs
 
 returns : tie.Need-returns
 unfolding subtracted
-returns c = 
+returns c =
     let a = c .before .before .before .before .args in
-    c .put-six .ensures
+    c .put-data .ensures
     ∙ ap (put six (a .v)) (c .before .sub8 .ensures)
     ∙ sub-six 56 (a .v) (a .x) (omega arith)
     ∙ sym (ap (λ n. subtracted n (a .v) (signed 64 (a .x))) (c .before .before .enum-told .given .1))
 
 returns-2 : tie.Need-returns-2
 unfolding subtracted
-returns-2 c = 
+returns-2 c =
     let a = c .before .before .before .args in
     c .sub82 .ensures ∙ sub-whole 56 7 (a .v) (a .x) (omega arith) ∙ sym (ap (λ n. subtracted n (a .v) (signed 64 (a .x))) (c .before .enum-told2 .given .1))
 
 returns-3 : tie.Need-returns-3
 unfolding subtracted
-returns-3 c = 
+returns-3 c =
     let a = c .before .before .before .args in
     c .sub16 .ensures ∙ sub-whole 48 15 (a .v) (a .x) (omega arith) ∙ sym (ap (λ n. subtracted n (a .v) (signed 64 (a .x))) (c .before .enum-told3 .given .1))
 
 returns-4 : tie.Need-returns-4
 unfolding subtracted
-returns-4 c = 
+returns-4 c =
     let a = c .before .before .before .args in
     c .sub32 .ensures ∙ sub-whole 32 31 (a .v) (a .x) (omega arith) ∙ sym (ap (λ n. subtracted n (a .v) (signed 64 (a .x))) (c .before .enum-told4 .given .1))
 
 returns-5 : tie.Need-returns-5
 unfolding subtracted
-returns-5 c = 
+returns-5 c =
     let a = c .before .before .before .args in
     c .sub64 .ensures
     ∙ ap (λ n. minus 64 n (a .x)) (sym (mod-eq-of-lt (omega arith)))
@@ -110,8 +110,8 @@ sub-spec =
     enum-told
     cast-sub8
     sub8-requires
-    cast-put-six
-    put-six-requires
+    cast-put-data
+    put-data-requires
     enum-told-2
     cast-sub8-2
     sub8-requires-2

@@ -29,69 +29,78 @@ enum-told-6 c = search needs
 enum-told-7 : tie.Need-enum-told-7
 enum-told-7 c = search needs
 
-jalr-of-requires : tie.Need-jalr-of-requires
-jalr-of-requires c κs = search needs
-
 enum-told-8 : tie.Need-enum-told-8
 enum-told-8 c = search needs
+
+jalr-of-requires : tie.Need-jalr-of-requires
+jalr-of-requires c κs = search needs
 
 enum-told-9 : tie.Need-enum-told-9
 enum-told-9 c = search needs
 
+enum-told-10 : tie.Need-enum-told-10
+enum-told-10 c = search needs
+
 returns : tie.Need-returns
 unfolding hasForm
-returns c = 
+returns c =
     let a = c .before .before .args in
     sym (ap (λ f. hasForm f (a .word) (a .next)) (c .enum-told .given .1))
 
 returns-2 : tie.Need-returns-2
 unfolding hasForm
-returns-2 c = 
+returns-2 c =
     let a = c .before .before .args in
     sym (ap (λ f. hasForm f (a .word) (a .next)) (c .enum-told2 .given .1))
 
 returns-3 : tie.Need-returns-3
 unfolding hasForm
-returns-3 c = 
+returns-3 c =
     let a = c .before .before .args in
     sym (ap (λ f. hasForm f (a .word) (a .next)) (c .enum-told3 .given .1))
 
 returns-4 : tie.Need-returns-4
 unfolding hasForm
-returns-4 c = 
+returns-4 c =
     let a = c .before .before .args in
     sym (ap (λ f. hasForm f (a .word) (a .next)) (c .enum-told4 .given .1))
 
 returns-5 : tie.Need-returns-5
 unfolding hasForm
-returns-5 c = 
+returns-5 c =
     let a = c .before .before .args in
     sym (ap (λ f. hasForm f (a .word) (a .next)) (c .enum-told5 .given .1))
 
 returns-6 : tie.Need-returns-6
 unfolding hasForm
-returns-6 c = 
+returns-6 c =
     let a = c .before .before .args in
     sym (ap (λ f. hasForm f (a .word) (a .next)) (c .enum-told6 .given .1))
 
 returns-7 : tie.Need-returns-7
 unfolding hasForm
-returns-7 c = 
-    let a = c .before .before .before .args in
-    ap (λ t. eqb (a .word % 128) 0x17 && not (eqb (a .word / 128 % 32) 0) && t) (c .jalr-of .ensures)
-    ∙ sym (ap (λ f. hasForm f (a .word) (a .next)) (c .before .enum-told7 .given .1))
+returns-7 c =
+    let a = c .before .before .args in
+    sym (ap (λ f. hasForm f (a .word) (a .next)) (c .enum-told7 .given .1))
 
 returns-8 : tie.Need-returns-8
 unfolding hasForm
-returns-8 c = 
-    let a = c .before .before .args in
-    sym (ap (λ f. hasForm f (a .word) (a .next)) (c .enum-told8 .given .1))
+returns-8 c =
+    let a = c .before .before .before .args in
+    ap (λ t. eqb (a .word % 128) 0x17 && not (eqb (a .word / 128 % 32) 0) && t) (c .jalr-of .ensures)
+    ∙ sym (ap (λ f. hasForm f (a .word) (a .next)) (c .before .enum-told8 .given .1))
 
 returns-9 : tie.Need-returns-9
 unfolding hasForm
-returns-9 c = 
+returns-9 c =
     let a = c .before .before .args in
     sym (ap (λ f. hasForm f (a .word) (a .next)) (c .enum-told9 .given .1))
+
+returns-10 : tie.Need-returns-10
+unfolding hasForm
+returns-10 c =
+    let a = c .before .before .args in
+    sym (ap (λ f. hasForm f (a .word) (a .next)) (c .enum-told10 .given .1))
 
 pub has-form-spec : {M : Type 1} → statement M
 has-form-spec =
@@ -104,9 +113,10 @@ has-form-spec =
     enum-told-5
     enum-told-6
     enum-told-7
-    jalr-of-requires
     enum-told-8
+    jalr-of-requires
     enum-told-9
+    enum-told-10
     returns
     returns-2
     returns-3
@@ -115,4 +125,5 @@ has-form-spec =
     returns-6
     returns-7
     returns-8
-    returns-9)
+    returns-9
+    returns-10)

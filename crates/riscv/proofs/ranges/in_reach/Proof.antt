@@ -19,7 +19,7 @@ returns c = rw (sub-ahead (c .before .args .t) (c .before .args .p) (c .if1 .tak
 
 returns-2 : tie.Need-returns-2
 unfolding reaches within even
-returns-2 c = 
+returns-2 c =
     let a = c .before .args in
     let d : suc (a .p - suc (a .t)) ≡ a .p - a .t = omega arith in
     rw (sub-back (a .t) (a .p) (c .if1 .left), d)

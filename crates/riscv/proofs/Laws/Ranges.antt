@@ -1,0 +1,69 @@
+-- Laws of the ranges of distances. Assumes nothing.
+use mathlib.Core.Path.{_≡_, refl}
+use Prim.Native.Nat.{ℕ, _+_, _*_, _%_, _^_, _≤_, _<_}
+use mathlib.Core.Bool.{true, false}
+use native.Mathlib.Omega.{arith}
+use lib.IntN.{ℤ, pos, negℤ}
+use Rattle.word.specs.Whole.{residue, signed, within, even}
+use Rattle.word.proofs.Laws.Tests.{and-left, and-right}
+use Rattle.word.proofs.Laws.Whole.{even-residue, within-spelt}
+use Rattle.riscv.specs.declared.fields.Field.{Field}
+use Rattle.riscv.specs.declared.fields.Field.the-variants.{B, J, Cb, Cj}
+use Rattle.riscv.specs.Layouts.{read, put}
+use Rattle.riscv.specs.Fields.{layout, valueBits, unit}
+use Rattle.riscv.specs.Ranges.{Range, branch, jal, rvcBranch, rvcJump, reaches}
+use Rattle.riscv.proofs.Laws.Fields.{reads-back-signed}
+
+-- both ends are reached, and the next steps are not
+pub record Ends (r : Range) : Type 0 where
+  pub ahead-in : reaches r (pos (r .ahead)) ≡ true
+  pub ahead-odd : reaches r (pos (r .ahead + 1)) ≡ false
+  pub ahead-out : reaches r (pos (r .ahead + 2)) ≡ false
+  pub back-in : reaches r (negℤ (pos (r .back))) ≡ true
+  pub back-odd : reaches r (negℤ (pos (r .back + 1))) ≡ false
+  pub back-out : reaches r (negℤ (pos (r .back + 2))) ≡ false
+
+pub branch-ends : Ends branch
+unfolding reaches within even
+branch-ends = record { ahead-in = refl; ahead-odd = refl; ahead-out = refl; back-in = refl; back-odd = refl; back-out = refl }
+
+pub jal-ends : Ends jal
+unfolding reaches within even
+jal-ends = record { ahead-in = refl; ahead-odd = refl; ahead-out = refl; back-in = refl; back-odd = refl; back-out = refl }
+
+pub rvc-branch-ends : Ends rvcBranch
+unfolding reaches within even
+rvc-branch-ends = record { ahead-in = refl; ahead-odd = refl; ahead-out = refl; back-in = refl; back-odd = refl; back-out = refl }
+
+pub rvc-jump-ends : Ends rvcJump
+unfolding reaches within even
+rvc-jump-ends = record { ahead-in = refl; ahead-odd = refl; ahead-out = refl; back-in = refl; back-odd = refl; back-out = refl }
+
+-- a distance that is reached, put into its field modulo 2^(j + n), is read back whole
+reached-reads-back : (f : Field) (r : Range) (w j : ℕ) (z : ℤ) → unit f ≡ 2 → 2 * r .back ≤ 2 ^ valueBits f → 2 * r .ahead < 2 ^ valueBits f
+    → (residue (j + valueBits f) z % 2 ≡ 0) → reaches r z ≡ true
+    → signed (valueBits f) (read (layout f) (put (layout f) w (residue (j + valueBits f) z))) ≡ z
+unfolding reaches
+reached-reads-back f r w j z two b a low e =
+    reads-back-signed f w j z (within-spelt (valueBits f) (r .back) (r .ahead) z b a (and-right (even z) _ e)) (rw two low)
+
+-- every jump and branch gives its whole distance, read by the manual, where it was put in modulo 2^32
+pub branch-reads-back : (w : ℕ) (z : ℤ) → reaches branch z ≡ true → signed 13 (read (layout B) (put (layout B) w (residue 32 z))) ≡ z
+unfolding reaches
+branch-reads-back w z e =
+    reached-reads-back B branch w 19 z refl (omega arith) (omega arith) (even-residue 31 z (and-left (even z) _ e)) e
+
+pub jal-reads-back : (w : ℕ) (z : ℤ) → reaches jal z ≡ true → signed 21 (read (layout J) (put (layout J) w (residue 32 z))) ≡ z
+unfolding reaches
+jal-reads-back w z e =
+    reached-reads-back J jal w 11 z refl (omega arith) (omega arith) (even-residue 31 z (and-left (even z) _ e)) e
+
+pub rvc-branch-reads-back : (w : ℕ) (z : ℤ) → reaches rvcBranch z ≡ true → signed 9 (read (layout Cb) (put (layout Cb) w (residue 32 z))) ≡ z
+unfolding reaches
+rvc-branch-reads-back w z e =
+    reached-reads-back Cb rvcBranch w 23 z refl (omega arith) (omega arith) (even-residue 31 z (and-left (even z) _ e)) e
+
+pub rvc-jump-reads-back : (w : ℕ) (z : ℤ) → reaches rvcJump z ≡ true → signed 12 (read (layout Cj) (put (layout Cj) w (residue 32 z))) ≡ z
+unfolding reaches
+rvc-jump-reads-back w z e =
+    reached-reads-back Cj rvcJump w 20 z refl (omega arith) (omega arith) (even-residue 31 z (and-left (even z) _ e)) e
