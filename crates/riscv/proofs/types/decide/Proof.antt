@@ -1,9 +1,9 @@
 -- `riscv::types::decide` meets its contract. Assumes nothing.
 use mathlib.Core.Path.{sym, ap}
 -- `riscv::types::decide` meets its contract. Assumes nothing.
-use mathlib.Core.Logic.{⊎-elim, inl, inr}
+use mathlib.Core.Logic.{⊎-elim}
 use native.Mathlib.Omega.{arith}
-use Rattle.riscv.proofs.Laws.Types.{others-refused, call-types}
+use Rattle.riscv.proofs.Laws.Types.{others-refused, call-types, too-low, too-high}
 -- `riscv::types::decide` meets its contract. Assumes nothing.
 use Rattle.riscv.specs.Types.{among, table, lookup, decision}
 use Rattle.riscv.proofs.types.decide.Statement.{statement}
@@ -120,21 +120,21 @@ returns-27 c = sym (ap decision (c .match .keys27))
 returns-28 : tie.Need-returns-28
 unfolding decision lookup table among
 returns-28 c =
-    let r = c .before .before .match .rest in
     let t = c .before .before .before .args .number in
-    ⊎-elim (λ e. sym (ap decision e)) (λ e. sym (ap decision e)) (call-types t (c .before .if1 .left) (c .if2 .taken) (r .0 .0 .0 .0 .0 .0 .0 .0 .0 .0 .0 .0 .0 .0 .0 .0 .0 .0 .0 .0 .0 .0 .1) (r .0 .0 .0 .0 .0 .0 .0 .0 .0 .0 .0 .0 .0 .0 .0 .0 .0 .0 .0 .0 .0 .1))
+    ⊎-elim (λ e. sym (ap decision e)) (λ e. sym (ap decision e))
+    (call-types t (c .before .if1 .left) (c .if2 .taken) (c .before .before .match .rest))
 
 returns-29 : tie.Need-returns-29
-unfolding table
 returns-29 c =
-    let r = c .before .match .rest in
-    sym (others-refused (c .before .before .args .number) ((λ e. r .0 .0 .0 .0 .0 .0 .0 .0 .0 .0 .0 .0 .0 .0 .0 .0 .0 .0 .0 .0 .0 .0 .0 .0 .0 .0 .1 (inl e), (λ e. r .0 .0 .0 .0 .0 .0 .0 .0 .0 .0 .0 .0 .0 .0 .0 .0 .0 .0 .0 .0 .0 .0 .0 .0 .0 .0 .1 (inr e), tt)), ((r .0 .0 .0 .0 .0 .0 .0 .0 .0 .0 .0 .0 .0 .0 .0 .0 .0 .0 .0 .0 .0 .0 .0 .0 .0 .1, tt), ((r .0 .0 .0 .0 .0 .0 .0 .0 .0 .0 .0 .0 .0 .0 .0 .0 .0 .0 .0 .0 .0 .0 .0 .0 .1, tt), ((r .0 .0 .0 .0 .0 .0 .0 .0 .0 .0 .0 .0 .0 .0 .0 .0 .0 .0 .0 .0 .0 .0 .0 .1, tt), ((r .0 .0 .0 .0 .0 .0 .0 .0 .0 .0 .0 .0 .0 .0 .0 .0 .0 .0 .0 .0 .0 .0 .1, tt), ((r .0 .0 .0 .0 .0 .0 .0 .0 .0 .0 .0 .0 .0 .0 .0 .0 .0 .0 .0 .0 .0 .1, tt), ((r .0 .0 .0 .0 .0 .0 .0 .0 .0 .0 .0 .0 .0 .0 .0 .0 .0 .0 .0 .0 .1, tt), ((r .0 .0 .0 .0 .0 .0 .0 .0 .0 .0 .0 .0 .0 .0 .0 .0 .0 .0 .0 .1, tt), ((λ e. omega arith, (λ e. omega arith, tt)), ((r .0 .0 .0 .0 .0 .0 .0 .0 .0 .0 .0 .0 .0 .0 .0 .0 .0 .0 .1, tt), ((r .0 .0 .0 .0 .0 .0 .0 .0 .0 .0 .0 .0 .0 .0 .0 .0 .0 .1, tt), ((r .0 .0 .0 .0 .0 .0 .0 .0 .0 .0 .0 .0 .0 .0 .0 .0 .1, tt), ((r .0 .0 .0 .0 .0 .0 .0 .0 .0 .0 .0 .0 .0 .0 .0 .1, tt), ((r .0 .0 .0 .0 .0 .0 .0 .0 .0 .0 .0 .0 .0 .0 .1, tt), ((r .0 .0 .0 .0 .0 .0 .0 .0 .0 .0 .0 .0 .0 .1, tt), ((r .0 .0 .0 .0 .0 .0 .0 .0 .0 .0 .0 .0 .1, tt), ((r .0 .0 .0 .0 .0 .0 .0 .0 .0 .0 .0 .1, tt), ((r .0 .0 .0 .0 .0 .0 .0 .0 .0 .0 .1, tt), ((r .0 .0 .0 .0 .0 .0 .0 .0 .0 .1, tt), ((r .0 .0 .0 .0 .0 .0 .0 .0 .1, tt), ((r .0 .0 .0 .0 .0 .0 .0 .1, tt), ((r .0 .0 .0 .0 .0 .0 .1, tt), ((r .0 .0 .0 .0 .0 .1, tt), ((r .0 .0 .0 .0 .1, tt), ((r .0 .0 .0 .1, tt), ((r .0 .0 .1, tt), ((r .0 .1, tt), ((r .1, tt), tt)))))))))))))))))))))))))))))
+    let t = c .before .before .args .number in
+    let low = c .if1 .taken in
+    sym (others-refused t (c .before .match .rest) (⊎-elim (too-low t low 18 (omega arith)) (too-low t low 19 (omega arith))))
 
 returns-30 : tie.Need-returns-30
-unfolding table
 returns-30 c =
-    let r = c .before .before .match .rest in
-    sym (others-refused (c .before .before .before .args .number) ((λ e. r .0 .0 .0 .0 .0 .0 .0 .0 .0 .0 .0 .0 .0 .0 .0 .0 .0 .0 .0 .0 .0 .0 .0 .0 .0 .0 .1 (inl e), (λ e. r .0 .0 .0 .0 .0 .0 .0 .0 .0 .0 .0 .0 .0 .0 .0 .0 .0 .0 .0 .0 .0 .0 .0 .0 .0 .0 .1 (inr e), tt)), ((r .0 .0 .0 .0 .0 .0 .0 .0 .0 .0 .0 .0 .0 .0 .0 .0 .0 .0 .0 .0 .0 .0 .0 .0 .0 .1, tt), ((r .0 .0 .0 .0 .0 .0 .0 .0 .0 .0 .0 .0 .0 .0 .0 .0 .0 .0 .0 .0 .0 .0 .0 .0 .1, tt), ((r .0 .0 .0 .0 .0 .0 .0 .0 .0 .0 .0 .0 .0 .0 .0 .0 .0 .0 .0 .0 .0 .0 .0 .1, tt), ((r .0 .0 .0 .0 .0 .0 .0 .0 .0 .0 .0 .0 .0 .0 .0 .0 .0 .0 .0 .0 .0 .0 .1, tt), ((r .0 .0 .0 .0 .0 .0 .0 .0 .0 .0 .0 .0 .0 .0 .0 .0 .0 .0 .0 .0 .0 .1, tt), ((r .0 .0 .0 .0 .0 .0 .0 .0 .0 .0 .0 .0 .0 .0 .0 .0 .0 .0 .0 .0 .1, tt), ((r .0 .0 .0 .0 .0 .0 .0 .0 .0 .0 .0 .0 .0 .0 .0 .0 .0 .0 .0 .1, tt), ((λ e. omega arith, (λ e. omega arith, tt)), ((r .0 .0 .0 .0 .0 .0 .0 .0 .0 .0 .0 .0 .0 .0 .0 .0 .0 .0 .1, tt), ((r .0 .0 .0 .0 .0 .0 .0 .0 .0 .0 .0 .0 .0 .0 .0 .0 .0 .1, tt), ((r .0 .0 .0 .0 .0 .0 .0 .0 .0 .0 .0 .0 .0 .0 .0 .0 .1, tt), ((r .0 .0 .0 .0 .0 .0 .0 .0 .0 .0 .0 .0 .0 .0 .0 .1, tt), ((r .0 .0 .0 .0 .0 .0 .0 .0 .0 .0 .0 .0 .0 .0 .1, tt), ((r .0 .0 .0 .0 .0 .0 .0 .0 .0 .0 .0 .0 .0 .1, tt), ((r .0 .0 .0 .0 .0 .0 .0 .0 .0 .0 .0 .0 .1, tt), ((r .0 .0 .0 .0 .0 .0 .0 .0 .0 .0 .0 .1, tt), ((r .0 .0 .0 .0 .0 .0 .0 .0 .0 .0 .1, tt), ((r .0 .0 .0 .0 .0 .0 .0 .0 .0 .1, tt), ((r .0 .0 .0 .0 .0 .0 .0 .0 .1, tt), ((r .0 .0 .0 .0 .0 .0 .0 .1, tt), ((r .0 .0 .0 .0 .0 .0 .1, tt), ((r .0 .0 .0 .0 .0 .1, tt), ((r .0 .0 .0 .0 .1, tt), ((r .0 .0 .0 .1, tt), ((r .0 .0 .1, tt), ((r .0 .1, tt), ((r .1, tt), tt)))))))))))))))))))))))))))))
+    let t = c .before .before .before .args .number in
+    let high = c .if2 .left in
+    sym (others-refused t (c .before .before .match .rest) (⊎-elim (too-high t high 18 (omega arith)) (too-high t high 19 (omega arith))))
 
 pub decide-spec : {M : Type 1} → statement M
 decide-spec =
