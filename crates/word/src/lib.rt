@@ -7,6 +7,13 @@ ghost use Rattle.word.specs.Bytes.{leAt, bytes};
 ghost use Rattle.word.specs.Whole.{residue, signed, plus, minus};
 ghost use Rattle.word.specs.Powers.{oneBit, ceilPower};
 
+// Three kinds of place that cannot be mixed: in the object, in a section (document 01: a row offset), and at run time.
+pub struct FileOffset(pub u32);
+
+pub struct SectionOffset(pub u32);
+
+pub struct Address(pub u32);
+
 // A byte as a wider number.
 fn wide(b: u8) -> u16
     ensures { λ r. ⌜ (r ≡ b) × (r < 256) ⌝ }

@@ -1,0 +1,5 @@
+pub mod Headers
+pub mod Sections
+pub mod Rules
+pub mod Entries
+pub mod Sound

@@ -1,0 +1,378 @@
+// An ELF32 object: its header, sections, symbols and relocations. Everything is read out of the caller's bytes.
+ghost use mathlib.Core.Path.{_≡_};
+ghost use Prim.Native.Nat.{suc, _+_, _*_, _≤_, _<_};
+ghost use mathlib.Core.Bool.{not, _&&_};
+ghost use lib.Dec.{eqb};
+ghost use Rattle.word.specs.First.{everywhere};
+ghost use lib.ListN.{length};
+ghost use Rattle.elf.specs.Headers.{headerAllowed, tableAllowed, sectionTable, sectionCount};
+ghost use Rattle.elf.specs.Sections.{sectionAt, allocated, loaded, symbolTable, targets, countingRel, countingRela, relocationsIn, relocationsBelow};
+ghost use Rattle.elf.specs.Rules.{startsNull, insideFile, allocatedWell, symbolTableWell, noCountingRel, relaWell, relocationsWell, sectionWell, sectionCheck, objectCheck};
+ghost use Rattle.elf.specs.Sound.{HeaderInside, TableInside, Inside};
+ghost use Rattle.elf.specs.Entries.{bytesOf, symbolAt, symbolCount, relocationAt, locationOf};
+use word::FileOffset;
+use word::SectionOffset;
+
+// A section header (document 01: row).
+pub struct Section {
+    pub kind: u32,
+    pub flags: u32,
+    pub offset: FileOffset,
+    pub size: u32,
+    pub link: u32,
+    pub info: u32,
+    pub alignment: u32,
+    pub entsize: u32,
+}
+
+// What check 5 finds: nothing, or the first section that breaks a rule, 0 for the table itself.
+pub enum SectionCheck {
+    Sound,
+    Broken(u32),
+}
+
+// What checks 4 and 5 find.
+pub enum ObjectCheck {
+    Passed,
+    BadHeader,
+    BadSection(u32),
+}
+
+// A symbol: its type and binding, and the section that it is defined in.
+pub struct Symbol {
+    pub value: u32,
+    pub kind: u8,
+    pub binding: u8,
+    pub section: u16,
+}
+
+// A relocation (document 01: record). The addend is a signed number in two's complement of 64 bits.
+pub struct Relocation {
+    pub offset: SectionOffset,
+    pub kind: u8,
+    pub symbol: u32,
+    pub addend: u64,
+}
+
+// Where a relocation is: its RELA section, and which entry of that it is.
+pub struct Location {
+    pub section: usize,
+    pub entry: usize,
+}
+
+// Check 4.
+pub fn check_header(object: &[u8]) -> bool
+    ensures { λ r. ⌜ r ≡ headerAllowed (now (object .entry)) ⌝ }
+{
+    if 65536 < object.len() {
+        return false;
+    }
+    if object.len() < 52 {
+        return false;
+    }
+    (word::read32(object, 0) == 0x464c457f)
+        & (object[4] == 1)
+        & (object[5] == 1)
+        & (object[6] == 1)
+        & (word::read16(object, 16) == 1)
+        & (word::read16(object, 18) == 243)
+        & (word::read32(object, 20) == 1)
+        & (word::read16(object, 40) == 52)
+}
+
+// How many sections an object has.
+pub fn section_count(object: &[u8]) -> usize
+    requires { ⌜ 52 ≤ length (now object) ⌝ }
+    ensures { λ r. ⌜ r ≡ sectionCount (now (object .entry)) ⌝ }
+{
+    word::read16(object, 48) as usize
+}
+
+// Check 5 at place 0: the section header table.
+fn check_table(object: &[u8]) -> bool
+    requires { ⌜ 52 ≤ length (now object) ⌝ }
+    ensures { λ r. ⌜ r ≡ tableAllowed (now (object .entry)) ⌝ }
+{
+    let n = section_count(object);
+    let start = word::read32(object, 32) as usize;
+    (word::read16(object, 46) == 40) & (1 <= n) & (n <= 32) & (start + 40 * n <= object.len())
+}
+
+// The header of section i.
+pub fn read_section(object: &[u8], i: usize) -> Section
+    requires { ⌜ HeaderInside (now object) i ⌝ }
+    ensures { λ r. ⌜ r ≡ sectionAt (now (object .entry)) i ⌝ }
+{
+    let at = word::read32(object, 32) as usize + 40 * i;
+    Section {
+        kind: word::read32(object, at + 4),
+        flags: word::read32(object, at + 8),
+        offset: FileOffset(word::read32(object, at + 16)),
+        size: word::read32(object, at + 20),
+        link: word::read32(object, at + 24),
+        info: word::read32(object, at + 28),
+        alignment: word::read32(object, at + 32),
+        entsize: word::read32(object, at + 36),
+    }
+}
+
+// Whether a section takes up addresses at run time.
+pub fn is_allocated(h: Section) -> bool
+    ensures { λ r. ⌜ r ≡ allocated h ⌝ }
+{
+    (h.flags / 2 % 2 == 1) & (h.kind != 0)
+}
+
+// Whether it has bytes in the file as well (document 01: laid).
+pub fn is_loaded(h: Section) -> bool
+    ensures { λ r. ⌜ r ≡ loaded h ⌝ }
+{
+    is_allocated(h) & (h.kind != 8)
+}
+
+// The lowest SYMTAB, or the number of sections where there is none.
+pub fn symbol_table(object: &[u8]) -> usize
+    requires { ⌜ TableInside (now object) ⌝ }
+    ensures { λ r. ⌜ r ≡ symbolTable (now (object .entry)) ⌝ }
+{
+    let n = section_count(object);
+    let mut i: usize = 0;
+    while i < n {
+        let h = read_section(object, i);
+        if h.kind == 2 {
+            return i;
+        }
+        i += 1;
+    }
+    n
+}
+
+// Whether a section's info names an allocated section.
+fn has_target(object: &[u8], h: Section) -> bool
+    requires { ⌜ TableInside (now object) ⌝ }
+    ensures { λ r. ⌜ r ≡ targets (now (object .entry)) h ⌝ }
+{
+    let info = h.info as usize;
+    if section_count(object) <= info {
+        return false;
+    }
+    is_allocated(read_section(object, info))
+}
+
+// Whether section i is a RELA that counts.
+pub fn is_counting_rela(object: &[u8], i: usize) -> bool
+    requires { ⌜ TableInside (now object) × (i < sectionCount (now object)) ⌝ }
+    ensures { λ r. ⌜ r ≡ countingRela (now (object .entry)) i ⌝ }
+{
+    let h = read_section(object, i);
+    (h.kind == 4) & has_target(object, h)
+}
+
+// How many relocations section i holds.
+fn relocations_in(object: &[u8], i: usize) -> usize
+    requires { ⌜ TableInside (now object) × (i < sectionCount (now object)) ⌝ }
+    ensures { λ r. ⌜ r ≡ relocationsIn (now (object .entry)) i ⌝ }
+{
+    if is_counting_rela(object, i) {
+        let h = read_section(object, i);
+        return (h.size / 12) as usize;
+    }
+    0
+}
+
+// How many the sections below i hold.
+pub fn relocations_below(object: &[u8], i: usize) -> usize
+    requires { ⌜ TableInside (now object) × (i ≤ sectionCount (now object)) ⌝ }
+    ensures { λ r. ⌜ r ≡ relocationsBelow (now (object .entry)) i ⌝ }
+{
+    let mut total: usize = 0;
+    let mut j: usize = 0;
+    while j < i {
+        total += relocations_in(object, j);
+        j += 1;
+    }
+    total
+}
+
+// Whether no counting RELA below section i has the target.
+fn is_first_for(object: &[u8], i: usize, target: u32) -> bool
+    requires { ⌜ TableInside (now object) × (i < sectionCount (now object)) ⌝ }
+    ensures { λ r. ⌜ r ≡ everywhere (λ j. not (countingRela (now (object .entry)) j && eqb (sectionAt (now (object .entry)) j .info) target)) i ⌝ }
+{
+    let mut j: usize = 0;
+    while j < i {
+        let h = read_section(object, j);
+        if is_counting_rela(object, j) & (h.info == target) {
+            return false;
+        }
+        j += 1;
+    }
+    true
+}
+
+// The rules that look at section i alone.
+fn is_plain_well(object: &[u8], i: usize) -> bool
+    requires { ⌜ TableInside (now object) × (i < sectionCount (now object)) ⌝ }
+    ensures { λ r. ⌜ r ≡ (startsNull (now (object .entry)) i && insideFile (now (object .entry)) i && allocatedWell (now (object .entry)) i) ⌝ }
+{
+    let h = read_section(object, i);
+    let kind = h.kind;
+    let end = h.offset.0 as usize + h.size as usize;
+    let align = h.alignment;
+    let starts = (i != 0) | (kind == 0);
+    let inside = (kind == 0) | (kind == 8) | (end <= object.len());
+    let aligned = (align == 0) | word::one_bit(align);
+    let table = (kind == 2) | (kind == 4) | (kind == 9);
+    starts & inside & (!is_allocated(h) | (aligned & !table))
+}
+
+// The rule of the symbol table.
+fn is_symbol_table_well(object: &[u8], i: usize) -> bool
+    requires { ⌜ TableInside (now object) × (i < sectionCount (now object)) ⌝ }
+    ensures { λ r. ⌜ r ≡ symbolTableWell (now (object .entry)) i ⌝ }
+{
+    let h = read_section(object, i);
+    (h.kind != 2)
+        | ((i == symbol_table(object))
+            & (h.entsize == 16)
+            & (h.size % 16 == 0)
+            & (h.size / 16 <= 1024))
+}
+
+// The rules of RELA and REL sections.
+fn is_relocation_well(object: &[u8], i: usize) -> bool
+    requires { ⌜ TableInside (now object) × (i < sectionCount (now object)) ⌝ }
+    ensures { λ r. ⌜ r ≡ (noCountingRel (now (object .entry)) i && relaWell (now (object .entry)) i && relocationsWell (now (object .entry)) i) ⌝ }
+{
+    let h = read_section(object, i);
+    if !has_target(object, h) {
+        return true;
+    }
+    if h.kind == 9 {
+        return false;
+    }
+    if h.kind != 4 {
+        return true;
+    }
+    let table = symbol_table(object);
+    let info = h.info as usize;
+    (h.entsize == 12)
+        & (h.size % 12 == 0)
+        & (table < section_count(object))
+        & (h.link as usize == table)
+        & is_loaded(read_section(object, info))
+        & is_first_for(object, i, h.info)
+        & (relocations_below(object, i + 1) <= 4096)
+}
+
+// Check 5.
+fn check_sections(object: &[u8]) -> SectionCheck
+    requires { ⌜ 52 ≤ length (now object) ⌝ }
+    ensures { λ r. ⌜ r ≡ sectionCheck (now (object .entry)) ⌝ }
+{
+    if !check_table(object) {
+        return SectionCheck::Broken(0);
+    }
+    let n = section_count(object);
+    let mut i: usize = 0;
+    while i < n {
+        if !(is_plain_well(object, i)
+            & is_symbol_table_well(object, i)
+            & is_relocation_well(object, i)) {
+            return SectionCheck::Broken(i as u32);
+        }
+        i += 1;
+    }
+    SectionCheck::Sound
+}
+
+// Checks 4 and 5.
+pub fn check_object(object: &[u8]) -> ObjectCheck
+    ensures { λ r. ⌜ r ≡ objectCheck (now (object .entry)) ⌝ }
+{
+    if !check_header(object) {
+        return ObjectCheck::BadHeader;
+    }
+    match check_sections(object) {
+        SectionCheck::Sound => ObjectCheck::Passed,
+        SectionCheck::Broken(i) => ObjectCheck::BadSection(i),
+    }
+}
+
+// The bytes of a section, as a part of the object.
+pub fn section_bytes(object: &[u8], h: Section) -> &[u8]
+    requires { ⌜ Inside (now object) (h .offset .0) (h .size) ⌝ }
+    ensures { λ r. ⌜ now r ≡ bytesOf (now (object .entry)) h ⌝ }
+{
+    let from = h.offset.0 as usize;
+    let to = from + h.size as usize;
+    &object[from..to]
+}
+
+// How many symbols there are.
+pub fn symbol_count(object: &[u8]) -> usize
+    requires { ⌜ TableInside (now object) ⌝ }
+    ensures { λ r. ⌜ r ≡ symbolCount (now (object .entry)) ⌝ }
+{
+    let table = symbol_table(object);
+    if section_count(object) <= table {
+        return 0;
+    }
+    let h = read_section(object, table);
+    (h.size / 16) as usize
+}
+
+// Entry k of a SYMTAB section.
+pub fn read_symbol(object: &[u8], table: Section, k: usize) -> Symbol
+    requires { ⌜ Inside (now object) (table .offset .0 + 16 * k) 16 ⌝ }
+    ensures { λ r. ⌜ r ≡ symbolAt (now (object .entry)) table k ⌝ }
+{
+    let at = table.offset.0 as usize + 16 * k;
+    let info = word::read8(object, at + 12);
+    Symbol {
+        value: word::read32(object, at + 4),
+        kind: info % 16,
+        binding: info / 16,
+        section: word::read16(object, at + 14),
+    }
+}
+
+// Entry k of a RELA section.
+pub fn read_relocation(object: &[u8], h: Section, k: usize) -> Relocation
+    requires { ⌜ Inside (now object) (h .offset .0 + 12 * k) 12 ⌝ }
+    ensures { λ r. ⌜ r ≡ relocationAt (now (object .entry)) h k ⌝ }
+{
+    let at = h.offset.0 as usize + 12 * k;
+    let info = word::read32(object, at + 4);
+    Relocation {
+        offset: SectionOffset(word::read32(object, at)),
+        kind: (info % 256) as u8,
+        symbol: info / 256,
+        addend: word::addend(word::read32(object, at + 8)),
+    }
+}
+
+// Where relocation number k is, counted over all counting RELA sections.
+pub fn locate(object: &[u8], k: usize) -> Location
+    requires { ⌜ TableInside (now object) ⌝ }
+    ensures { λ r. ⌜ r ≡ locationOf (now (object .entry)) k ⌝ }
+{
+    let n = section_count(object);
+    let mut below: usize = 0;
+    let mut i: usize = 0;
+    while i < n {
+        let here = relocations_in(object, i);
+        if k < below + here {
+            return Location {
+                section: i,
+                entry: k - below,
+            };
+        }
+        below += here;
+        i += 1;
+    }
+    Location {
+        section: n,
+        entry: k - below,
+    }
+}
