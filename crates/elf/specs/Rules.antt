@@ -50,20 +50,23 @@ noCountingRel s i = not (countingRel s i)
 
 -- "A counting RELA has entry size 12, whole entries, links to the SYMTAB (the lowest, if there are two), and targets a laid row that no
 -- lower counting RELA targets."
-unfoldable pub relaWell : List ℕ → ℕ → Bool
-relaWell s i =
+unfoldable pub relaKept : List ℕ → ℕ → Bool
+relaKept s i =
     let h = sectionAt s i in
-    not (countingRela s i)
-    || (eqb (h .entsize) 12
-    && eqb (h .size % 12) 0
-    && ltb (symbolTable s) (sectionCount s)
-    && eqb (h .link) (symbolTable s)
+    (eqb (h .entsize) 12 && eqb (h .size % 12) 0)
+    && (ltb (symbolTable s) (sectionCount s) && eqb (h .link) (symbolTable s))
     && loaded (sectionAt s (h .info))
-    && everywhere (λ j. not (countingRela s j && eqb (sectionAt s j .info) (h .info))) i)
+    && everywhere (λ j. not (countingRela s j && eqb (sectionAt s j .info) (h .info))) i
+
+unfoldable pub relaWell : List ℕ → ℕ → Bool
+relaWell s i = not (countingRela s i) || relaKept s i
 
 -- "All counting RELA rows together hold at most 4,096 records; the row that passes this is at fault."
+unfoldable pub relocationsKept : List ℕ → ℕ → Bool
+relocationsKept s i = leb (relocationsBelow s (suc i)) maxRelocations
+
 unfoldable pub relocationsWell : List ℕ → ℕ → Bool
-relocationsWell s i = not (countingRela s i) || leb (relocationsBelow s (suc i)) maxRelocations
+relocationsWell s i = not (countingRela s i) || relocationsKept s i
 
 -- section i keeps every rule
 unfoldable pub sectionWell : List ℕ → ℕ → Bool

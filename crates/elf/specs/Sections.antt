@@ -4,7 +4,8 @@ use mathlib.Core.Bool.{Bool, not, cond, _&&_, _||_}
 use mathlib.Core.List.{List}
 use lib.Dec.{leb, ltb, eqb}
 use Rattle.word.specs.Bytes.{leAt}
-use Rattle.word.specs.First.{first, sum}
+use Rattle.word.specs.First.{first}
+use Rattle.word.specs.Sums.{sum}
 use Rattle.elf.specs.declared.Section.{Section}
 use Rattle.elf.specs.Headers.{sectionTable, sectionCount}
 

@@ -22,6 +22,12 @@ pub record TableInside (s : List ℕ) : Type 0 where
   pub few : sectionCount s ≤ 32
   pub inside : sectionTable s + 40 * sectionCount s ≤ length s
 
+-- section i is in the table, and its info names a section of it
+pub record Targeted (s : List ℕ) (i : ℕ) : Type 0 where
+  pub table : TableInside s
+  pub there : i < sectionCount s
+  pub target : sectionAt s i .info < sectionCount s
+
 -- a part of the file of so many bytes
 pub record Inside (s : List ℕ) (at size : ℕ) : Type 0 where
   pub inside : at + size ≤ length s

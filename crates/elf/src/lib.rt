@@ -1,14 +1,14 @@
 // An ELF32 object: its header, sections, symbols and relocations. Everything is read out of the caller's bytes.
 ghost use mathlib.Core.Path.{_≡_};
-ghost use Prim.Native.Nat.{suc, _+_, _*_, _≤_, _<_};
+ghost use Prim.Native.Nat.{_+_, _*_, _^_, _≤_, _<_};
 ghost use mathlib.Core.Bool.{not, _&&_};
 ghost use lib.Dec.{eqb};
 ghost use Rattle.word.specs.First.{everywhere};
 ghost use lib.ListN.{length};
 ghost use Rattle.elf.specs.Headers.{headerAllowed, tableAllowed, sectionTable, sectionCount};
 ghost use Rattle.elf.specs.Sections.{sectionAt, allocated, loaded, symbolTable, targets, countingRel, countingRela, relocationsIn, relocationsBelow};
-ghost use Rattle.elf.specs.Rules.{startsNull, insideFile, allocatedWell, symbolTableWell, noCountingRel, relaWell, relocationsWell, sectionWell, sectionCheck, objectCheck};
-ghost use Rattle.elf.specs.Sound.{HeaderInside, TableInside, Inside};
+ghost use Rattle.elf.specs.Rules.{startsNull, insideFile, allocatedWell, symbolTableWell, noCountingRel, relaKept, relocationsKept, relaWell, relocationsWell, sectionWell, sectionCheck, objectCheck};
+ghost use Rattle.elf.specs.Sound.{HeaderInside, TableInside, Targeted, Inside};
 ghost use Rattle.elf.specs.Entries.{bytesOf, symbolAt, symbolCount, relocationAt, locationOf};
 use word::FileOffset;
 use word::SectionOffset;
@@ -93,7 +93,7 @@ fn check_table(object: &[u8]) -> bool
     requires { ⌜ 52 ≤ length (now object) ⌝ }
     ensures { λ r. ⌜ r ≡ tableAllowed (now (object .entry)) ⌝ }
 {
-    let n = section_count(object);
+    let n = word::read16(object, 48) as usize;
     let start = word::read32(object, 32) as usize;
     (word::read16(object, 46) == 40) & (1 <= n) & (n <= 32) & (start + 40 * n <= object.len())
 }
@@ -171,7 +171,7 @@ pub fn is_counting_rela(object: &[u8], i: usize) -> bool
 // How many relocations section i holds.
 fn relocations_in(object: &[u8], i: usize) -> usize
     requires { ⌜ TableInside (now object) × (i < sectionCount (now object)) ⌝ }
-    ensures { λ r. ⌜ r ≡ relocationsIn (now (object .entry)) i ⌝ }
+    ensures { λ r. ⌜ (r ≡ relocationsIn (now (object .entry)) i) × (r < 2 ^ 32) ⌝ }
 {
     if is_counting_rela(object, i) {
         let h = read_section(object, i);
@@ -239,6 +239,23 @@ fn is_symbol_table_well(object: &[u8], i: usize) -> bool
             & (h.size / 16 <= 1024))
 }
 
+// The rules of a counting RELA.
+fn is_rela_kept(object: &[u8], i: usize) -> bool
+    requires { ⌜ Targeted (now object) i ⌝ }
+    ensures { λ r. ⌜ r ≡ (relaKept (now (object .entry)) i && relocationsKept (now (object .entry)) i) ⌝ }
+{
+    let h = read_section(object, i);
+    let table = symbol_table(object);
+    let target = read_section(object, h.info as usize);
+    let sized = (h.entsize == 12) & (h.size % 12 == 0);
+    let linked = (table < section_count(object)) & (h.link as usize == table);
+    sized
+        & linked
+        & is_loaded(target)
+        & is_first_for(object, i, h.info)
+        & (relocations_below(object, i + 1) <= 4096)
+}
+
 // The rules of RELA and REL sections.
 fn is_relocation_well(object: &[u8], i: usize) -> bool
     requires { ⌜ TableInside (now object) × (i < sectionCount (now object)) ⌝ }
@@ -254,15 +271,7 @@ fn is_relocation_well(object: &[u8], i: usize) -> bool
     if h.kind != 4 {
         return true;
     }
-    let table = symbol_table(object);
-    let info = h.info as usize;
-    (h.entsize == 12)
-        & (h.size % 12 == 0)
-        & (table < section_count(object))
-        & (h.link as usize == table)
-        & is_loaded(read_section(object, info))
-        & is_first_for(object, i, h.info)
-        & (relocations_below(object, i + 1) <= 4096)
+    is_rela_kept(object, i)
 }
 
 // Check 5.

@@ -1,5 +1,5 @@
--- The first broken place, what holds at each place, lists and sums by their places. Assumes nothing: these are definitions.
-use Prim.Native.Nat.{ℕ, zero, suc, _+_}
+-- The first broken place, what holds at each place, and lists by their places. Assumes nothing: these are definitions.
+use Prim.Native.Nat.{ℕ, zero, suc}
 use mathlib.Core.Bool.{Bool, cond, not}
 use mathlib.Core.List.{List, [], _∷_}
 use lib.Dec.{eqb}
@@ -17,8 +17,3 @@ everywhere p n = eqb (first (λ j. not (p j)) n) n
 unfoldable pub tabulate : {A : Type 0} → (ℕ → A) → ℕ → List A
 tabulate f zero = []
 tabulate f (suc n) = f zero ∷ tabulate (λ j. f (suc j)) n
-
--- the sum of f's values at 0 up to n
-unfoldable pub sum : (ℕ → ℕ) → ℕ → ℕ
-sum f zero = zero
-sum f (suc n) = sum f n + f n

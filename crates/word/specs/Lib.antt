@@ -2,3 +2,4 @@ pub mod Bytes
 pub mod First
 pub mod Whole
 pub mod Powers
+pub mod Sums

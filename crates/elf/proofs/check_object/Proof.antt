@@ -1,0 +1,60 @@
+-- `elf::check_object` meets its contract. Assumes nothing.
+use mathlib.Core.Path.{_≡_, sym, ap, _∙_}
+use mathlib.Core.Bool.{true, false}
+use borrow.Author.Tests.{not-true, not-false}
+use Rattle.elf.specs.declared.SectionCheck.the-variants.{Sound}
+use Rattle.elf.specs.Headers.{headerAllowed}
+use Rattle.elf.specs.Rules.{sectionCheck, afterHeader, objectCheck}
+use Rattle.elf.proofs.Laws.Tables.{header-long}
+use borrow.Author.Needs.{needs}
+use Rattle.elf.proofs.check_object.Statement.{statement}
+use Rattle.elf.proofs.check_object.Tie as tie
+
+check-header-requires : tie.Need-check-header-requires
+check-header-requires c κs = search needs
+
+returns : tie.Need-returns
+unfolding objectCheck
+returns c = 
+    let s = c .before .before .before .args .object .now in
+    let broken : headerAllowed s ≡ false = sym (c .before .check-header .ensures) ∙ not-true _ (c .if1 .taken) in
+    rw broken
+
+check-sections-requires : tie.Need-check-sections-requires
+check-sections-requires c κs = 
+    let s = c .before .before .before .args .object .now in
+    let allowed : headerAllowed s ≡ true = sym (c .before .check-header .ensures) ∙ not-false _ (c .if1 .left) in
+    header-long s allowed
+
+enum-told : tie.Need-enum-told
+enum-told c = search needs
+
+enum-known-i : tie.Need-enum-known-i
+enum-known-i c = search needs
+
+returns-2 : tie.Need-returns-2
+unfolding objectCheck
+returns-2 c = 
+    let s = c .before .before .before .before .before .before .args .object .now in
+    let allowed : headerAllowed s ≡ true = sym (c .before .before .before .before .check-header .ensures) ∙ not-false _ (c .before .before .before .if1 .left) in
+    let found : sectionCheck s ≡ Sound = sym (c .before .before .check-sections .ensures) ∙ c .enum-told .given .1 in
+    rw (allowed, found)
+
+returns-3 : tie.Need-returns-3
+unfolding objectCheck
+returns-3 c = 
+    let s = c .before .before .before .before .before .before .before .args .object .now in
+    let allowed : headerAllowed s ≡ true = sym (c .before .before .before .before .before .check-header .ensures) ∙ not-false _ (c .before .before .before .before .if1 .left) in
+    rw allowed (ap afterHeader (sym (c .before .i .given .1) ∙ c .before .before .before .check-sections .ensures))
+
+pub check-object-spec : {M : Type 1} → statement M
+check-object-spec =
+    tie.close
+    (tie.spec
+    check-header-requires
+    returns
+    check-sections-requires
+    enum-told
+    enum-known-i
+    returns-2
+    returns-3)

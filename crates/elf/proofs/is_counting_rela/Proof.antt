@@ -1,0 +1,18 @@
+-- `elf::is_counting_rela` meets its contract. Assumes nothing.
+use Rattle.elf.specs.Sections.{countingRela}
+use borrow.Author.Needs.{needs}
+use Rattle.elf.proofs.is_counting_rela.Statement.{statement}
+use Rattle.elf.proofs.is_counting_rela.Tie as tie
+
+read-section-requires : tie.Need-read-section-requires
+read-section-requires c κs = search needs
+
+has-target-requires : tie.Need-has-target-requires
+has-target-requires c κs = search needs
+
+returns : tie.Need-returns
+unfolding countingRela
+returns c = rw (c .has-target .ensures, c .before .before .read-section .ensures)
+
+pub is-counting-rela-spec : {M : Type 1} → statement M
+is-counting-rela-spec = tie.close (tie.spec read-section-requires has-target-requires returns)

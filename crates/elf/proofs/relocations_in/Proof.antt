@@ -1,0 +1,35 @@
+-- `elf::relocations_in` meets its contract. Assumes nothing.
+use mathlib.Core.Path.{_≡_, sym, ap, _∙_}
+use Prim.Native.Nat.{_/_}
+use mathlib.Core.Bool.{true, false}
+use native.Mathlib.Omega.{arith}
+use Rattle.elf.specs.Sections.{countingRela, relocationsIn}
+use borrow.Author.Needs.{needs}
+use Rattle.elf.proofs.relocations_in.Statement.{statement}
+use Rattle.elf.proofs.relocations_in.Tie as tie
+
+is-counting-rela-requires : tie.Need-is-counting-rela-requires
+is-counting-rela-requires c κs = search needs
+
+read-section-requires : tie.Need-read-section-requires
+read-section-requires c κs = search needs
+
+cast-result : tie.Need-cast-result
+cast-result c = search needs
+
+returns : tie.Need-returns
+unfolding relocationsIn
+returns c = 
+    let counts : countingRela (c .before .before .before .before .before .args .object .now) (c .before .before .before .before .before .args .i) ≡ true = sym (c .before .before .before .is-counting-rela .ensures) ∙ c .before .before .if1 .taken in
+    (rw counts (ap (λ h. h .size / 12) (c .before .read-section .ensures)), omega arith)
+
+returns-2 : tie.Need-returns-2
+unfolding relocationsIn
+returns-2 c = 
+    let counts : countingRela (c .before .before .before .args .object .now) (c .before .before .before .args .i) ≡ false = sym (c .before .is-counting-rela .ensures) ∙ c .if1 .left in
+    (rw counts, omega arith)
+
+pub relocations-in-spec : {M : Type 1} → statement M
+relocations-in-spec =
+    tie.close
+    (tie.spec is-counting-rela-requires read-section-requires cast-result returns returns-2)

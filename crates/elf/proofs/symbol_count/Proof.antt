@@ -1,0 +1,48 @@
+-- `elf::symbol_count` meets its contract. Assumes nothing.
+use mathlib.Core.Path.{ap, _∙_}
+use Prim.Native.Nat.{_/_, _≤_, _<_}
+use native.Mathlib.Omega.{arith}
+use borrow.Author.Tests.{lt-ltb, le-ltb}
+use Rattle.elf.specs.Headers.{sectionCount}
+use Rattle.elf.specs.Sections.{sectionAt, symbolTable}
+use Rattle.elf.specs.Entries.{symbolCount}
+use borrow.Author.Needs.{needs}
+use Rattle.elf.proofs.symbol_count.Statement.{statement}
+use Rattle.elf.proofs.symbol_count.Tie as tie
+
+symbol-table-requires : tie.Need-symbol-table-requires
+symbol-table-requires c κs = search needs
+
+section-count-requires : tie.Need-section-count-requires
+section-count-requires c κs = search needs
+
+returns : tie.Need-returns
+unfolding symbolCount
+returns c = 
+    let s = c .before .before .before .before .args .object .now in
+    let out : sectionCount s ≤ symbolTable s = omega arith in
+    rw (le-ltb _ _ out)
+
+read-section-requires : tie.Need-read-section-requires
+read-section-requires c κs = search needs
+
+cast-result : tie.Need-cast-result
+cast-result c = search needs
+
+returns-2 : tie.Need-returns-2
+unfolding symbolCount
+returns-2 c = 
+    let s = c .before .before .before .before .before .before .args .object .now in
+    let there : symbolTable s < sectionCount s = omega arith in
+    rw (lt-ltb _ _ there) (ap (λ h. h .size / 16) (c .before .read-section .ensures) ∙ ap (λ i. sectionAt s i .size / 16) (c .before .before .before .before .symbol-table .ensures))
+
+pub symbol-count-spec : {M : Type 1} → statement M
+symbol-count-spec =
+    tie.close
+    (tie.spec
+    symbol-table-requires
+    section-count-requires
+    returns
+    read-section-requires
+    cast-result
+    returns-2)
