@@ -2,6 +2,7 @@
 ghost use Prim.Native.Nat.{_<_};
 use riscv::fields::Field;
 use riscv::fields::Width;
+use riscv::ranges::Range;
 
 pub fn width(number: u64) -> Width {
     match number {
@@ -53,30 +54,13 @@ pub fn edge(width: u64, number: u64) -> u64 {
     }
 }
 
-// The ends of a range.
-pub struct Ends {
-    pub back: u32,
-    pub ahead: u32,
-}
-
-pub fn range(number: u64) -> Ends {
+// The range of a jump or branch.
+pub fn range(number: u64) -> Range {
     match number {
-        0 => Ends {
-            back: riscv::ranges::BRANCH_BACK,
-            ahead: riscv::ranges::BRANCH_AHEAD,
-        },
-        1 => Ends {
-            back: riscv::ranges::JAL_BACK,
-            ahead: riscv::ranges::JAL_AHEAD,
-        },
-        2 => Ends {
-            back: riscv::ranges::RVC_BRANCH_BACK,
-            ahead: riscv::ranges::RVC_BRANCH_AHEAD,
-        },
-        _ => Ends {
-            back: riscv::ranges::RVC_JUMP_BACK,
-            ahead: riscv::ranges::RVC_JUMP_AHEAD,
-        },
+        0 => riscv::ranges::range_of(Field::B),
+        1 => riscv::ranges::range_of(Field::J),
+        2 => riscv::ranges::range_of(Field::Cb),
+        _ => riscv::ranges::range_of(Field::Cj),
     }
 }
 
@@ -87,7 +71,7 @@ pub struct Jump {
 }
 
 // Jumps to an end, one byte and two past it, to themselves, and once around the address space.
-pub fn case(ends: Ends, number: u64) -> Jump {
+pub fn case(ends: Range, number: u64) -> Jump {
     if number == 7 {
         return Jump {
             t: 0xffff_fffe,

@@ -84,7 +84,7 @@ pub fn reach(number: u64, place: u64) {
     first(b'r', number);
     then(jump.t as u64);
     then(jump.p as u64);
-    flag(riscv::ranges::in_reach(ends.back, ends.ahead, jump.t, jump.p));
+    flag(riscv::ranges::in_reach(ends, jump.t, jump.p));
     end();
 }
 
