@@ -73,16 +73,22 @@ pub fn read_order(order: &[u8]) -> Reading
     if order.len() < 16 {
         return Reading::Malformed;
     }
+    if word::read32(order, 0) != 1 {
+        return Reading::Malformed;
+    }
     let placements = word::read32(order, 8) as usize;
-    if (word::read32(order, 0) != 1) | (MAX_PLACEMENTS < placements) {
+    if MAX_PLACEMENTS < placements {
         return Reading::Malformed;
     }
     let start = 16 + 8 * placements;
     if order.len() < start {
         return Reading::Malformed;
     }
-    let externals = word::read32(order, start - 4) as usize;
-    if (MAX_EXTERNALS < externals) | (order.len() != start + 8 * externals) {
+    let externals = word::read32(order, 12 + 8 * placements) as usize;
+    if MAX_EXTERNALS < externals {
+        return Reading::Malformed;
+    }
+    if order.len() != start + 8 * externals {
         return Reading::Malformed;
     }
     if !ascends(order, 12, placements) {

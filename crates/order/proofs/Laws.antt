@@ -1,0 +1,5 @@
+-- The laws of the definitions in specs/.
+pub mod Ascending
+pub mod Sound
+pub mod Values
+pub mod Array
