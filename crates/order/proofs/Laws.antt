@@ -3,3 +3,6 @@ pub mod Ascending
 pub mod Sound
 pub mod Values
 pub mod Array
+pub mod Placed
+pub mod Encoding
+pub mod Bench
