@@ -160,7 +160,7 @@ pub fn placed_at(order: &[u8], counts: Counts, section: u32) -> Value
     find(order, 12, counts.placements, section)
 }
 
-// The sections' addresses, in the order's first n placements; 0, which means nothing, for a section that is not among them.
+// The address of each section below 32; 0, which means nothing, for one that the order does not place.
 pub fn address_array(order: &[u8], counts: Counts) -> [u32; 32]
     requires { ⌜ reading (now order) ≡ Reading.WellFormed counts ⌝ }
     ensures { λ r. ⌜ r ≡ addresses (now (order .entry)) ⌝ }
