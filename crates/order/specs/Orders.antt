@@ -5,16 +5,14 @@
 --     externals     count at most 1,024; symbol u32, value u32         (document 01: outside values)
 --
 -- "Both lists strictly ascending by index; no byte left over."
-use Prim.Native.Nat.{ℕ, suc, _+_, _-_, _*_, _^_, _≤_, _<_}
-use mathlib.Core.Path.{_≡_}
-use mathlib.Core.Bool.{Bool, true, cond, _&&_}
+use Prim.Native.Nat.{ℕ, suc, _+_, _-_, _*_}
+use mathlib.Core.Bool.{Bool, cond, _&&_}
 use mathlib.Core.List.{List, [], _∷_, _++_}
 use lib.ListN.{length}
 use lib.Dec.{leb, ltb, eqb}
 use Rattle.word.specs.Bytes.{leAt, bytes}
 use Rattle.word.specs.First.{first, everywhere, tabulate}
 use Rattle.order.specs.declared.Entry.{Entry}
-use Rattle.order.specs.declared.Counts.{Counts}
 use Rattle.order.specs.declared.Reading.{Reading}
 use Rattle.order.specs.declared.Reading.the-variants.{Malformed, WellFormed}
 use Rattle.order.specs.declared.Value.{Value}

@@ -47,7 +47,6 @@ encode-orderOf s b w =
     let p : ℕ = placementCount s in
     let e : ℕ = externalCount s in
     let one : bytes 4 1 ≡ part s 0 4 = ap (bytes 4) (sym (k .one)) ∙ bytes-leAt 4 s 0 b (omega arith) in
-    let count : 12 + 8 * p + 4 ≡ 16 + 8 * p = omega arith in
     rw (
       one,
       length-tabulate (placement s) p,

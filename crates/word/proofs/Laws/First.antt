@@ -1,5 +1,5 @@
 -- The laws of `first`, `everywhere` and `tabulate`. Assumes nothing.
-use mathlib.Core.Path.{_≡_, refl, ap, _∙_}
+use mathlib.Core.Path.{_≡_, refl, ap}
 use Prim.Native.Nat.{ℕ, zero, suc, _≤_, _<_}
 use mathlib.Core.Bool.{Bool, true, false, cond, not}
 use native.Mathlib.Omega.{arith}
@@ -53,12 +53,6 @@ first-at p (suc n) h = go (p zero) refl h (first-at (λ j. p (suc j)) n)
     go : (b : Bool) → p zero ≡ b → cond b zero (suc F) < suc n → (F < n → p (suc F) ≡ true) → p (cond b zero (suc F)) ≡ true
     go true e l rest = e
     go false e l rest = rest (omega arith)
-
--- tests that agree below n have one first index
-pub first-same : (p q : ℕ → Bool) (n : ℕ) → ((j : ℕ) → j < n → p j ≡ q j) → first p n ≡ first q n
-first-same p q n e =
-    first-is p n (first q n) (first-le q n) (λ j h. e j (omega (arith, first-le q n)) ∙ first-below q n j h)
-    (λ h. e (first q n) h ∙ first-at q n h)
 
 -- ---- everywhere
 
