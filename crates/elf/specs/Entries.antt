@@ -1,7 +1,7 @@
 -- Symbols and relocations, a section's bytes, and the relocations' numbers over all counting RELA sections. Assumes nothing: these are
 -- definitions.
 use Prim.Native.Nat.{ℕ, suc, _+_, _-_, _*_, _/_, _%_}
-use mathlib.Core.Bool.{Bool, cond}
+use mathlib.Core.Bool.{cond}
 use mathlib.Core.List.{List}
 use lib.Dec.{ltb}
 use Rattle.word.specs.Bytes.{leAt, part}
@@ -12,7 +12,7 @@ use Rattle.elf.specs.declared.Symbol.{Symbol}
 use Rattle.elf.specs.declared.Relocation.{Relocation}
 use Rattle.elf.specs.declared.Location.{Location}
 use Rattle.elf.specs.Headers.{sectionCount}
-use Rattle.elf.specs.Sections.{sectionAt, symbolTable, relocationsIn, relocationsBelow}
+use Rattle.elf.specs.Sections.{sectionAt, symbolTable, relocationsBelow}
 
 -- the bytes of a section that has bytes in the file
 unfoldable pub bytesOf : List ℕ → Section → List ℕ

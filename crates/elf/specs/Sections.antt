@@ -1,8 +1,8 @@
 -- Section headers (document 01: rows), and which sections are allocated, loaded and counted. Assumes nothing: these are definitions.
 use Prim.Native.Nat.{ℕ, _+_, _*_, _/_, _%_}
-use mathlib.Core.Bool.{Bool, not, cond, _&&_, _||_}
+use mathlib.Core.Bool.{Bool, not, cond, _&&_}
 use mathlib.Core.List.{List}
-use lib.Dec.{leb, ltb, eqb}
+use lib.Dec.{ltb, eqb}
 use Rattle.word.specs.Bytes.{leAt}
 use Rattle.word.specs.First.{first}
 use Rattle.word.specs.Sums.{sum}

@@ -2,12 +2,10 @@
 use Prim.Native.Nat.{ℕ}
 use mathlib.Core.Bool.{Bool, _&&_}
 use lib.IntN.{ℤ, pos, _-ℤ_}
+use Rattle.riscv.specs.declared.fields.Field.{Field}
+use Rattle.riscv.specs.declared.fields.Field.the-variants.{U, I, S, B, J, Cb, Cj, Call, Data}
+use Rattle.riscv.specs.declared.ranges.Range.{Range}
 use Rattle.word.specs.Whole.{within, even}
-
--- distances from -back to ahead
-pub record Range : Type 0 where
-  pub back : ℕ
-  pub ahead : ℕ
 
 -- "For jumps and branches the distance is the whole number T - P"
 abbrev pub distance : ℕ → ℕ → ℤ
@@ -26,6 +24,22 @@ rvcBranch = record { back = 256; ahead = 254 }
 
 abbrev pub rvcJump : Range
 rvcJump = record { back = 2048; ahead = 2046 }
+
+-- other fields hold every distance between two addresses; a CALL's is still even
+abbrev pub anywhere : Range
+anywhere = record { back = 0xFFFFFFFF; ahead = 0xFFFFFFFF }
+
+-- the range of a field
+abbrev pub rangeOf : Field → Range
+rangeOf B = branch
+rangeOf J = jal
+rangeOf Cb = rvcBranch
+rangeOf Cj = rvcJump
+rangeOf U = anywhere
+rangeOf I = anywhere
+rangeOf S = anywhere
+rangeOf Call = anywhere
+rangeOf (Data width) = anywhere
 
 -- a distance is even and within a range
 unfoldable pub reaches : Range → ℤ → Bool

@@ -1,33 +1,62 @@
 // How far jumps and branches reach.
 ghost use mathlib.Core.Path.{_≡_};
-ghost use Rattle.riscv.specs.Ranges.{distance, reaches};
+ghost use Rattle.riscv.specs.Ranges.{distance, anywhere, rangeOf, reaches};
+use super::fields::Field;
 
-// The ends of each range, back and ahead.
-pub const BRANCH_BACK: u32 = 4096;
+// Distances from -back to ahead.
+pub struct Range {
+    pub back: u32,
+    pub ahead: u32,
+}
 
-pub const BRANCH_AHEAD: u32 = 4094;
+// The range of a field: that of its jump or branch, or every distance.
+pub fn range_of(field: Field) -> Range
+    ensures { λ r. ⌜ r ≡ rangeOf field ⌝ }
+{
+    match field {
+        Field::B => Range {
+            back: 4096,
+            ahead: 4094,
+        },
+        Field::J => Range {
+            back: 1048576,
+            ahead: 1048574,
+        },
+        Field::Cb => Range {
+            back: 256,
+            ahead: 254,
+        },
+        Field::Cj => Range {
+            back: 2048,
+            ahead: 2046,
+        },
+        Field::U => every_distance(),
+        Field::I => every_distance(),
+        Field::S => every_distance(),
+        Field::Call => every_distance(),
+        Field::Data(_) => every_distance(),
+    }
+}
 
-pub const JAL_BACK: u32 = 1048576;
+// The range that has every distance between two addresses.
+fn every_distance() -> Range
+    ensures { λ r. ⌜ r ≡ anywhere ⌝ }
+{
+    Range {
+        back: 0xffff_ffff,
+        ahead: 0xffff_ffff,
+    }
+}
 
-pub const JAL_AHEAD: u32 = 1048574;
-
-pub const RVC_BRANCH_BACK: u32 = 256;
-
-pub const RVC_BRANCH_AHEAD: u32 = 254;
-
-pub const RVC_JUMP_BACK: u32 = 2048;
-
-pub const RVC_JUMP_AHEAD: u32 = 2046;
-
-// Whether the distance from p to t is even and from -back to ahead.
-pub fn in_reach(back: u32, ahead: u32, t: u32, p: u32) -> bool
-    ensures { λ r. ⌜ r ≡ reaches (record { back = back; ahead = ahead }) (distance t p) ⌝ }
+// Whether the distance from p to t is even and within a range.
+pub fn in_reach(range: Range, t: u32, p: u32) -> bool
+    ensures { λ r. ⌜ r ≡ reaches range (distance t p) ⌝ }
 {
     if p <= t {
         let d = t - p;
-        (d % 2 == 0) & (d <= ahead)
+        (d % 2 == 0) & (d <= range.ahead)
     } else {
         let d = p - t;
-        (d % 2 == 0) & (d <= back)
+        (d % 2 == 0) & (d <= range.back)
     }
 }

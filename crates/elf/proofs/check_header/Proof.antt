@@ -1,6 +1,5 @@
 -- `elf::check_header` meets its contract. Assumes nothing.
 use Rattle.word.proofs.Laws.Bytes.{leAt-one}
--- `elf::check_header` meets its contract. Assumes nothing.
 use borrow.Author.Tests.{le-leb, lt-leb}
 use Rattle.elf.specs.Headers.{headerAllowed}
 use borrow.Author.Needs.{needs}
@@ -41,7 +40,7 @@ read16-requires-3 c κs = search needs
 
 returns-3 : tie.Need-returns-3
 unfolding headerAllowed
-returns-3 c = 
+returns-3 c =
     let s = c .before .before .before .before .before .before .before .before .before .before .before .args .object in
     simp (le-leb _ _ (c .before .before .before .before .before .before .before .before .before .if1 .left), le-leb _ _ (c .before .before .before .before .before .before .before .before .if2 .left)) (cc (leAt-one (s .now) 4, leAt-one (s .now) 5, leAt-one (s .now) 6))
 

@@ -15,13 +15,13 @@ check-header-requires c κs = search needs
 
 returns : tie.Need-returns
 unfolding objectCheck
-returns c = 
+returns c =
     let s = c .before .before .before .args .object .now in
     let broken : headerAllowed s ≡ false = sym (c .before .check-header .ensures) ∙ not-true _ (c .if1 .taken) in
     rw broken
 
 check-sections-requires : tie.Need-check-sections-requires
-check-sections-requires c κs = 
+check-sections-requires c κs =
     let s = c .before .before .before .args .object .now in
     let allowed : headerAllowed s ≡ true = sym (c .before .check-header .ensures) ∙ not-false _ (c .if1 .left) in
     header-long s allowed
@@ -34,7 +34,7 @@ enum-known-i c = search needs
 
 returns-2 : tie.Need-returns-2
 unfolding objectCheck
-returns-2 c = 
+returns-2 c =
     let s = c .before .before .before .before .before .before .args .object .now in
     let allowed : headerAllowed s ≡ true = sym (c .before .before .before .before .check-header .ensures) ∙ not-false _ (c .before .before .before .if1 .left) in
     let found : sectionCheck s ≡ Sound = sym (c .before .before .check-sections .ensures) ∙ c .enum-told .given .1 in
@@ -42,7 +42,7 @@ returns-2 c =
 
 returns-3 : tie.Need-returns-3
 unfolding objectCheck
-returns-3 c = 
+returns-3 c =
     let s = c .before .before .before .before .before .before .before .args .object .now in
     let allowed : headerAllowed s ≡ true = sym (c .before .before .before .before .before .check-header .ensures) ∙ not-false _ (c .before .before .before .before .if1 .left) in
     rw allowed (ap afterHeader (sym (c .before .i .given .1) ∙ c .before .before .before .check-sections .ensures))

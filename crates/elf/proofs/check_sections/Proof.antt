@@ -31,32 +31,32 @@ loop-holds : tie.Need-loop-holds Inv-loop μ-loop
 loop-holds c = (omega arith, λ j h. absurd (omega arith))
 
 is-plain-well-requires : tie.Need-is-plain-well-requires Inv-loop μ-loop
-is-plain-well-requires c κs = 
+is-plain-well-requires c κs =
     let s = c .before .before .before .before .before .before .args .object .now in
     let allowed : tableAllowed s ≡ true = sym (c .before .before .before .before .check-table .ensures) ∙ not-false _ (c .before .before .before .if1 .left) in
     (table-inside s (c .before .before .before .before .before .before .pre) allowed, omega arith)
 
 is-symbol-table-well-requires : tie.Need-is-symbol-table-well-requires Inv-loop μ-loop
-is-symbol-table-well-requires c κs = 
+is-symbol-table-well-requires c κs =
     let s = c .before .before .before .before .before .before .before .args .object .now in
     let allowed : tableAllowed s ≡ true = sym (c .before .before .before .before .before .check-table .ensures) ∙ not-false _ (c .before .before .before .before .if1 .left) in
     (table-inside s (c .before .before .before .before .before .before .before .pre) allowed, omega arith)
 
 is-relocation-well-requires : tie.Need-is-relocation-well-requires Inv-loop μ-loop
-is-relocation-well-requires c κs = 
+is-relocation-well-requires c κs =
     let s = c .before .before .before .before .before .before .before .before .args .object .now in
     let allowed : tableAllowed s ≡ true = sym (c .before .before .before .before .before .before .check-table .ensures) ∙ not-false _ (c .before .before .before .before .before .if1 .left) in
     (table-inside s (c .before .before .before .before .before .before .before .before .pre) allowed, omega arith)
 
 cast-t12 : tie.Need-cast-t12 Inv-loop μ-loop
-cast-t12 c = 
+cast-t12 c =
     let s = c .before .before .before .before .before .before .before .before .before .before .args .object .now in
     let allowed : tableAllowed s ≡ true = sym (c .before .before .before .before .before .before .before .before .check-table .ensures) ∙ not-false _ (c .before .before .before .before .before .before .before .if1 .left) in
     let few = table-inside s (c .before .before .before .before .before .before .before .before .before .before .pre) allowed .few in
     omega arith
 
 returns-2 : tie.Need-returns-2 Inv-loop μ-loop
-returns-2 c = 
+returns-2 c =
     let s = c .before .before .before .before .before .before .before .before .before .before .args .object .now in
     let allowed : tableAllowed s ≡ true = sym (c .before .before .before .before .before .before .before .before .check-table .ensures) ∙ not-false _ (c .before .before .before .before .before .before .before .if1 .left) in
     let at = c .before .before .before .before .before .loop in
@@ -70,14 +70,14 @@ loop-less : tie.Need-loop-less Inv-loop μ-loop
 loop-less c = search needs
 
 loop-again : tie.Need-loop-again Inv-loop μ-loop
-loop-again c = 
+loop-again c =
     let s = c .before .before .before .before .before .before .before .before .before .before .args .object .now in
     let at = c .before .before .before .before .before .loop in
     let well : sectionWell s (at .i) ≡ true = section-well s (at .i) ∙ rw (← (c .before .before .before .is-plain-well .ensures), ← (c .before .before .is-symbol-table-well .ensures), ← (c .before .is-relocation-well .ensures)) (not-false _ (c .if2 .left)) in
     (search needs, below-more _ _ (at .inv .1) (ap not well))
 
 returns-3 : tie.Need-returns-3 Inv-loop μ-loop
-returns-3 c = 
+returns-3 c =
     let s = c .before .before .before .before .before .before .args .object .now in
     let allowed : tableAllowed s ≡ true = sym (c .before .before .before .before .check-table .ensures) ∙ not-false _ (c .before .before .before .if1 .left) in
     let at = c .before .loop in

@@ -16,7 +16,7 @@ section-count-requires c κs = search needs
 
 returns : tie.Need-returns
 unfolding targets
-returns c = 
+returns c =
     let a = c .before .before .before .before .args in
     let out : sectionCount (a .object .now) ≤ a .h .info = omega arith in
     rw (le-ltb _ _ out)
@@ -29,7 +29,7 @@ is-allocated-requires c κs = search needs
 
 returns-2 : tie.Need-returns-2
 unfolding targets
-returns-2 c = 
+returns-2 c =
     let a = c .before .before .before .before .before .before .args in
     let in-table : a .h .info < sectionCount (a .object .now) = omega arith in
     rw (lt-ltb _ _ in-table) (cc)

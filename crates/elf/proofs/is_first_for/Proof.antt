@@ -27,7 +27,7 @@ is-counting-rela-requires : tie.Need-is-counting-rela-requires Inv-loop μ-loop
 is-counting-rela-requires c κs = search needs
 
 returns : tie.Need-returns Inv-loop μ-loop
-returns c = 
+returns c =
     let s = c .before .before .before .before .before .before .before .args .object .now in
     let at = c .before .before .before .before .before .loop in
     let t = c .before .before .before .before .before .before .before .args .target in
@@ -41,7 +41,7 @@ loop-less : tie.Need-loop-less Inv-loop μ-loop
 loop-less c = search needs
 
 loop-again : tie.Need-loop-again Inv-loop μ-loop
-loop-again c = 
+loop-again c =
     let s = c .before .before .before .before .before .before .before .args .object .now in
     let at = c .before .before .before .before .before .loop in
     let t = c .before .before .before .before .before .before .before .args .target in
@@ -49,7 +49,7 @@ loop-again c =
     (search needs, below-more _ _ (at .inv .1) (ap not other))
 
 returns-2 : tie.Need-returns-2 Inv-loop μ-loop
-returns-2 c = 
+returns-2 c =
     let at = c .before .loop in
     let end : at .j ≡ c .before .before .before .args .i = omega arith in
     sym (everywhere-is _ (c .before .before .before .args .i) (λ k h. at .inv .1 k (omega arith)))

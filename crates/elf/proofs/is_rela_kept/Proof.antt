@@ -2,7 +2,6 @@
 use Prim.Native.Nat.{_<_}
 use native.Mathlib.Omega.{arith}
 use Rattle.elf.specs.Headers.{sectionCount}
--- `elf::is_rela_kept` meets its contract. Assumes nothing.
 use native.Mathlib.Numerals.{add-one}
 use Rattle.elf.specs.Rules.{relaKept, relocationsKept}
 use borrow.Author.Needs.{needs}
@@ -19,7 +18,7 @@ cast-read-section : tie.Need-cast-read-section
 cast-read-section c = search needs
 
 read-section-requires-2 : tie.Need-read-section-requires-2
-read-section-requires-2 c κs = 
+read-section-requires-2 c κs =
     let a = c .before .before .before .before .args in
     let target : c .before .before .read-section .result .info < sectionCount (a .object .now) = rw (c .before .before .read-section .ensures) (c .before .before .before .before .pre .target) in
     record { header = omega arith; inside = omega arith }

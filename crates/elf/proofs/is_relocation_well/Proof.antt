@@ -15,34 +15,34 @@ has-target-requires : tie.Need-has-target-requires
 has-target-requires c κs = search needs
 
 returns : tie.Need-returns
-returns c = 
+returns c =
     let s = c .before .before .before .before .args .object .now in
     let i = c .before .before .before .before .args .i in
     let t : targets s (sectionAt s i) ≡ false = sym (ap (targets s) (c .before .before .read-section .ensures)) ∙ sym (c .before .has-target .ensures) ∙ not-true _ (c .if1 .taken) in
     sym (well-untargeted s i t)
 
 returns-2 : tie.Need-returns-2
-returns-2 c = 
+returns-2 c =
     let s = c .before .before .before .before .before .before .args .object .now in
     let i = c .before .before .before .before .before .before .args .i in
     let t : targets s (sectionAt s i) ≡ true = sym (ap (targets s) (c .before .before .before .before .read-section .ensures)) ∙ sym (c .before .before .before .has-target .ensures) ∙ not-false _ (c .before .before .if1 .left) in
     sym (broken-rel s i t (sym (ap (λ h. h .kind) (c .before .before .before .before .read-section .ensures)) ∙ c .if2 .taken))
 
 returns-3 : tie.Need-returns-3
-returns-3 c = 
+returns-3 c =
     let s = c .before .before .before .before .before .before .before .before .args .object .now in
     let i = c .before .before .before .before .before .before .before .before .args .i in
     sym (well-other s i (λ e. c .before .before .if2 .left (ap (λ h. h .kind) (c .before .before .before .before .before .before .read-section .ensures) ∙ e)) (λ e. c .if3 .taken (ap (λ h. h .kind) (c .before .before .before .before .before .before .read-section .ensures) ∙ e)))
 
 is-rela-kept-requires : tie.Need-is-rela-kept-requires
-is-rela-kept-requires c κs = 
+is-rela-kept-requires c κs =
     let s = c .before .before .before .before .before .before .before .before .args .object .now in
     let i = c .before .before .before .before .before .before .before .before .args .i in
     let t : targets s (sectionAt s i) ≡ true = sym (ap (targets s) (c .before .before .before .before .before .before .read-section .ensures)) ∙ sym (c .before .before .before .before .before .has-target .ensures) ∙ not-false _ (c .before .before .before .before .if1 .left) in
     record { table = c .before .before .before .before .before .before .before .before .pre .0; there = c .before .before .before .before .before .before .before .before .pre .1; target = target-inside s (sectionAt s i) t }
 
 returns-4 : tie.Need-returns-4
-returns-4 c = 
+returns-4 c =
     let s = c .before .before .before .before .before .before .before .before .before .args .object .now in
     let i = c .before .before .before .before .before .before .before .before .before .args .i in
     let t : targets s (sectionAt s i) ≡ true = sym (ap (targets s) (c .before .before .before .before .before .before .before .read-section .ensures)) ∙ sym (c .before .before .before .before .before .before .has-target .ensures) ∙ not-false _ (c .before .before .before .before .before .if1 .left) in

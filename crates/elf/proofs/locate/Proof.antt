@@ -5,12 +5,9 @@ use borrow.Author.Count.{below-more}
 use borrow.Author.Tests.{le-ltb}
 use Rattle.elf.specs.Headers.{sectionCount}
 use Rattle.elf.proofs.Laws.Entries.{NotBelow, located, located-nowhere}
--- `elf::locate` meets its contract. Assumes nothing.
-use mathlib.Core.Path.{_≡_, refl, sym, ap, _∙_}
-use Prim.Native.Nat.{ℕ, suc, _-_, _*_, _≤_, _<_}
-use mathlib.Core.Bool.{false}
+use mathlib.Core.Path.{_≡_, refl, ap, _∙_}
+use Prim.Native.Nat.{suc, _-_, _*_, _≤_, _<_}
 use native.Mathlib.Omega.{arith}
-use lib.Dec.{ltb}
 use Rattle.word.specs.Sums.{sum}
 use Rattle.elf.specs.Sections.{relocationsBelow}
 use borrow.Author.Needs.{needs}
@@ -41,7 +38,7 @@ sub-t9 c = omega arith
 
 returns : tie.Need-returns Inv-loop μ-loop
 unfolding sum
-returns c = 
+returns c =
     let s = c .before .before .before .before .before .before .args .object .now in
     let k = c .before .before .before .before .before .before .args .k in
     let at = c .before .before .before .loop in
@@ -60,12 +57,11 @@ loop-less c = search needs
 
 loop-again : tie.Need-loop-again Inv-loop μ-loop
 unfolding sum
-loop-again c = 
+loop-again c =
     let s = c .before .before .before .before .before .before .args .object .now in
     let k = c .before .before .before .before .before .before .args .k in
     let at = c .before .before .before .loop in
-    let sum : at .below + c .before .relocations-in .result ≡ relocationsBelow s (suc (at .i)) = omega (arith, c .before .relocations-in .ensures .0) in
-    (
+    let sum : at .below + c .before .relocations-in .result ≡ relocationsBelow s (suc (at .i)) = omega (arith, c .before .relocations-in .ensures .0) in (
       omega arith,
       rw add-one sum,
       omega (arith, c .before .relocations-in .ensures .1),
@@ -77,7 +73,7 @@ sub-t10 : tie.Need-sub-t10 Inv-loop μ-loop
 sub-t10 c = omega arith
 
 returns-2 : tie.Need-returns-2 Inv-loop μ-loop
-returns-2 c = 
+returns-2 c =
     let s = c .before .before .before .before .args .object .now in
     let k = c .before .before .before .before .args .k in
     let at = c .before .loop in

@@ -33,13 +33,13 @@ loop-less c = search needs
 
 loop-again : tie.Need-loop-again Inv-loop μ-loop
 unfolding sum
-loop-again c = 
+loop-again c =
     let at = c .before .before .loop in
     let s = c .before .before .before .before .args .object .now in
     (omega arith, rw add-one (omega (arith, c .relocations-in .ensures .0)), omega (arith, c .relocations-in .ensures .1))
 
 returns : tie.Need-returns Inv-loop μ-loop
-returns c = 
+returns c =
     let at = c .before .loop in
     let end : at .j ≡ c .before .before .before .args .i = omega arith in
     at .inv .1 ∙ ap (relocationsBelow (c .before .before .before .args .object .now)) end

@@ -19,13 +19,13 @@ cast-result c = search needs
 
 returns : tie.Need-returns
 unfolding relocationsIn
-returns c = 
+returns c =
     let counts : countingRela (c .before .before .before .before .before .args .object .now) (c .before .before .before .before .before .args .i) ≡ true = sym (c .before .before .before .is-counting-rela .ensures) ∙ c .before .before .if1 .taken in
     (rw counts (ap (λ h. h .size / 12) (c .before .read-section .ensures)), omega arith)
 
 returns-2 : tie.Need-returns-2
 unfolding relocationsIn
-returns-2 c = 
+returns-2 c =
     let counts : countingRela (c .before .before .before .args .object .now) (c .before .before .before .args .i) ≡ false = sym (c .before .is-counting-rela .ensures) ∙ c .if1 .left in
     (rw counts, omega arith)
 

@@ -28,7 +28,7 @@ part-result-end c = search needs
 
 returns : tie.Need-returns
 unfolding bytesOf part
-returns c = 
+returns c =
     let h = c .before .before .before .args .h in
     let size : h .offset .0 + h .size - h .offset .0 ≡ h .size = omega arith in
     rw size

@@ -18,7 +18,7 @@ section-count-requires c κs = search needs
 
 returns : tie.Need-returns
 unfolding symbolCount
-returns c = 
+returns c =
     let s = c .before .before .before .before .args .object .now in
     let out : sectionCount s ≤ symbolTable s = omega arith in
     rw (le-ltb _ _ out)
@@ -31,7 +31,7 @@ cast-result c = search needs
 
 returns-2 : tie.Need-returns-2
 unfolding symbolCount
-returns-2 c = 
+returns-2 c =
     let s = c .before .before .before .before .before .before .args .object .now in
     let there : symbolTable s < sectionCount s = omega arith in
     rw (lt-ltb _ _ there) (ap (λ h. h .size / 16) (c .before .read-section .ensures) ∙ ap (λ i. sectionAt s i .size / 16) (c .before .before .before .before .symbol-table .ensures))

@@ -30,7 +30,7 @@ read-section-requires c κs = search needs
 
 returns : tie.Need-returns Inv-loop μ-loop
 unfolding symbolTable
-returns c = 
+returns c =
     let s = c .before .before .before .before .before .before .before .args .object .now in
     let at = c .before .before .before .before .loop in
     let count : c .before .before .before .before .before .section-count .result ≡ sectionCount s = c .before .before .before .before .before .section-count .ensures in
@@ -47,7 +47,7 @@ loop-again c = (search needs, below-more _ _ (c .before .before .before .before 
 
 returns-2 : tie.Need-returns-2 Inv-loop μ-loop
 unfolding symbolTable
-returns-2 c = 
+returns-2 c =
     let s = c .before .before .before .before .args .object .now in
     let at = c .before .loop in
     let count : c .before .before .section-count .result ≡ sectionCount s = c .before .before .section-count .ensures in

@@ -1,43 +1,55 @@
 -- Laws of the ranges of distances. Assumes nothing.
 use mathlib.Core.Path.{_≡_, refl}
-use Prim.Native.Nat.{ℕ, _+_, _*_, _%_, _^_, _≤_, _<_}
-use mathlib.Core.Bool.{true, false}
+use Prim.Native.Nat.{ℕ, suc, _-_, _+_, _*_, _%_, _^_, _≤_, _<_}
+use mathlib.Core.Bool.{Bool, true, false}
+use lib.Dec.{ltb}
+use borrow.Author.Tests.{ltb-true, ltb-false, le-leb}
 use native.Mathlib.Omega.{arith}
 use lib.IntN.{ℤ, pos, negℤ}
 use Rattle.word.specs.Whole.{residue, signed, within, even}
-use Rattle.word.proofs.Laws.Tests.{and-left, and-right}
-use Rattle.word.proofs.Laws.Whole.{even-residue, within-spelt}
+use Rattle.word.proofs.Laws.Tests.{and-left, and-right, and-true}
+use Rattle.word.proofs.Laws.Whole.{even-residue, within-spelt, sub-ahead, sub-back}
 use Rattle.riscv.specs.declared.fields.Field.{Field}
 use Rattle.riscv.specs.declared.fields.Field.the-variants.{B, J, Cb, Cj}
 use Rattle.riscv.specs.Layouts.{read, put}
 use Rattle.riscv.specs.Fields.{layout, valueBits, unit}
-use Rattle.riscv.specs.Ranges.{Range, branch, jal, rvcBranch, rvcJump, reaches}
+use Rattle.riscv.specs.declared.ranges.Range.{Range}
+use Rattle.riscv.specs.Ranges.{distance, branch, jal, rvcBranch, rvcJump, anywhere, reaches}
 use Rattle.riscv.proofs.Laws.Fields.{reads-back-signed}
 
--- both ends are reached, and the next steps are not
-pub record Ends (r : Range) : Type 0 where
-  pub ahead-in : reaches r (pos (r .ahead)) ≡ true
-  pub ahead-odd : reaches r (pos (r .ahead + 1)) ≡ false
-  pub ahead-out : reaches r (pos (r .ahead + 2)) ≡ false
-  pub back-in : reaches r (negℤ (pos (r .back))) ≡ true
-  pub back-odd : reaches r (negℤ (pos (r .back + 1))) ≡ false
-  pub back-out : reaches r (negℤ (pos (r .back + 2))) ≡ false
+-- both ends are reached, the next steps are not, and nothing odd is
+pub record Ends (r : Range) (back ahead : ℕ) : Type 0 where
+  pub ahead-in : reaches r (pos ahead) ≡ true
+  pub ahead-odd : reaches r (pos (ahead - 1)) ≡ false
+  pub ahead-out : reaches r (pos (ahead + 2)) ≡ false
+  pub back-in : reaches r (negℤ (pos back)) ≡ true
+  pub back-odd : reaches r (negℤ (pos (back - 1))) ≡ false
+  pub back-out : reaches r (negℤ (pos (back + 2))) ≡ false
 
-pub branch-ends : Ends branch
+pub branch-ends : Ends branch 4096 4094
 unfolding reaches within even
 branch-ends = record { ahead-in = refl; ahead-odd = refl; ahead-out = refl; back-in = refl; back-odd = refl; back-out = refl }
 
-pub jal-ends : Ends jal
+pub jal-ends : Ends jal 1048576 1048574
 unfolding reaches within even
 jal-ends = record { ahead-in = refl; ahead-odd = refl; ahead-out = refl; back-in = refl; back-odd = refl; back-out = refl }
 
-pub rvc-branch-ends : Ends rvcBranch
+pub rvc-branch-ends : Ends rvcBranch 256 254
 unfolding reaches within even
 rvc-branch-ends = record { ahead-in = refl; ahead-odd = refl; ahead-out = refl; back-in = refl; back-odd = refl; back-out = refl }
 
-pub rvc-jump-ends : Ends rvcJump
+pub rvc-jump-ends : Ends rvcJump 2048 2046
 unfolding reaches within even
 rvc-jump-ends = record { ahead-in = refl; ahead-odd = refl; ahead-out = refl; back-in = refl; back-odd = refl; back-out = refl }
+
+-- every distance between two addresses of 32 bits is within the range of the other fields
+pub anywhere-reaches : (t p : ℕ) → t < 2 ^ 32 → p < 2 ^ 32 → reaches anywhere (distance t p) ≡ even (distance t p)
+unfolding reaches within
+anywhere-reaches t p ht hp = go (ltb t p) refl
+  where
+    go : (b : Bool) → ltb t p ≡ b → reaches anywhere (distance t p) ≡ even (distance t p)
+    go true e = rw (sub-back t p (ltb-true t p e), le-leb (suc (p - suc t)) 0xFFFFFFFF (omega arith)) (and-true _)
+    go false e = rw (sub-ahead t p (ltb-false t p e), le-leb (t - p) 0xFFFFFFFF (omega arith)) (and-true _)
 
 -- a distance that is reached, put into its field modulo 2^(j + n), is read back whole
 reached-reads-back : (f : Field) (r : Range) (w j : ℕ) (z : ℤ) → unit f ≡ 2 → 2 * r .back ≤ 2 ^ valueBits f → 2 * r .ahead < 2 ^ valueBits f

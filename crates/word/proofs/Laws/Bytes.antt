@@ -2,15 +2,15 @@
 use mathlib.Core.Path.{_≡_, refl, sym, ap}
 use mathlib.Core.Logic.{_⊎_, ⊎-elim}
 use Prim.Native.Nat.{ℕ, zero, suc, _+_, _*_, _/_, _%_, _^_, _≤_, _<_}
-use native.Mathlib.Nat.{zero-add, suc-add, pow-zero, pow-suc, mul-comm, mul-assoc, div-one, mod-one, div-div-eq-div-mul}
+use native.Mathlib.Nat.{zero-add, suc-add, pow-zero, pow-suc, mul-comm, mul-assoc, div-one, mod-one, mod-eq-of-lt, div-div-eq-div-mul}
 use native.Mathlib.Numerals.{one-add}
 use native.Mathlib.Omega.{arith}
 use mathlib.Core.List.{List, [], _∷_, _++_}
-use lib.ListN.{length, getD, take, drop}
-use lib.Seq.{sets, drop-drop, getD-drop}
+use lib.ListN.{length, getD, take, drop, length-drop}
+use lib.Seq.{sets, drop-drop, drop-at, getD-drop}
 use lib.Arith.{mod-mul}
 use lib.Dec.{lit<}
-use Rattle.word.specs.Bytes.{le, leAt, bytes}
+use Rattle.word.specs.Bytes.{le, leAt, bytes, part}
 use Rattle.word.proofs.Laws.Lists.{drop-sets-at, getD-sets-other, sets-append}
 
 -- ---- one byte
@@ -90,6 +90,17 @@ bytes-le (suc n) (x ∷ s) b h =
     let low : (x + 256 * le n s) % 256 ≡ x = omega arith in
     let high : (x + 256 * le n s) / 256 ≡ le n s = omega arith in
     rw (low, high, bytes-le n s (λ i. b (suc i)) (omega arith))
+
+-- the same from a place on
+pub bytes-leAt : (n : ℕ) (s : List ℕ) (i : ℕ) → Bytes s → i + n ≤ length s → bytes n (leAt n s i) ≡ part s i n
+unfolding leAt part
+bytes-leAt n s i b h =
+    bytes-le n (drop i s) (λ j. rw getD-drop (b (i + j))) (simp length-drop (omega arith))
+
+-- a number that stands after a stretch of bytes
+pub leAt-bytes : (n x : ℕ) (s a t : List ℕ) (i : ℕ) → s ≡ a ++ (bytes n x ++ t) → length a ≡ i → x < 256 ^ n → leAt n s i ≡ x
+unfolding leAt
+leAt-bytes n x s a t i e l h = rw (e, drop-at a (bytes n x ++ t) i l, le-bytes n x t) (mod-eq-of-lt h)
 
 pub le-lt : (n : ℕ) (s : List ℕ) → Bytes s → le n s < 256 ^ n
 unfolding le

@@ -1,15 +1,10 @@
 -- The laws of `first`, `everywhere` and `tabulate`. Assumes nothing.
 use mathlib.Core.Path.{_≡_, refl, sym, ap, _∙_}
-use mathlib.Core.Logic.{⊎-elim}
 use Prim.Native.Nat.{ℕ, zero, suc, _≤_, _<_}
-use native.Mathlib.Nat.{eq-or-lt-of-le}
 use mathlib.Core.Bool.{Bool, true, false, cond, not}
-use mathlib.Core.List.{List, [], _∷_}
 use native.Mathlib.Omega.{arith}
-use lib.Dec.{eqb}
-use lib.ListN.{length, getD, set, length-set}
-use lib.Seq.{ext-getD, getD-set-same, getD-set-other}
-use borrow.Author.Tests.{eqb-true, eq-eqb, ne-eqb, not-false}
+use lib.ListN.{length, getD, set}
+use borrow.Author.Tests.{eqb-true, eq-eqb, not-false}
 use Rattle.word.specs.First.{first, everywhere, tabulate}
 
 -- the one law that gives it: nothing below k, and k itself unless it is n
@@ -59,12 +54,6 @@ first-at p (suc n) h = go (p zero) refl h (first-at (λ j. p (suc j)) n)
     go true e l rest = e
     go false e l rest = rest (omega arith)
 
--- one more index at which p does not hold changes whether there is one, and which, in no way
-pub first-same : (p q : ℕ → Bool) (n : ℕ) → ((j : ℕ) → j < n → p j ≡ q j) → first p n ≡ first q n
-first-same p q n e =
-    first-is p n (first q n) (first-le q n) (λ j h. e j (omega (arith, first-le q n)) ∙ first-below q n j h)
-    (λ h. e (first q n) h ∙ first-at q n h)
-
 -- ---- everywhere
 
 pub everywhere-is : (p : ℕ → Bool) (n : ℕ) → ((j : ℕ) → j < n → p j ≡ true) → everywhere p n ≡ true
@@ -77,6 +66,15 @@ unfolding everywhere
 everywhere-at p n e j h =
     let end : first (λ j. not (p j)) n ≡ n = eqb-true _ _ e in
     not-false (p j) (first-below (λ j. not (p j)) n j (omega arith))
+
+pub everywhere-not : (p : ℕ → Bool) (n k : ℕ) → k < n → p k ≡ false → everywhere p n ≡ false
+everywhere-not p n k h e = go (everywhere p n) refl
+  where
+    go : (b : Bool) → everywhere p n ≡ b → everywhere p n ≡ false
+    go false t = t
+    go true t =
+        let z : _≡_ {A = Bool} true false = sym (everywhere-at p n t k h) ∙ e in
+        t ∙ z
 
 -- ---- tabulate
 
@@ -105,12 +103,3 @@ set-tabulate f g (suc n) zero e =
     rw (tabulate-same (λ j. f (suc j)) (λ j. g (suc j)) n (λ j h. e (suc j) (omega arith) (λ z. omega arith)))
 set-tabulate f g (suc n) (suc i) e =
     rw (e 0 (omega arith) (λ z. omega arith), set-tabulate (λ j. f (suc j)) (λ j. g (suc j)) n i (λ j h z. e (suc j) (omega arith) (λ y. z (omega arith))))
-
-pub everywhere-not : (p : ℕ → Bool) (n k : ℕ) → k < n → p k ≡ false → everywhere p n ≡ false
-everywhere-not p n k h e = go (everywhere p n) refl
-  where
-    go : (b : Bool) → everywhere p n ≡ b → everywhere p n ≡ false
-    go false t = t
-    go true t =
-        let z : _≡_ {A = Bool} true false = sym (everywhere-at p n t k h) ∙ e in
-        t ∙ z

@@ -5,7 +5,7 @@ use native.Mathlib.Numerals.{add-one}
 use native.Mathlib.Omega.{arith}
 use mathlib.Core.List.{List, [], _∷_, _++_, append-assoc}
 use lib.ListN.{length, take, drop, set, getD, replicate, length-append, length-drop, replicate-append-replicate}
-use lib.Seq.{sets, sets-eq, take-at, drop-at, take-set-le, drop-set-lt, take-suc, getD-drop, getD-set-other, length-take-le}
+use lib.Seq.{sets, sets-eq, take-at, drop-at, take-set-le, drop-set-lt, take-suc, getD-drop, getD-set-other, length-take-le, take-add, take-all, drop-drop}
 use Rattle.word.specs.Bytes.{part}
 
 -- ---- sets
@@ -64,6 +64,15 @@ unfolding part
 part-snoc s i n h =
     let inside : n < length (drop i s) = simp length-drop (omega arith) in
     rw (add-one n, take-suc (drop i s) n 0 inside, getD-drop)
+
+-- two parts, one after the other
+pub part-append : (s : List ℕ) (i m j n : ℕ) → i + m ≡ j → part s i m ++ part s j n ≡ part s i (m + n)
+unfolding part
+part-append s i m j n e = rw (take-add m n (drop i s), drop-drop m i s, e)
+
+pub part-whole : (s : List ℕ) (n : ℕ) → length s ≡ n → part s 0 n ≡ s
+unfolding part
+part-whole s n e = take-all n s (omega arith)
 
 -- ---- replicate
 

@@ -1,7 +1,8 @@
 -- Laws of tests joined by `&&` and `||`. Assumes nothing.
 use mathlib.Core.Path.{_≡_, refl, sym, _∙_}
 use Prim.Native.Nat.{ℕ, _≤_, _<_}
-use mathlib.Core.Bool.{Bool, true, false, _&&_, _||_}
+use mathlib.Core.Bool.{Bool, true, false, not, _&&_, _||_}
+use native.Mathlib.Omega.{arith}
 use lib.Dec.{leb}
 use borrow.Author.Tests.{le-leb, lt-leb, leb-true, leb-false}
 
@@ -30,6 +31,10 @@ or-false false = refl
 pub or-true : (a : Bool) → a || true ≡ true
 or-true true = refl
 or-true false = refl
+
+-- a test that fails and holds
+pub not-both : (a b : Bool) → not a ≡ true → a ≡ b → b ≡ true → ⊥
+not-both a b n e h = let z : _≡_ {A = Bool} false true = cc in let y : _≡_ {A = ℕ} 0 1 = cc in omega arith
 
 pub ruleset tests = (and-true, and-false, or-true, or-false)
 

@@ -1,7 +1,6 @@
 -- `word::ceil_power` meets its contract. Assumes nothing.
 use native.Mathlib.Omega.{arith}
 use Rattle.word.proofs.Laws.Powers.{shift-ceil}
--- `word::ceil_power` meets its contract. Assumes nothing.
 use Prim.Native.Nat.{_-_}
 use lib.Count.{leading-le}
 use Rattle.word.specs.First.{first}

@@ -1,7 +1,6 @@
 -- `word::read16` meets its contract. Assumes nothing.
 use Prim.Native.Nat.{_+_}
 use Rattle.word.proofs.Laws.Bytes.{leAt-one, leAt-split}
--- `word::read16` meets its contract. Assumes nothing.
 use native.Mathlib.Omega.{arith}
 use borrow.Author.Needs.{needs}
 use Rattle.word.proofs.read16.Statement.{statement}

@@ -1,6 +1,5 @@
 -- `word::read8` meets its contract. Assumes nothing.
 use Rattle.word.proofs.Laws.Bytes.{leAt-one}
--- `word::read8` meets its contract. Assumes nothing.
 use mathlib.Core.Path.{sym}
 use borrow.Author.Needs.{needs}
 use Rattle.word.proofs.read8.Statement.{statement}

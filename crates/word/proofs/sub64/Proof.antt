@@ -3,7 +3,6 @@ use mathlib.Core.Path.{sym, _∙_}
 use native.Mathlib.Nat.{mod-eq-of-lt}
 use native.Mathlib.Omega.{arith}
 use Rattle.word.proofs.Laws.Whole.{minus-unique}
--- `word::sub64` meets its contract. Assumes nothing.
 use borrow.Author.Needs.{needs}
 use Rattle.word.proofs.sub64.Statement.{statement}
 use Rattle.word.proofs.sub64.Tie as tie

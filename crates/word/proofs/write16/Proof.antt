@@ -3,10 +3,8 @@ use mathlib.Core.Path.{_≡_}
 use Prim.Native.Nat.{_/_, _%_}
 use native.Mathlib.Numerals.{add-one}
 use Rattle.word.specs.Bytes.{bytes}
--- `word::write16` meets its contract. Assumes nothing.
 use native.Mathlib.Omega.{arith}
 use lib.ListN.{length-set}
-use Rattle.word.specs.Bytes.{bytes}
 use borrow.Author.Needs.{needs}
 use Rattle.word.proofs.write16.Statement.{statement}
 use Rattle.word.proofs.write16.Tie as tie

@@ -3,8 +3,6 @@ use mathlib.Core.Path.{_≡_}
 use Prim.Native.Nat.{_%_}
 use native.Mathlib.Omega.{arith}
 use Rattle.word.specs.Bytes.{bytes}
--- `word::write8` meets its contract. Assumes nothing.
-use Rattle.word.specs.Bytes.{bytes}
 use borrow.Author.Needs.{needs}
 use Rattle.word.proofs.write8.Statement.{statement}
 use Rattle.word.proofs.write8.Tie as tie

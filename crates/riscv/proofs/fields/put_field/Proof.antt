@@ -4,7 +4,6 @@ use Prim.Native.Nat.{_+_, _/_}
 use native.Mathlib.Nat.{mul-comm}
 use Rattle.riscv.specs.Layouts.{formatU, formatI}
 use Rattle.riscv.proofs.Laws.Layouts.{total, put-append}
--- `riscv::fields::put_field` meets its contract. Assumes nothing.
 use native.Mathlib.Omega.{arith}
 use Rattle.riscv.specs.Layouts.{put}
 use Rattle.riscv.specs.Fields.{layout}

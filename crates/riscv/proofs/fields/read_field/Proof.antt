@@ -1,10 +1,8 @@
 -- `riscv::fields::read_field` meets its contract. Assumes nothing.
 use mathlib.Core.Path.{_≡_, sym, ap, _∙_}
 use Prim.Native.Nat.{_/_}
--- `riscv::fields::read_field` meets its contract. Assumes nothing.
 use Rattle.riscv.specs.Layouts.{formatU, formatI}
 use Rattle.riscv.proofs.Laws.Layouts.{total, read-append}
--- `riscv::fields::read_field` meets its contract. Assumes nothing.
 use native.Mathlib.Omega.{arith}
 use Rattle.riscv.specs.Layouts.{read}
 use Rattle.riscv.specs.Fields.{layout}

@@ -1,10 +1,8 @@
 -- `riscv::types::decide` meets its contract. Assumes nothing.
 use mathlib.Core.Path.{sym, ap}
--- `riscv::types::decide` meets its contract. Assumes nothing.
 use mathlib.Core.Logic.{⊎-elim}
 use native.Mathlib.Omega.{arith}
 use Rattle.riscv.proofs.Laws.Types.{others-refused, call-types, too-low, too-high}
--- `riscv::types::decide` meets its contract. Assumes nothing.
 use Rattle.riscv.specs.Types.{among, table, lookup, decision}
 use Rattle.riscv.proofs.types.decide.Statement.{statement}
 use Rattle.riscv.proofs.types.decide.Tie as tie

@@ -1,0 +1,22 @@
+-- `order::external_value` meets its contract. Assumes nothing.
+use Rattle.order.proofs.Laws.Sound.{Sound, reading-sound}
+use native.Mathlib.Omega.{arith}
+use Rattle.order.specs.Orders.{externalValue}
+use Rattle.order.proofs.external_value.Statement.{statement}
+use Rattle.order.proofs.external_value.Tie as tie
+
+mul-start : tie.Need-mul-start
+mul-start c = let k : Sound _ _ = reading-sound _ _ (c .before .before .pre) in omega arith
+
+add-start : tie.Need-add-start
+add-start c = let k : Sound _ _ = reading-sound _ _ (c .before .before .pre) in omega arith
+
+find-requires : tie.Need-find-requires
+find-requires c κs = let k : Sound _ _ = reading-sound _ _ (c .before .before .pre) in record { inside = omega arith; ascends = k .given }
+
+returns : tie.Need-returns
+unfolding externalValue
+returns c = let k : Sound _ _ = reading-sound _ _ (c .before .before .before .pre) in cc
+
+pub external-value-spec : {M : Type 1} → statement M
+external-value-spec = tie.close (tie.spec mul-start add-start find-requires returns)

@@ -1,0 +1,77 @@
+-- `order::find` meets its contract. Assumes nothing.
+use Rattle.order.proofs.Laws.Values.{valueIn-between, valueIn-read}
+use Rattle.order.proofs.Laws.Ascending.{ascending-below, ascending-above}
+use mathlib.Core.Path.{_≡_, sym, ap}
+use Prim.Native.Nat.{ℕ, _-_, _≤_, _<_}
+use native.Mathlib.Omega.{arith}
+use Rattle.order.specs.declared.Entry.{Entry}
+use Rattle.order.specs.Orders.{entryAt}
+use borrow.Author.Needs.{needs}
+use Rattle.order.proofs.find.Statement.{statement}
+use Rattle.order.proofs.find.Tie as tie
+
+abbrev Inv-loop : tie.InvT-loop
+Inv-loop order at n k low₀ high₀ low high =
+    (low ≤ high)
+    × (high ≤ n)
+    × ((j : ℕ) → j < low → entryAt order at j .index < k)
+    × ((j : ℕ) → high ≤ j → j < n → k < entryAt order at j .index)
+
+abbrev μ-loop : tie.MeasureT-loop
+μ-loop order at n k low₀ high₀ low high = high - low
+
+loop-holds : tie.Need-loop-holds Inv-loop μ-loop
+loop-holds c = (search needs, search needs, (λ j h. absurd (omega arith)), (λ j h l. absurd (omega arith)))
+
+sub-middle : tie.Need-sub-middle Inv-loop μ-loop
+sub-middle c = search needs
+
+add-middle : tie.Need-add-middle Inv-loop μ-loop
+add-middle c = search needs
+
+read-entry-requires : tie.Need-read-entry-requires Inv-loop μ-loop
+read-entry-requires c κs = search needs
+
+returns : tie.Need-returns Inv-loop μ-loop
+returns c = valueIn-read _ _ _ _ (c .before .before .before .before .before .before .pre .ascends) _ _ (c .before .before .read-entry .ensures) (c .if1 .taken) (omega arith)
+
+add-low : tie.Need-add-low Inv-loop μ-loop
+add-low c = search needs
+
+loop-less : tie.Need-loop-less Inv-loop μ-loop
+loop-less c = search needs
+
+loop-again : tie.Need-loop-again Inv-loop μ-loop
+loop-again c =
+    let e : _ ≡ _ = ap (λ (e : Entry). e .index) (c .before .before .before .before .read-entry .ensures) in
+    (search needs, search needs, ascending-below _ _ _ _ (c .before .before .before .before .before .before .before .before .pre .ascends) (omega arith) (omega arith), c .before .before .before .before .before .before .loop .inv .3)
+
+loop-less-2 : tie.Need-loop-less-2 Inv-loop μ-loop
+loop-less-2 c = search needs
+
+loop-again-2 : tie.Need-loop-again-2 Inv-loop μ-loop
+loop-again-2 c =
+    let e : _ ≡ _ = ap (λ (e : Entry). e .index) (c .before .before .before .before .read-entry .ensures) in
+    (search needs, search needs, c .before .before .before .before .before .before .loop .inv .2, ascending-above _ _ _ _ (c .before .before .before .before .before .before .before .before .pre .ascends) (omega arith))
+
+returns-2 : tie.Need-returns-2 Inv-loop μ-loop
+returns-2 c =
+    sym (valueIn-between _ _ _ _ (c .before .loop .low) (c .before .loop .inv .2) (λ j h. c .before .loop .inv .3 j (omega arith)))
+
+pub find-spec : {M : Type 1} → statement M
+find-spec =
+    tie.close
+    (tie.spec
+    Inv-loop
+    μ-loop
+    loop-holds
+    sub-middle
+    add-middle
+    read-entry-requires
+    returns
+    add-low
+    loop-less
+    loop-again
+    loop-less-2
+    loop-again-2
+    returns-2)

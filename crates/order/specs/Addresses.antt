@@ -1,0 +1,23 @@
+-- "The 32 row addresses travel as one array passed by value." Assumes nothing: these are definitions.
+use Prim.Native.Nat.{ℕ}
+use mathlib.Core.List.{List}
+use Rattle.word.specs.First.{tabulate}
+use Rattle.order.specs.declared.Value.{Value}
+use Rattle.order.specs.declared.Value.the-variants.{Given, NotGiven}
+use Rattle.order.specs.Orders.{placementCount, valueIn}
+
+abbrev pub maxSections : ℕ
+maxSections = 32
+
+-- the address of a section, or 0, which means nothing, for one that the order does not place
+abbrev pub orZero : Value → ℕ
+orZero (Given a) = a
+orZero NotGiven = 0
+
+-- the address that an order gives a section, if it places it
+unfoldable pub placedAt : List ℕ → ℕ → Value
+placedAt s section = valueIn s 12 (placementCount s) section
+
+-- the array: an entry for each section number below 32
+unfoldable pub addresses : List ℕ → List ℕ
+addresses s = tabulate (λ section. orZero (placedAt s section)) maxSections

@@ -1,0 +1,4 @@
+pub mod Orders
+pub mod Windows
+pub mod Addresses
+pub mod Facts

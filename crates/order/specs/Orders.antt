@@ -1,0 +1,118 @@
+-- Document 01, "Order": the bytes that say where sections go and what undefined symbols are worth. Assumes nothing: these are definitions.
+--
+--     base          count 1; one u32
+--     placements    count at most 32; section u32, address u32
+--     externals     count at most 1,024; symbol u32, value u32         (document 01: outside values)
+--
+-- "Both lists strictly ascending by index; no byte left over."
+use Prim.Native.Nat.{ℕ, suc, _+_, _-_, _*_}
+use mathlib.Core.Bool.{Bool, cond, _&&_}
+use mathlib.Core.List.{List, [], _∷_, _++_}
+use lib.ListN.{length}
+use lib.Dec.{leb, ltb, eqb}
+use Rattle.word.specs.Bytes.{leAt, bytes}
+use Rattle.word.specs.First.{first, everywhere, tabulate}
+use Rattle.order.specs.declared.Entry.{Entry}
+use Rattle.order.specs.declared.Reading.{Reading}
+use Rattle.order.specs.declared.Reading.the-variants.{Malformed, WellFormed}
+use Rattle.order.specs.declared.Value.{Value}
+use Rattle.order.specs.declared.Value.the-variants.{Given, NotGiven}
+
+-- ---- the format
+
+-- what an order says
+pub record Order : Type 0 where
+  pub base : ℕ
+  pub placements : List Entry
+  pub externals : List Entry
+
+abbrev pub maxPlacements : ℕ
+maxPlacements = 32
+
+abbrev pub maxExternals : ℕ
+maxExternals = 1024
+
+-- an entry: a number of a section or a symbol, and its address or value
+unfoldable pub encodeEntries : List Entry → List ℕ
+encodeEntries [] = []
+encodeEntries (e ∷ es) = bytes 4 (e .index) ++ bytes 4 (e .value) ++ encodeEntries es
+
+-- the bytes of an order: each part after its count
+unfoldable pub encode : Order → List ℕ
+encode o =
+    bytes 4 1
+    ++ bytes 4 (o .base)
+    ++ bytes 4 (length (o .placements))
+    ++ encodeEntries (o .placements)
+    ++ bytes 4 (length (o .externals))
+    ++ encodeEntries (o .externals)
+
+-- ---- reading one
+
+-- entry i of a list that starts at a place
+unfoldable pub entryAt : List ℕ → ℕ → ℕ → Entry
+entryAt s at i = record { index = leAt 4 s (at + 8 * i); value = leAt 4 s (at + 8 * i + 4) }
+
+-- the base, and the placements
+abbrev pub base : List ℕ → ℕ
+base s = leAt 4 s 4
+
+abbrev pub placementCount : List ℕ → ℕ
+placementCount s = leAt 4 s 8
+
+abbrev pub placement : List ℕ → ℕ → Entry
+placement s i = entryAt s 12 i
+
+-- the external values, which start behind their count and the placements
+abbrev pub externalsStart : List ℕ → ℕ
+externalsStart s = 16 + 8 * placementCount s
+
+abbrev pub externalCount : List ℕ → ℕ
+externalCount s = leAt 4 s (12 + 8 * placementCount s)
+
+abbrev pub external : List ℕ → ℕ → Entry
+external s i = entryAt s (externalsStart s) i
+
+-- n numbers, each above the one before it
+unfoldable pub ascending : (ℕ → ℕ) → ℕ → Bool
+ascending f n = everywhere (λ i. ltb (f i) (f (suc i))) (n - 1)
+
+-- check 2: the bytes are an order's
+unfoldable pub wellFormed : List ℕ → Bool
+wellFormed s =
+    leb 16 (length s)
+    && eqb (leAt 4 s 0) 1
+    && leb (placementCount s) maxPlacements
+    && leb (externalsStart s) (length s)
+    && leb (externalCount s) maxExternals
+    && eqb (length s) (externalsStart s + 8 * externalCount s)
+    && ascending (λ i. placement s i .index) (placementCount s)
+    && ascending (λ i. external s i .index) (externalCount s)
+
+-- what is read
+unfoldable pub orderOf : List ℕ → Order
+orderOf s =
+    record {
+      base = base s;
+      placements = tabulate (placement s) (placementCount s);
+      externals = tabulate (external s) (externalCount s);
+    }
+
+-- the base and the counts, or malformed
+unfoldable pub reading : List ℕ → Reading
+reading s =
+    cond (wellFormed s)
+    (WellFormed (record { base = base s; placements = placementCount s; externals = externalCount s }))
+    Malformed
+
+-- ---- the value that an order gives a number
+
+-- of n entries from a place on: the value of the first with the index, if there is one
+unfoldable pub valueIn : List ℕ → ℕ → ℕ → ℕ → Value
+valueIn s at n k =
+    let i = first (λ j. eqb (entryAt s at j .index) k) n in
+    cond (ltb i n) (Given (entryAt s at i .value)) NotGiven
+
+-- the external value of a symbol
+unfoldable pub externalValue : List ℕ → ℕ → Value
+externalValue s symbol = valueIn s (externalsStart s) (externalCount s) symbol

@@ -1,0 +1,180 @@
+// An order: the window's base, where each section goes, and the values of undefined symbols.
+ghost use mathlib.Core.Path.{_≡_};
+ghost use Prim.Native.Nat.{_+_, _*_, _≤_};
+ghost use lib.ListN.{length};
+ghost use Rattle.order.specs.Orders.{reading, entryAt, ascending, valueIn, externalValue};
+ghost use Rattle.order.specs.Facts.{Searchable};
+ghost use Rattle.order.specs.Windows.{lengthAllowed, windowAllowed};
+ghost use Rattle.order.specs.Addresses.{placedAt, addresses};
+
+pub const MAX_PLACEMENTS: usize = 32;
+
+pub const MAX_EXTERNALS: usize = 1024;
+
+pub const MAX_IMAGE: usize = 65536;
+
+// A section and its address, or a symbol and its value.
+pub struct Entry {
+    pub index: u32,
+    pub value: u32,
+}
+
+// The window's base, and how many placements and external values there are.
+pub struct Counts {
+    pub base: u32,
+    pub placements: usize,
+    pub externals: usize,
+}
+
+pub enum Reading {
+    Malformed,
+    WellFormed(Counts),
+}
+
+// The value that an order gives.
+pub enum Value {
+    Given(u32),
+    NotGiven,
+}
+
+// Entry i of a list that starts at `at`.
+pub fn read_entry(order: &[u8], at: usize, i: usize) -> Entry
+    requires { ⌜ at + 8 * i + 8 ≤ length (now order) ⌝ }
+    ensures { λ r. ⌜ r ≡ entryAt (now (order .entry)) at i ⌝ }
+{
+    let place = at + 8 * i;
+    Entry {
+        index: word::read32(order, place),
+        value: word::read32(order, place + 4),
+    }
+}
+
+// Whether the n entries from `at` on ascend strictly by their indices.
+fn ascends(order: &[u8], at: usize, n: usize) -> bool
+    requires { ⌜ at + 8 * n ≤ length (now order) ⌝ }
+    ensures { λ r. ⌜ r ≡ ascending (λ i. entryAt (now (order .entry)) at i .index) n ⌝ }
+{
+    let mut i: usize = 1;
+    while i < n {
+        let low = read_entry(order, at, i - 1);
+        let high = read_entry(order, at, i);
+        if high.index <= low.index {
+            return false;
+        }
+        i += 1;
+    }
+    true
+}
+
+// Check 2: the base and the counts of an order, or that the bytes are none.
+pub fn read_order(order: &[u8]) -> Reading
+    ensures { λ r. ⌜ r ≡ reading (now (order .entry)) ⌝ }
+{
+    if order.len() < 16 {
+        return Reading::Malformed;
+    }
+    if word::read32(order, 0) != 1 {
+        return Reading::Malformed;
+    }
+    let placements = word::read32(order, 8) as usize;
+    if MAX_PLACEMENTS < placements {
+        return Reading::Malformed;
+    }
+    let start = 16 + 8 * placements;
+    if order.len() < start {
+        return Reading::Malformed;
+    }
+    let externals = word::read32(order, 12 + 8 * placements) as usize;
+    if MAX_EXTERNALS < externals {
+        return Reading::Malformed;
+    }
+    if order.len() != start + 8 * externals {
+        return Reading::Malformed;
+    }
+    if !ascends(order, 12, placements) {
+        return Reading::Malformed;
+    }
+    if !ascends(order, start, externals) {
+        return Reading::Malformed;
+    }
+    Reading::WellFormed(Counts {
+        base: word::read32(order, 4),
+        placements,
+        externals,
+    })
+}
+
+// Check 3 of a rollback: the image's length.
+pub fn length_allowed(len: usize) -> bool
+    ensures { λ r. ⌜ r ≡ lengthAllowed len ⌝ }
+{
+    len <= MAX_IMAGE
+}
+
+// Check 3 of an install: the image's length, and that the window ends at or below 2^32.
+pub fn window_allowed(base: u32, len: usize) -> bool
+    ensures { λ r. ⌜ r ≡ windowAllowed base len ⌝ }
+{
+    if MAX_IMAGE < len {
+        return false;
+    }
+    base as usize + len <= 4294967296
+}
+
+// The value that n entries from `at` on, which ascend strictly, give a number: a binary search.
+fn find(order: &[u8], at: usize, n: usize, k: u32) -> Value
+    requires { ⌜ Searchable (now order) at n ⌝ }
+    ensures { λ r. ⌜ r ≡ valueIn (now (order .entry)) at n k ⌝ }
+{
+    let mut low: usize = 0;
+    let mut high: usize = n;
+    while low < high {
+        let middle = low + (high - low) / 2;
+        let e = read_entry(order, at, middle);
+        if e.index == k {
+            return Value::Given(e.value);
+        }
+        if e.index < k {
+            low = middle + 1;
+        } else {
+            high = middle;
+        }
+    }
+    Value::NotGiven
+}
+
+// The external value of a symbol.
+pub fn external_value(order: &[u8], counts: Counts, symbol: u32) -> Value
+    requires { ⌜ reading (now order) ≡ Reading.WellFormed counts ⌝ }
+    ensures { λ r. ⌜ r ≡ externalValue (now (order .entry)) symbol ⌝ }
+{
+    let start = 16 + 8 * counts.placements;
+    find(order, start, counts.externals, symbol)
+}
+
+// The address that an order gives a section.
+pub fn placed_at(order: &[u8], counts: Counts, section: u32) -> Value
+    requires { ⌜ reading (now order) ≡ Reading.WellFormed counts ⌝ }
+    ensures { λ r. ⌜ r ≡ placedAt (now (order .entry)) section ⌝ }
+{
+    find(order, 12, counts.placements, section)
+}
+
+// The address of each section below 32; 0, which means nothing, for one that the order does not place.
+pub fn address_array(order: &[u8], counts: Counts) -> [u32; 32]
+    requires { ⌜ reading (now order) ≡ Reading.WellFormed counts ⌝ }
+    ensures { λ r. ⌜ r ≡ addresses (now (order .entry)) ⌝ }
+{
+    let mut array = [0u32; 32];
+    let n = counts.placements;
+    let mut i: usize = 0;
+    while i < n {
+        let e = read_entry(order, 12, i);
+        let section = e.index as usize;
+        if section < 32 {
+            array[section] = e.value;
+        }
+        i += 1;
+    }
+    array
+}
