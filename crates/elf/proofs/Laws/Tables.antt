@@ -5,9 +5,10 @@ use mathlib.Core.List.{List}
 use Prim.Native.Nat.{ℕ, _+_, _*_, _≤_, _<_}
 use native.Mathlib.Omega.{arith}
 use lib.ListN.{length}
-use lib.Dec.{leb, ltb}
-use borrow.Author.Tests.{leb-true, ltb-true, eq-eqb, ne-eqb, lt-ltb, le-ltb}
+use lib.Dec.{leb, ltb, eqb}
+use borrow.Author.Tests.{leb-true, ltb-true, eq-eqb, ne-eqb, lt-ltb, le-ltb, eqb-true, le-leb}
 use Rattle.word.proofs.Laws.Tests.{and-left, and-right, and-false}
+use Rattle.word.specs.Bytes.{leAt}
 use Rattle.word.specs.First.{first}
 use Rattle.word.proofs.Laws.First.{first-is}
 use Rattle.elf.specs.declared.Section.{Section}
@@ -35,6 +36,18 @@ table-inside s h e =
     let few : leb (sectionCount s) 32 ≡ true = search (and-left, and-right) in
     let inside : leb (sectionTable s + 40 * sectionCount s) (length s) ≡ true = search (and-left, and-right) in
     record { header = h; few = leb-true _ _ few; inside = leb-true _ _ inside }
+
+pub table-entries : (s : List ℕ) → tableAllowed s ≡ true → leAt 2 s 46 ≡ 40
+unfolding tableAllowed
+table-entries s e = let entries : eqb (leAt 2 s 46) 40 ≡ true = search (and-left, and-right) in eqb-true _ _ entries
+
+pub table-some : (s : List ℕ) → tableAllowed s ≡ true → 1 ≤ sectionCount s
+unfolding tableAllowed
+table-some s e = let some : leb 1 (sectionCount s) ≡ true = search (and-left, and-right) in leb-true _ _ some
+
+pub allowed-table : (s : List ℕ) → leAt 2 s 46 ≡ 40 → 1 ≤ sectionCount s → TableInside s → tableAllowed s ≡ true
+unfolding tableAllowed
+allowed-table s e some t = rw (eq-eqb _ _ e, le-leb _ _ some, le-leb _ _ (t .few), le-leb _ _ (t .inside))
 
 -- a target is in the table
 pub target-inside : (s : List ℕ) (h : Section) → targets s h ≡ true → h .info < sectionCount s
