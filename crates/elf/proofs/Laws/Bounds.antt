@@ -61,7 +61,7 @@ module _ (s : List ℕ) (f : SoundObject s) where
   unfolding symbolTable
   table-kind h = eqb-true _ _ (first-at (λ i. eqb (sectionAt s i .kind) SYMTAB) (sectionCount s) h)
 
-  some-symbol : (k : ℕ) → k < symbolCount s → (symbolTable s < sectionCount s) × (k < sectionAt s (symbolTable s) .size / 16)
+  pub some-symbol : (k : ℕ) → k < symbolCount s → (symbolTable s < sectionCount s) × (k < sectionAt s (symbolTable s) .size / 16)
   unfolding symbolCount
   some-symbol k h = go (ltb (symbolTable s) (sectionCount s)) refl h
     where

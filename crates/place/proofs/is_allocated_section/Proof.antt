@@ -1,0 +1,39 @@
+-- `place::is_allocated_section` meets its contract. Assumes nothing.
+use mathlib.Core.Path.{ap, _∙_}
+use Prim.Native.Nat.{_≤_, _<_}
+use native.Mathlib.Omega.{arith}
+use borrow.Author.Tests.{lt-ltb, le-ltb}
+use Rattle.elf.specs.Headers.{sectionCount}
+use Rattle.elf.specs.Sections.{allocated}
+use Rattle.place.specs.Placements.{isAllocated}
+use borrow.Author.Needs.{needs}
+use Rattle.place.proofs.is_allocated_section.Statement.{statement}
+use Rattle.place.proofs.is_allocated_section.Tie as tie
+
+section-count-requires : tie.Need-section-count-requires
+section-count-requires c κs = search needs
+
+returns : tie.Need-returns
+unfolding isAllocated
+returns c =
+    let a = c .before .before .before .args in
+    let out : sectionCount (a .object .now) ≤ a .i = omega arith in
+    rw (le-ltb _ _ out)
+
+read-section-requires : tie.Need-read-section-requires
+read-section-requires c κs = search needs
+
+is-allocated-requires : tie.Need-is-allocated-requires
+is-allocated-requires c κs = search needs
+
+returns-2 : tie.Need-returns-2
+unfolding isAllocated
+returns-2 c =
+    let a = c .before .before .before .before .before .args in
+    let there : a .i < sectionCount (a .object .now) = omega arith in
+    rw (lt-ltb _ _ there) (c .is-allocated .ensures ∙ ap allocated (c .before .read-section .ensures))
+
+pub is-allocated-section-spec : {M : Type 1} → statement M
+is-allocated-section-spec =
+    tie.close
+    (tie.spec section-count-requires returns read-section-requires is-allocated-requires returns-2)

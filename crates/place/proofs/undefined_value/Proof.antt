@@ -1,0 +1,29 @@
+-- `place::undefined_value` meets its contract. Assumes nothing.
+use mathlib.Core.Path.{sym, ap}
+use Rattle.place.specs.Values.{ofUndefined}
+use borrow.Author.Tests.{eq-eqb, ne-eqb}
+use borrow.Author.Needs.{needs}
+use Rattle.place.proofs.undefined_value.Statement.{statement}
+use Rattle.place.proofs.undefined_value.Tie as tie
+
+enum-known-value : tie.Need-enum-known-value
+enum-known-value c = search needs
+
+enum-told : tie.Need-enum-told
+enum-told c = search needs
+
+returns : tie.Need-returns
+returns c = sym (ap (ofUndefined (c .before .before .before .args .symbol)) (c .before .value .given .1))
+
+returns-2 : tie.Need-returns-2
+returns-2 c =
+    let y = c .before .before .before .before .args .symbol in
+    rw (c .before .before .enum-told .given .1, eq-eqb _ _ (c .if1 .taken))
+
+returns-3 : tie.Need-returns-3
+returns-3 c =
+    let y = c .before .before .before .before .args .symbol in
+    rw (c .before .before .enum-told .given .1, ne-eqb _ _ (c .if1 .left))
+
+pub undefined-value-spec : {M : Type 1} → statement M
+undefined-value-spec = tie.close (tie.spec enum-known-value enum-told returns returns-2 returns-3)

@@ -1,0 +1,95 @@
+-- `place::value_in_section` meets its contract. Assumes nothing.
+use mathlib.Core.Path.{_≡_, sym, ap, _∙_}
+use mathlib.Core.Bool.{true, false}
+use native.Mathlib.Omega.{arith}
+use borrow.Author.Tests.{eq-eqb, ne-eqb}
+use Rattle.place.specs.declared.SymbolValue.the-variants.{Resolved}
+use Rattle.place.specs.Placements.{isAllocated}
+use Rattle.place.specs.Values.{ofUndefined, ofSection}
+use Rattle.place.proofs.Laws.Differing.{allocated-there}
+use borrow.Author.Needs.{needs}
+use Rattle.place.proofs.value_in_section.Statement.{statement}
+use Rattle.place.proofs.value_in_section.Tie as tie
+
+cast-is-allocated-section : tie.Need-cast-is-allocated-section
+cast-is-allocated-section c = search needs
+
+is-allocated-section-requires : tie.Need-is-allocated-section-requires
+is-allocated-section-requires c κs = search needs
+
+cast-address : tie.Need-cast-address
+cast-address c = search needs
+
+mul-address : tie.Need-mul-address
+mul-address c = search needs
+
+array-read-address : tie.Need-array-read-address
+array-read-address c =
+    let a = c .before .before .before .before .args in
+    let s = a .object .now in
+    let inside : isAllocated s (a .symbol .section) ≡ true = sym (c .before .is-allocated-section .ensures) ∙ c .if1 .taken in
+    let there = allocated-there s (a .symbol .section) inside in
+    let few = c .before .before .before .before .pre .0 .table .few in
+    omega arith
+
+cast-add32 : tie.Need-cast-add32
+cast-add32 c = search needs
+
+add32-requires : tie.Need-add32-requires
+add32-requires c κs = search needs
+
+returns : tie.Need-returns
+unfolding ofSection
+returns c =
+    let a = c .before .before .before .before .before .before .args in
+    let s = a .object .now in
+    let inside : isAllocated s (a .symbol .section) ≡ true = sym (c .before .before .before .is-allocated-section .ensures) ∙ c .before .before .if1 .taken in
+    rw inside (ap Resolved (c .add32 .ensures))
+
+returns-2 : tie.Need-returns-2
+unfolding ofSection
+returns-2 c =
+    let a = c .before .before .before .before .before .args in
+    let s = a .object .now in
+    let inside : isAllocated s (a .symbol .section) ≡ false = sym (c .before .before .is-allocated-section .ensures) ∙ c .before .if1 .left in
+    rw (inside, eq-eqb _ _ (c .if2 .taken))
+
+returns-3 : tie.Need-returns-3
+unfolding ofSection
+returns-3 c =
+    let a = c .before .before .before .before .before .before .args in
+    let s = a .object .now in
+    let inside : isAllocated s (a .symbol .section) ≡ false = sym (c .before .before .before .is-allocated-section .ensures) ∙ c .before .before .if1 .left in
+    rw (inside, ne-eqb _ _ (c .before .if2 .left), ne-eqb _ _ (c .if3 .taken))
+
+external-value-requires : tie.Need-external-value-requires
+external-value-requires c κs = search needs
+
+undefined-value-requires : tie.Need-undefined-value-requires
+undefined-value-requires c κs = search needs
+
+returns-4 : tie.Need-returns-4
+unfolding ofSection
+returns-4 c =
+    let a = c .before .before .before .before .before .before .before .before .args in
+    let s = a .object .now in
+    let inside : isAllocated s (a .symbol .section) ≡ false = sym (c .before .before .before .before .before .is-allocated-section .ensures) ∙ c .before .before .before .before .if1 .left in
+    rw (inside, ne-eqb _ _ (c .before .before .before .if2 .left), eq-eqb _ _ (c .before .before .if3 .left)) (c .undefined-value .ensures ∙ ap (ofUndefined (a .symbol)) (c .before .external-value .ensures))
+
+pub value-in-section-spec : {M : Type 1} → statement M
+value-in-section-spec =
+    tie.close
+    (tie.spec
+    cast-is-allocated-section
+    is-allocated-section-requires
+    cast-address
+    mul-address
+    array-read-address
+    cast-add32
+    add32-requires
+    returns
+    returns-2
+    returns-3
+    external-value-requires
+    undefined-value-requires
+    returns-4)

@@ -1,0 +1,19 @@
+-- Check 7: external values against symbols. Assumes nothing: these are definitions.
+use Prim.Native.Nat.{ℕ, _^_}
+use mathlib.Core.Bool.{Bool, not, _&&_}
+use mathlib.Core.List.{List}
+use lib.Dec.{ltb, eqb}
+use Rattle.elf.specs.Sections.{sectionAt, symbolTable}
+use Rattle.elf.specs.Entries.{symbolAt, symbolCount}
+use Rattle.order.specs.Orders.{externalValue}
+use Rattle.place.specs.declared.Fault.{Fault}
+use Rattle.place.specs.Placements.{lowest, isGiven}
+
+-- "undefined symbols (section 0, index above 0)", of the table
+unfoldable pub isUndefined : List ℕ → ℕ → Bool
+isUndefined object k =
+    ltb 0 k && ltb k (symbolCount object) && eqb (symbolAt object (sectionAt object (symbolTable object)) k .section) 0
+
+-- check 7: "outside value for a wrong symbol", at the "lowest such symbol"
+unfoldable pub externalCheck : List ℕ → List ℕ → Fault
+externalCheck object order = lowest (λ k. isGiven (externalValue order k) && not (isUndefined object k)) (2 ^ 32)

@@ -1,0 +1,4 @@
+pub mod Placements
+pub mod Externals
+pub mod Placing
+pub mod Values

@@ -1,0 +1,35 @@
+-- Check 6: placements against allocated sections. Assumes nothing: these are definitions.
+use Prim.Native.Nat.{ℕ, _^_}
+use mathlib.Core.Bool.{Bool, true, false, not, cond, _&&_, _||_}
+use mathlib.Core.List.{List}
+use lib.Dec.{ltb}
+use Rattle.word.specs.First.{first}
+use Rattle.elf.specs.Headers.{sectionCount}
+use Rattle.elf.specs.Sections.{sectionAt, allocated}
+use Rattle.order.specs.declared.Value.{Value}
+use Rattle.order.specs.declared.Value.the-variants.{Given, NotGiven}
+use Rattle.order.specs.Addresses.{placedAt}
+use Rattle.place.specs.declared.Fault.{Fault}
+use Rattle.place.specs.declared.Fault.the-variants.{Nowhere, At}
+
+-- the least number below 2^32 at which a rule is broken, if there is one
+unfoldable pub lowest : (ℕ → Bool) → ℕ → Fault
+lowest broken n = cond (ltb (first broken n) n) (At (first broken n)) Nowhere
+
+-- an order places a section
+abbrev pub isGiven : Value → Bool
+isGiven (Given a) = true
+isGiven NotGiven = false
+
+-- a number names an allocated section of the object
+unfoldable pub isAllocated : List ℕ → ℕ → Bool
+isAllocated object i = ltb i (sectionCount object) && allocated (sectionAt object i)
+
+-- a number is in one only: placed and not allocated, or allocated and not placed
+unfoldable pub differs : List ℕ → List ℕ → ℕ → Bool
+differs object order i =
+    (isGiven (placedAt order i) && not (isAllocated object i)) || (isAllocated object i && not (isGiven (placedAt order i)))
+
+-- check 6: "placements differ from allocated rows", at the "lowest row in one only". A placement may name any number of 32 bits.
+unfoldable pub placementCheck : List ℕ → List ℕ → Fault
+placementCheck object order = lowest (differs object order) (2 ^ 32)
