@@ -1,0 +1,125 @@
+//! `crates/readings/stdin` and `stdout`, worked out anew: objects and orders,
+//! right ones and wrong ones, and what this fitter reads in them. The program
+//! `readings` writes the same lines from the proved functions.
+
+#[path = "../common/mod.rs"]
+mod common;
+
+mod commands;
+mod given;
+mod lines;
+mod objects;
+mod orders;
+mod random;
+
+use std::collections::BTreeMap;
+use std::fs;
+use std::path::{Path, PathBuf};
+
+use lines::{answer, line};
+
+/// What the program is asked.
+pub enum Question {
+    Object(Vec<u8>),
+    Order(Vec<u8>),
+    /// A base and an image's length.
+    Window(u32, u32),
+}
+
+/// A question, where it comes from, and its number and place, if these are
+/// stated by hand or by a vector.
+pub struct Case {
+    pub name: String,
+    pub question: Question,
+    pub stated: Option<(u32, u32)>,
+}
+
+impl Case {
+    pub fn new(name: impl Into<String>, question: Question, stated: Option<(u32, u32)>) -> Case {
+        Case {
+            name: name.into(),
+            question,
+            stated,
+        }
+    }
+}
+
+/// All cases by where they come from; objects before orders before windows, so
+/// that what follows differs little from what is there.
+fn cases() -> Vec<Case> {
+    let mut cases = Vec::new();
+    cases.extend(objects::cases());
+    cases.extend(orders::cases());
+    cases.extend(given::cases());
+    cases.extend(random::cases());
+    cases.sort_by_key(|case| match case.question {
+        Question::Object(_) => 0,
+        Question::Order(_) => 1,
+        Question::Window(..) => 2,
+    });
+    cases
+}
+
+fn path(file: &str) -> PathBuf {
+    Path::new(env!("CARGO_MANIFEST_DIR"))
+        .join("../../crates/readings")
+        .join(file)
+}
+
+fn read(file: &str) -> Vec<u8> {
+    fs::read(path(file)).expect("the file is in the repository")
+}
+
+#[test]
+fn stated_answers() {
+    let differs = |case: &Case| {
+        let (given, stated) = (answer(&case.question), case.stated?);
+        (given != stated).then(|| format!("{}: {given:?}, stated {stated:?}", case.name))
+    };
+    let wrong: Vec<String> = cases().iter().filter_map(differs).collect();
+    assert!(wrong.is_empty(), "{}", wrong.join("\n"));
+}
+
+#[test]
+fn commands() {
+    assert!(commands::all(&cases()) == read("stdin"), "another stdin");
+}
+
+#[test]
+fn lines() {
+    let text = String::from_utf8(read("stdout")).expect("text");
+    let cases = cases();
+    let pairs = cases.iter().zip(text.lines());
+    for (case, written) in pairs {
+        assert_eq!(line(&case.question), written, "{}", case.name);
+    }
+    assert_eq!(text.lines().count(), cases.len());
+    assert!(text.ends_with('\n'));
+}
+
+/// Every answer occurs, and so does each place of a section up to 9.
+#[test]
+fn many_answers() {
+    let mut counts = BTreeMap::new();
+    for case in cases() {
+        let kind = line(&case.question).as_bytes()[0] as char;
+        *counts.entry((kind, answer(&case.question))).or_insert(0) += 1;
+    }
+    println!("{counts:?}");
+    let often = |kind, answer| counts.get(&(kind, answer)).is_some_and(|count| *count >= 5);
+    let objects = [(0, 0), (4, 0)]
+        .into_iter()
+        .chain((0..10).map(|place| (5, place)));
+    assert!(objects.into_iter().all(|answer| often('o', answer)));
+    assert!(often('r', (0, 0)) && often('r', (2, 0)));
+    assert!(often('w', (0, 0)) && often('w', (3, 0)));
+}
+
+#[test]
+#[ignore = "writes the files anew"]
+fn write_readings() {
+    let cases = cases();
+    let lines = cases.iter().map(|case| line(&case.question) + "\n");
+    fs::write(path("stdout"), lines.collect::<String>()).expect("stdout can be written");
+    fs::write(path("stdin"), commands::all(&cases)).expect("stdin can be written");
+}
