@@ -2,3 +2,4 @@ pub mod Placements
 pub mod Externals
 pub mod Placing
 pub mod Values
+pub mod Spans

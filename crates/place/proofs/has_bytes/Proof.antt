@@ -1,0 +1,15 @@
+-- `place::has_bytes` meets its contract. Assumes nothing.
+use Rattle.place.specs.Placing.{hasBytes}
+use borrow.Author.Needs.{needs}
+use Rattle.place.proofs.has_bytes.Statement.{statement}
+use Rattle.place.proofs.has_bytes.Tie as tie
+
+is-loaded-requires : tie.Need-is-loaded-requires
+is-loaded-requires c κs = search needs
+
+returns : tie.Need-returns
+unfolding hasBytes
+returns c = rw (c .before .is-loaded .ensures)
+
+pub has-bytes-spec : {M : Type 1} → statement M
+has-bytes-spec = tie.close (tie.spec is-loaded-requires returns)

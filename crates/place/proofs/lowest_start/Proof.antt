@@ -1,0 +1,63 @@
+-- `place::lowest_start` meets its contract. Assumes nothing.
+use mathlib.Core.Path.{_≡_, refl}
+use Prim.Native.Nat.{_-_, _≤_}
+use native.Mathlib.Numerals.{add-one}
+use native.Mathlib.Omega.{arith}
+use Rattle.place.specs.Spans.{lowestByte}
+use borrow.Author.Needs.{needs}
+use Rattle.place.proofs.lowest_start.Statement.{statement}
+use Rattle.place.proofs.lowest_start.Tie as tie
+
+abbrev Inv-loop : tie.InvT-loop
+Inv-loop object base top n addresses start₀ i₀ start i = (i ≤ n) × (start ≡ lowestByte object addresses base top i)
+
+abbrev μ-loop : tie.MeasureT-loop
+μ-loop object base top n addresses start₀ i₀ start i = n - i
+
+loop-holds : tie.Need-loop-holds Inv-loop μ-loop
+unfolding lowestByte
+loop-holds c = (omega arith, refl)
+
+read-section-requires : tie.Need-read-section-requires Inv-loop μ-loop
+read-section-requires c κs = search needs
+
+mul-lowered : tie.Need-mul-lowered Inv-loop μ-loop
+mul-lowered c = search needs
+
+array-read-lowered : tie.Need-array-read-lowered Inv-loop μ-loop
+array-read-lowered c = search needs
+
+lowered-requires : tie.Need-lowered-requires Inv-loop μ-loop
+lowered-requires c κs = search needs
+
+add-i : tie.Need-add-i Inv-loop μ-loop
+add-i c = search needs
+
+loop-less : tie.Need-loop-less Inv-loop μ-loop
+loop-less c = search needs
+
+loop-again : tie.Need-loop-again Inv-loop μ-loop
+unfolding lowestByte
+loop-again c = (omega arith, rw (add-one, c .lowered .ensures, c .before .read-section .ensures, c .before .before .before .loop .inv .1))
+
+returns : tie.Need-returns Inv-loop μ-loop
+returns c =
+    let at = c .before .loop in
+    let stop : at .i ≡ c .before .before .before .args .n = omega arith in
+    rw (← stop) (at .inv .1)
+
+pub lowest-start-spec : {M : Type 1} → statement M
+lowest-start-spec =
+    tie.close
+    (tie.spec
+    Inv-loop
+    μ-loop
+    loop-holds
+    read-section-requires
+    mul-lowered
+    array-read-lowered
+    lowered-requires
+    add-i
+    loop-less
+    loop-again
+    returns)
