@@ -15,6 +15,11 @@ pub and-right : (a b : Bool) → a && b ≡ true → b ≡ true
 and-right true b e = e
 and-right false b e = cc
 
+-- the half that holds where the other fails
+pub or-right : (a b : Bool) → a ≡ false → a || b ≡ true → b ≡ true
+or-right true b f e = cc
+or-right false b f e = e
+
 -- a half that is decided
 pub and-true : (a : Bool) → a && true ≡ a
 and-true true = refl
