@@ -108,6 +108,11 @@ le-lt zero s b = rw pow-zero (omega arith)
 le-lt (suc n) s b =
     rw pow-suc (omega (arith, b 0, le-lt n (drop 1 s) (λ i. rw getD-drop (b (1 + i)))))
 
+-- a number in the rest of a list
+pub leAt-drop : (n a : ℕ) (s : List ℕ) (i : ℕ) → leAt n (drop a s) i ≡ leAt n s (a + i)
+unfolding leAt
+leAt-drop n a s i = rw drop-drop
+
 -- bytes that spell 0 are zeros
 pub le-zero : (n : ℕ) (s : List ℕ) → n ≤ length s → le n s ≡ 0 → s ≡ bytes n 0 ++ drop n s
 unfolding le bytes
