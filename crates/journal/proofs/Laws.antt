@@ -9,3 +9,5 @@ pub mod Install
 pub mod Agree
 pub mod History
 pub mod Corollaries
+pub mod Past
+pub mod Bench

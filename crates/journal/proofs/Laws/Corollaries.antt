@@ -10,10 +10,10 @@ use lib.Dec.{eqb}
 use Rattle.order.specs.Windows.{lengthAllowed}
 use Rattle.journal.specs.Plans.{Piece, Verdict, refused, plan, Judge, LaysInside, spanOf}
 use Rattle.journal.specs.Journals.{count, held, sound, noRoom}
-use Rattle.journal.specs.Calls.{Answer, done, journalFull, Files, Outcome, refuse, succeed, settle, install, rollback, Call, Install, Rollback, call, answers, run}
-use Rattle.journal.specs.Histories.{Standing, History, begin, countOf, heldOf, stand, fall, told, Start, filesAfter, historyOf, Alike}
+use Rattle.journal.specs.Calls.{Answer, done, Files, Outcome, settle, install, rollback, Call, Install, Rollback, call, answers, run}
+use Rattle.journal.specs.Histories.{History, begin, countOf, heldOf, stand, fall, told, Start, filesAfter, historyOf, Alike}
 use Rattle.journal.proofs.Laws.Agree.{Agrees, agrees}
-use Rattle.journal.proofs.Laws.History.{run-append, kept, same-answers, alike, Over, run-over, agrees-after}
+use Rattle.journal.proofs.Laws.History.{run-append, kept, same-answers, alike, run-over, agrees-after}
 
 either : {A : Type 0} (P : A → Type 0) (b : Bool) (x y : A) → P x → P y → P (cond b x y)
 either P true x y p q = p

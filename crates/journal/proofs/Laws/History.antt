@@ -1,19 +1,19 @@
 -- Demand 3 over any judgement: of every list of calls, from every start. Assumes nothing but that plans lie inside the image.
 use mathlib.Core.Path.{_≡_, refl, sym, ap, ap₂, _∙_}
-use Prim.Native.Nat.{ℕ, _+_, _≤_}
+use Prim.Native.Nat.{ℕ}
 use native.Mathlib.Omega.{arith}
 use native.Mathlib.Numerals.{add-one}
 use mathlib.Core.Bool.{Bool, true, false, cond}
 use mathlib.Core.List.{List, [], _∷_, _++_}
-use lib.ListN.{length, take, drop, length-drop, replicate, replicate-append-replicate}
+use lib.ListN.{length, drop, length-drop, replicate, replicate-append-replicate}
 use borrow.Author.Tests.{leb-true}
 use Rattle.order.specs.Windows.{lengthAllowed}
-use Rattle.journal.specs.Plans.{Piece, Verdict, refused, plan, Judge, LaysInside, spanOf}
-use Rattle.journal.specs.Journals.{count, entries, held, total, noRoom}
-use Rattle.journal.specs.Calls.{Answer, done, journalFull, noneStands, Files, Outcome, refuse, succeed, rollback, Call, Install, Rollback, call, answers, run}
-use Rattle.journal.specs.Histories.{Standing, History, begin, countOf, heldOf, spans, laid, stand, fall, told, Start, filesAfter, historyOf, AsTold, Alike, alone, standingAlone, Holds}
+use Rattle.journal.specs.Plans.{Verdict, refused, plan, Judge, LaysInside, spanOf}
+use Rattle.journal.specs.Journals.{total, noRoom}
+use Rattle.journal.specs.Calls.{Answer, done, journalFull, noneStands, Files, Outcome, refuse, succeed, Call, Install, Rollback, call, answers, run}
+use Rattle.journal.specs.Histories.{Standing, History, begin, countOf, heldOf, spans, laid, stand, fall, told, Start, filesAfter, historyOf, Alike, alone, standingAlone, Holds}
 use Rattle.journal.proofs.Laws.Stack.{empty}
-use Rattle.journal.proofs.Laws.Agree.{olds, Stands, Agrees, Agreed, over, agrees, agrees-told}
+use Rattle.journal.proofs.Laws.Agree.{olds, Stands, Agrees, agrees, agrees-told}
 
 -- ---- lists of calls
 

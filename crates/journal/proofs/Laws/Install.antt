@@ -1,7 +1,7 @@
 -- An install, way by way, by any judgement: what an installer's code has to show at each of its answers. Assumes nothing.
-use mathlib.Core.Path.{_≡_, refl, sym, _∙_}
+use mathlib.Core.Path.{_≡_}
 use Prim.Native.Nat.{ℕ, _+_, _*_, _≤_, _<_}
-use mathlib.Core.Bool.{Bool, true, false}
+use mathlib.Core.Bool.{true, false}
 use mathlib.Core.List.{List}
 use native.Mathlib.Omega.{arith}
 use lib.ListN.{length, getD}
@@ -9,7 +9,7 @@ use lib.Dec.{eqb, ltb}
 use borrow.Author.Tests.{ltb-false, eqb-false}
 use Rattle.word.proofs.Laws.Tests.{neither-left, neither-right}
 use Rattle.journal.specs.Plans.{Piece, refused, plan, Judge, Inside, overwritten, spanOf}
-use Rattle.journal.specs.Journals.{maxEntries, oldAt, count, held, entries, blank, total, Sound, sound, noRoom, saved}
+use Rattle.journal.specs.Journals.{maxEntries, oldAt, count, held, entries, blank, Sound, sound, noRoom, saved}
 use Rattle.journal.specs.Facts.{Savable}
 use Rattle.journal.specs.Calls.{journalUnsound, journalFull, Files, refuse, succeed, installed, settle, install}
 use Rattle.journal.proofs.Laws.Sound.{entries-length, entries-at, total-le}

@@ -3,13 +3,13 @@ use mathlib.Core.Path.{_≡_, refl, sym, _∙_}
 use Prim.Native.Nat.{ℕ, suc, _+_, _-_, _≤_}
 use native.Mathlib.Omega.{arith}
 use mathlib.Core.List.{List, [], _∷_, _++_, append-assoc}
-use lib.ListN.{length, take, drop, getD, length-append, replicate, length-replicate}
+use lib.ListN.{length, length-append, replicate, length-replicate}
 use lib.Seq.{sets, take-at, drop-at}
 use Rattle.word.specs.Bytes.{part}
 use Rattle.word.proofs.Laws.Lists.{length-part}
 use Rattle.journal.specs.declared.Span.{Span}
 use Rattle.journal.specs.Plans.{Piece, overwritten, spanOf}
-use Rattle.journal.specs.Journals.{oldAt, count, held, entry, blank, total, saving, saved, restoring, releasing}
+use Rattle.journal.specs.Journals.{oldAt, count, held, entry, total, saving, saved, restoring, releasing}
 use Rattle.journal.specs.Calls.{installed, rolledBack}
 use Rattle.journal.proofs.Laws.Sound.{total-append}
 use Rattle.journal.proofs.Laws.Format.{spelt}

@@ -1,8 +1,8 @@
 -- The span of a plan: what is laid lies in it, so that its old bytes written back undo the laying. Assumes nothing.
-use mathlib.Core.Path.{_≡_, refl, sym, ap, _∙_}
-use Prim.Native.Nat.{ℕ, zero, suc, _+_, _-_, _≤_, _<_, min, max}
+use mathlib.Core.Path.{_≡_, refl, ap, _∙_}
+use Prim.Native.Nat.{ℕ, zero, suc, _+_, _≤_, _<_, min}
 use native.Mathlib.Omega.{arith}
-use mathlib.Core.List.{List, [], _∷_, _++_}
+use mathlib.Core.List.{List, [], _∷_}
 use lib.ListN.{length, take, drop, take-append-drop}
 use lib.Seq.{sets, sets-eq, length-sets, take-add}
 use Rattle.word.specs.Bytes.{part}
@@ -16,14 +16,14 @@ length-overwritten image [] = refl
 length-overwritten image (piece at b ∷ ps) = length-overwritten (sets image at b) ps ∙ length-sets image at b
 
 -- laying changes nothing below the lowest laid byte, and nothing from the end of the highest on
-take-overwritten : (n top : ℕ) (image : List ℕ) (ps : List Piece) → n ≤ lowest top ps → take n (overwritten image ps) ≡ take n image
+pub take-overwritten : (n top : ℕ) (image : List ℕ) (ps : List Piece) → n ≤ lowest top ps → take n (overwritten image ps) ≡ take n image
 unfolding overwritten lowest
 take-overwritten n top image [] h = refl
 take-overwritten n top image (piece at [] ∷ ps) h = take-overwritten n top image ps h
 take-overwritten n top image (piece at (b ∷ bs) ∷ ps) h =
     take-overwritten n top (sets image at (b ∷ bs)) ps (omega arith) ∙ take-sets n image at (b ∷ bs) (omega arith)
 
-drop-overwritten : (n : ℕ) (image : List ℕ) (ps : List Piece) → end ps ≤ n → drop n (overwritten image ps) ≡ drop n image
+pub drop-overwritten : (n : ℕ) (image : List ℕ) (ps : List Piece) → end ps ≤ n → drop n (overwritten image ps) ≡ drop n image
 unfolding overwritten end
 drop-overwritten n image [] h = refl
 drop-overwritten n image (piece at [] ∷ ps) h = drop-overwritten n image ps h
