@@ -1,5 +1,5 @@
 -- Laws of little-endian numbers, over the number of bytes. Assumes nothing.
-use mathlib.Core.Path.{_≡_, refl, sym, ap}
+use mathlib.Core.Path.{_≡_, refl, sym, ap, ap₂}
 use mathlib.Core.Logic.{_⊎_, ⊎-elim}
 use Prim.Native.Nat.{ℕ, zero, suc, _+_, _*_, _/_, _%_, _^_, _≤_, _<_}
 use native.Mathlib.Nat.{zero-add, suc-add, pow-zero, pow-suc, mul-comm, mul-assoc, div-one, mod-one, mod-eq-of-lt, div-div-eq-div-mul}
@@ -107,6 +107,21 @@ unfolding le
 le-lt zero s b = rw pow-zero (omega arith)
 le-lt (suc n) s b =
     rw pow-suc (omega (arith, b 0, le-lt n (drop 1 s) (λ i. rw getD-drop (b (1 + i)))))
+
+-- a number in the rest of a list
+pub leAt-drop : (n a : ℕ) (s : List ℕ) (i : ℕ) → leAt n (drop a s) i ≡ leAt n s (a + i)
+unfolding leAt
+leAt-drop n a s i = rw drop-drop
+
+-- bytes that spell 0 are zeros
+pub le-zero : (n : ℕ) (s : List ℕ) → n ≤ length s → le n s ≡ 0 → s ≡ bytes n 0 ++ drop n s
+unfolding le bytes
+le-zero zero s h e = refl
+le-zero (suc n) [] h e = absurd (omega arith)
+le-zero (suc n) (x ∷ s) h e =
+    let head : x ≡ 0 = omega arith in
+    let tail : s ≡ bytes n 0 ++ drop n s = le-zero n s (omega arith) (omega arith) in
+    ap₂ _∷_ head tail
 
 -- ---- after a run of stores
 

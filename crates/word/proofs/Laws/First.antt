@@ -3,6 +3,7 @@ use mathlib.Core.Path.{_≡_, refl, sym, ap, _∙_}
 use Prim.Native.Nat.{ℕ, zero, suc, _≤_, _<_}
 use mathlib.Core.Bool.{Bool, true, false, cond, not}
 use native.Mathlib.Omega.{arith}
+use mathlib.Core.List.{List, [], _∷_, _++_}
 use lib.ListN.{length, getD, set}
 use borrow.Author.Tests.{eqb-true, eq-eqb, not-false}
 use Rattle.word.specs.First.{first, everywhere, tabulate}
@@ -103,3 +104,9 @@ set-tabulate f g (suc n) zero e =
     rw (tabulate-same (λ j. f (suc j)) (λ j. g (suc j)) n (λ j h. e (suc j) (omega arith) (λ z. omega arith)))
 set-tabulate f g (suc n) (suc i) e =
     rw (e 0 (omega arith) (λ z. omega arith), set-tabulate (λ j. f (suc j)) (λ j. g (suc j)) n i (λ j h z. e (suc j) (omega arith) (λ y. z (omega arith))))
+
+-- one more value
+pub tabulate-snoc : {A : Type 0} (f : ℕ → A) (n : ℕ) → tabulate f (suc n) ≡ tabulate f n ++ f n ∷ []
+unfolding tabulate
+tabulate-snoc f zero = refl
+tabulate-snoc f (suc n) = ap (λ l. f 0 ∷ l) (tabulate-snoc (λ j. f (suc j)) n)

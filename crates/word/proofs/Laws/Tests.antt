@@ -15,6 +15,20 @@ pub and-right : (a b : Bool) → a && b ≡ true → b ≡ true
 and-right true b e = e
 and-right false b e = cc
 
+-- the half that holds where the other fails
+pub or-right : (a b : Bool) → a ≡ false → a || b ≡ true → b ≡ true
+or-right true b f e = cc
+or-right false b f e = e
+
+-- the two halves of a test that fails
+pub neither-left : (a b : Bool) → a || b ≡ false → a ≡ false
+neither-left true b e = e
+neither-left false b e = refl
+
+pub neither-right : (a b : Bool) → a || b ≡ false → b ≡ false
+neither-right true b e = cc
+neither-right false b e = e
+
 -- a half that is decided
 pub and-true : (a : Bool) → a && true ≡ a
 and-true true = refl

@@ -1,0 +1,136 @@
+-- Document 01, "Ledger", which is the journal: "count n (0 to 16); 16 entries of start u32 and length u32, those from n on zero; count k; k
+-- old bytes." Assumes nothing: these are definitions.
+--
+--     n            u32                              at 0
+--     entries      16 times start u32, length u32   at 4
+--     k            u32                              at 132
+--     old bytes    k bytes                          at 136
+--
+-- "A start counts from the image's first byte." A span's length is its `size`.
+use mathlib.Core.Path.{_≡_}
+use Prim.Native.Nat.{ℕ, _+_, _-_, _*_, _≤_, _<_}
+use mathlib.Core.Bool.{Bool, _&&_, _||_}
+use mathlib.Core.List.{List, [], _∷_, _++_}
+use lib.ListN.{length, replicate}
+use lib.Dec.{leb, ltb, eqb}
+use Rattle.word.specs.Bytes.{leAt, bytes, part}
+use Rattle.word.specs.First.{everywhere, tabulate}
+use Rattle.journal.specs.declared.Span.{Span}
+use Rattle.journal.specs.Plans.{Piece, piece, overwritten}
+
+-- ---- the format
+
+abbrev pub maxEntries : ℕ
+maxEntries = 16
+
+-- where n, entry i, k and the old bytes stand
+abbrev pub countAt : ℕ
+countAt = 0
+
+abbrev pub entryAt : ℕ → ℕ
+entryAt i = 4 + 8 * i
+
+abbrev pub heldAt : ℕ
+heldAt = 132
+
+abbrev pub oldAt : ℕ
+oldAt = 136
+
+-- n, the number of standing installs
+abbrev pub count : List ℕ → ℕ
+count j = leAt 4 j countAt
+
+-- entry i: the span of an install
+unfoldable pub entry : List ℕ → ℕ → Span
+entry j i = record { start = leAt 4 j (entryAt i); size = leAt 4 j (entryAt i + 4) }
+
+-- the 16 entries
+unfoldable pub entries : List ℕ → List Span
+entries j = tabulate (entry j) maxEntries
+
+-- k, the number of old bytes
+abbrev pub held : List ℕ → ℕ
+held j = leAt 4 j heldAt
+
+-- an entry with nothing in it, and the bytes of an entry
+abbrev pub blank : Span
+blank = record { start = 0; size = 0 }
+
+abbrev pub entryBytes : Span → List ℕ
+entryBytes s = bytes 4 (s .start) ++ bytes 4 (s .size)
+
+-- the sum of the spans' lengths
+unfoldable pub total : List Span → ℕ
+total [] = 0
+total (s ∷ ss) = s .size + total ss
+
+-- ---- check 1
+
+-- "A ledger of which all this holds is sound": a journal, for an image of the length
+pub record Sound (j : List ℕ) (len : ℕ) : Type 0 where
+  -- "count n (0 to 16)"
+  pub few : count j ≤ maxEntries
+  -- "16 entries .., those from n on zero"
+  pub others-zero : (i : ℕ) → count j ≤ i → i < maxEntries → entry j i ≡ blank
+  -- "k is the sum of the lengths"
+  pub held-is : held j ≡ total (entries j)
+  -- "136 + k fits in the ledger"
+  pub fits : oldAt + held j ≤ length j
+  -- "each span lies inside the image"
+  pub inside : (i : ℕ) → i < maxEntries → entry j i .start + entry j i .size ≤ len
+
+-- the test that is computed, clause by clause the same
+unfoldable pub isBlank : Span → Bool
+isBlank s = eqb (s .start) 0 && eqb (s .size) 0
+
+unfoldable pub endsWithin : ℕ → Span → Bool
+endsWithin len s = leb (s .start + s .size) len
+
+unfoldable pub sound : List ℕ → ℕ → Bool
+sound j len =
+    leb (count j) maxEntries
+    && everywhere (λ i. ltb i (count j) || isBlank (entry j i)) maxEntries
+    && eqb (held j) (total (entries j))
+    && leb (oldAt + held j) (length j)
+    && everywhere (λ i. endsWithin len (entry j i)) maxEntries
+
+-- ---- check 15
+
+-- of n and k, a span's length and the journal's length: "n is 16, or 136 + k + span above ledger length"
+unfoldable pub noRoom : ℕ → ℕ → ℕ → ℕ → Bool
+noRoom n k size len = eqb n maxEntries || ltb len (oldAt + k + size)
+
+-- ---- what is written, in this order, each piece from its first byte up; "Bytes past 136 + k are not read, and not written otherwise."
+
+-- "A fit appends the span's old bytes": these, the entry, k, n
+unfoldable pub saving : List ℕ → List ℕ → Span → List Piece
+saving image j s =
+    piece (oldAt + held j) (part image (s .start) (s .size))
+    ∷ piece (entryAt (count j)) (entryBytes s)
+    ∷ piece heldAt (bytes 4 (held j + s .size))
+    ∷ piece countAt (bytes 4 (count j + 1))
+    ∷ []
+
+-- the journal with a span of the image recorded
+unfoldable pub saved : List ℕ → List ℕ → Span → List ℕ
+saved image j s = overwritten j (saving image j s)
+
+-- the newest entry, and what k is without it
+abbrev pub newest : List ℕ → Span
+newest j = entry j (count j - 1)
+
+abbrev pub heldBelow : List ℕ → ℕ
+heldBelow j = held j - newest j .size
+
+-- "A taking-back writes them back": the newest span's old bytes, into the image
+unfoldable pub restoring : List ℕ → List Piece
+restoring j = piece (newest j .start) (part j (oldAt + heldBelow j) (newest j .size)) ∷ []
+
+-- ", zeroes the entry and the released bytes, and lowers n and k": n, k, then the zeroing
+unfoldable pub releasing : List ℕ → List Piece
+releasing j =
+    piece countAt (bytes 4 (count j - 1))
+    ∷ piece heldAt (bytes 4 (heldBelow j))
+    ∷ piece (entryAt (count j - 1)) (entryBytes blank)
+    ∷ piece (oldAt + heldBelow j) (replicate (newest j .size) 0)
+    ∷ []
