@@ -22,9 +22,9 @@ fn case(given: Given) -> Case {
 
 /// The vectors of checks 2 to 8, and every fourth of the others.
 pub fn cases() -> Vec<Case> {
-    let is_chosen = |at: usize, given: &Given| matches!(given.answer.0, 2..=8) || at % 4 == 0;
-    let numbered = vectors().into_iter().enumerate();
-    let chosen = numbered.filter(|(at, given)| is_chosen(*at, given));
-    let fits = chosen.map(|(_, given)| given).chain(objects());
+    let is_stated = |given: &Given| matches!(given.answer.0, 2..=8);
+    let (stated, others): (Vec<Given>, Vec<Given>) = vectors().into_iter().partition(is_stated);
+    let fourth = others.into_iter().step_by(4);
+    let fits = stated.into_iter().chain(fourth).chain(objects());
     fits.map(case).collect()
 }

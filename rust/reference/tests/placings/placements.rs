@@ -17,8 +17,7 @@ fn note(size: usize) -> Section {
     }
 }
 
-/// Sections 1, 3 and 5 are allocated, and are placed so far apart that no
-/// address for any section breaks check 8. Section 4 is the symbol table.
+/// Sections 1, 3 and 5 are allocated, section 4 is the symbol table.
 fn six() -> Fit {
     let symbols = [
         Symbol::default(),
@@ -50,7 +49,7 @@ fn six() -> Fit {
     fit
 }
 
-/// Sections with addresses that tell them apart.
+/// Sections with addresses; those of sections 1, 3 and 5 keep check 8.
 fn at_rows(rows: &[u32]) -> Vec<(u32, u32)> {
     let address = |row: u32| BASE + (row % 8) * 8 - 8;
     rows.iter().map(|row| (*row, address(*row))).collect()

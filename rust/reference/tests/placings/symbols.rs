@@ -168,7 +168,7 @@ fn every_kind() -> Case {
 
 /// A symbol of each of 32 sections, of which every third is not allocated.
 fn every_section() -> Case {
-    let is_allocated = |index: u32| index % 3 != 0;
+    let is_allocated = |index: u32| !index.is_multiple_of(3);
     let symbol = |section: u16| Symbol::new(GLOBAL, section, 0x10_0000);
     let symbols: Vec<Symbol> = (0..34).map(symbol).collect();
     let mut sections: Vec<(Section, u32)> = (1..32)
