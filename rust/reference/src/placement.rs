@@ -35,7 +35,7 @@ fn is_undefined(object: &Object, symbol: u32) -> bool {
 
 /// The addresses that an order gives. Check 6 has passed, so that each
 /// placement names a section of the table.
-pub(crate) fn addresses(order: &Order) -> Addresses {
+pub fn addresses(order: &Order) -> Addresses {
     let mut addresses = [Address(0); MAX_SECTIONS];
     for placement in &order.placements {
         addresses[placement.section as usize] = placement.address;

@@ -210,6 +210,23 @@ impl Fit {
         }
     }
 
+    /// Sections with their addresses, counted from 1, and an image of this
+    /// length.
+    pub fn placed(base: u32, image_length: usize, sections: &[(Section, u32)]) -> Fit {
+        let numbered = sections.iter().zip(1..);
+        let placements = numbered.map(|((_, address), index)| (index, *address));
+        let mut all = vec![Section::default()];
+        all.extend(sections.iter().map(|(section, _)| section.clone()));
+        Fit {
+            sections: all,
+            base,
+            placements: placements.collect(),
+            external_values: Vec::new(),
+            image: vec![0x5A; image_length],
+            journal: journal(image_length),
+        }
+    }
+
     pub fn object(&self) -> Vec<u8> {
         object(&self.sections)
     }

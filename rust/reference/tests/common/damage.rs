@@ -160,13 +160,13 @@ fn wound_relocation(random: &mut Random, object: &mut [u8]) {
     }
 }
 
-fn get(bytes: &[u8], at: usize, count: usize) -> usize {
+pub fn get(bytes: &[u8], at: usize, count: usize) -> usize {
     let found = bytes.get(at..at + count).unwrap_or_default();
     let fold = |number: usize, byte: &u8| number * 256 + usize::from(*byte);
     found.iter().rev().fold(0, fold)
 }
 
-fn put(bytes: &mut [u8], at: usize, value: u32, count: usize) {
+pub fn put(bytes: &mut [u8], at: usize, value: u32, count: usize) {
     if let Some(place) = bytes.get_mut(at..at + count) {
         place.copy_from_slice(&value.to_le_bytes()[..count]);
     }

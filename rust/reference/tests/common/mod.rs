@@ -2,7 +2,9 @@
 #![allow(dead_code)]
 
 pub mod build;
+pub mod commands;
 pub mod damage;
+pub mod given;
 pub mod random;
 pub mod sample;
 pub mod vectors;

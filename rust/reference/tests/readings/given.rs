@@ -6,7 +6,7 @@ use std::path::Path;
 
 use reference::order::Order;
 
-use crate::common::vectors::{bytes, lines, number};
+use crate::common::given::{objects, vectors, Given};
 use crate::{Case, Question};
 
 /// What checks 2 to 5 say of a fit whose answer is known. A broken check hides
@@ -34,53 +34,19 @@ fn stated(number: u32, place: u32) -> Stated {
 }
 
 /// Object, order and window of one fit.
-fn fit(name: &str, files: [Vec<u8>; 2], image_length: usize, stated: Stated) -> Vec<Case> {
-    let [object, order] = files;
-    let window = Order::read(&order).map(|read| {
-        let question = Question::Window(read.base.0, image_length as u32);
+fn fit(given: Given) -> Vec<Case> {
+    let name = &given.name;
+    let stated = stated(given.answer.0, given.answer.1);
+    let window = Order::read(&given.order).map(|read| {
+        let question = Question::Window(read.base.0, given.image_length as u32);
         Case::new(name, question, stated.window)
     });
     let mut cases = vec![
-        Case::new(name, Question::Object(object), stated.object),
-        Case::new(name, Question::Order(order), stated.order),
+        Case::new(name, Question::Object(given.object), stated.object),
+        Case::new(name, Question::Order(given.order), stated.order),
     ];
     cases.extend(window);
     cases
-}
-
-/// The fits of the vectors.
-fn vectors() -> Vec<Case> {
-    let read = |(at, words): (usize, Vec<String>)| {
-        if words[0] != "fit" {
-            return vec![];
-        }
-        let files = [bytes(&words[1]), bytes(&words[2])];
-        let stated = stated(number(&words[5]), number(&words[6]));
-        fit(
-            &format!("vector {at}"),
-            files,
-            bytes(&words[3]).len(),
-            stated,
-        )
-    };
-    lines("calls.txt").into_iter().flat_map(read).collect()
-}
-
-fn objects() -> Vec<Case> {
-    let folder = Path::new(env!("CARGO_MANIFEST_DIR")).join("../../objects");
-    let entries = fs::read_dir(&folder).expect("objects");
-    let mut names: Vec<String> = entries
-        .map(|entry| entry.expect("entry"))
-        .filter(|entry| entry.path().is_dir())
-        .map(|entry| entry.file_name().into_string().expect("a name"))
-        .collect();
-    names.sort();
-    let read = |name: &String| {
-        let file = |file: &str| fs::read(folder.join(name).join(file)).expect("a file");
-        let files = [file(&format!("{name}.o")), file("order")];
-        fit(name, files, file("image").len(), stated(0, 0))
-    };
-    names.iter().flat_map(read).collect()
 }
 
 /// A real object cut at every length. Its section headers are its last bytes.
@@ -101,8 +67,6 @@ fn cut_object() -> Vec<Case> {
 }
 
 pub fn cases() -> Vec<Case> {
-    let mut cases = vectors();
-    cases.extend(objects());
-    cases.extend(cut_object());
-    cases
+    let fits = vectors().into_iter().chain(objects());
+    fits.flat_map(fit).chain(cut_object()).collect()
 }

@@ -5,20 +5,9 @@ use crate::DONE;
 
 const BASE: u32 = 0x1000;
 
-/// Loaded sections of these sizes on an image of 100 bytes from 0x1000 on, each
-/// with its address.
+/// Sections on an image of 100 bytes from 0x1000 on, each with its address.
 fn placed(sections: &[(Section, u32)]) -> Fit {
-    let mut fit = Fit::code(BASE, &[], &[], &[]);
-    fit.sections = vec![Section::default()];
-    fit.placements.clear();
-    for (section, address) in sections {
-        fit.placements.push((fit.sections.len() as u32, *address));
-        fit.sections.push(section.clone());
-    }
-    fit.base = BASE;
-    fit.image = vec![0x5A; 100];
-    fit.journal = journal(100);
-    fit
+    Fit::placed(BASE, 100, sections)
 }
 
 fn bytes(size: usize) -> Section {

@@ -1,0 +1,103 @@
+// p: the first of checks 2 to 8 that an object and an order break; where they break none, the addresses and the values of the symbols.
+ghost use mathlib.Core.Path.{_≡_};
+ghost use Prim.Native.Nat.{_≤_};
+ghost use Rattle.elf.specs.Sound.{SoundObject};
+ghost use Rattle.order.specs.Orders.{reading};
+use super::lines;
+use elf::ObjectCheck;
+use order::Counts;
+use order::Reading;
+use place::Fault;
+
+pub fn line(object: &[u8], order: &[u8], len: usize) {
+    match order::read_order(order) {
+        Reading::Malformed => lines::answer(2, 0),
+        Reading::WellFormed(counts) => read(object, order, counts, len),
+    }
+    lines::end();
+}
+
+// Checks 3 to 5.
+fn read(object: &[u8], order: &[u8], counts: Counts, len: usize)
+    requires { ⌜ reading (now order) ≡ Reading.WellFormed counts ⌝ }
+{
+    if !order::window_allowed(counts.base, len) {
+        lines::answer(3, 0);
+        return;
+    }
+    match elf::check_object(object) {
+        ObjectCheck::BadHeader => lines::answer(4, 0),
+        ObjectCheck::BadSection(i) => lines::answer(5, i as u64),
+        ObjectCheck::Passed => placements(object, order, counts, len),
+    }
+}
+
+// Check 6.
+fn placements(object: &[u8], order: &[u8], counts: Counts, len: usize)
+    requires { ⌜ SoundObject (now object) × (reading (now order) ≡ Reading.WellFormed counts) × (len ≤ 65536) ⌝ }
+{
+    match place::check_placements(object, order, counts) {
+        Fault::At(i) => lines::answer(6, i as u64),
+        Fault::Nowhere => externals(object, order, counts, len),
+    }
+}
+
+// Check 7.
+fn externals(object: &[u8], order: &[u8], counts: Counts, len: usize)
+    requires { ⌜ SoundObject (now object) × (reading (now order) ≡ Reading.WellFormed counts) × (len ≤ 65536) ⌝ }
+{
+    match place::check_externals(object, order, counts) {
+        Fault::At(k) => lines::answer(7, k as u64),
+        Fault::Nowhere => placing(object, order, counts, len),
+    }
+}
+
+// Check 8.
+fn placing(object: &[u8], order: &[u8], counts: Counts, len: usize)
+    requires { ⌜ SoundObject (now object) × (reading (now order) ≡ Reading.WellFormed counts) × (len ≤ 65536) ⌝ }
+{
+    let given = order::address_array(order, counts);
+    let placed = place::check_placing(object, given, counts.base, len);
+    let fault = placed.fault;
+    let array = placed.addresses;
+    match fault {
+        Fault::At(i) => lines::answer(8, i as u64),
+        Fault::Nowhere => passed(object, order, counts, array),
+    }
+}
+
+fn passed(object: &[u8], order: &[u8], counts: Counts, array: [u32; 32])
+    requires { ⌜ SoundObject (now object) × (reading (now order) ≡ Reading.WellFormed counts) ⌝ }
+{
+    lines::answer(0, 0);
+    addresses(array);
+    values(object, order, counts, array);
+}
+
+fn addresses(array: [u32; 32]) {
+    let mut i: usize = 0;
+    while i < 32 {
+        lines::then(array[i]);
+        i += 1;
+    }
+}
+
+// The value of each symbol, and of three numbers past the table. There are at most 1,024 symbols: the `return` is never taken.
+fn values(object: &[u8], order: &[u8], counts: Counts, array: [u32; 32])
+    requires { ⌜ SoundObject (now object) × (reading (now order) ≡ Reading.WellFormed counts) ⌝ }
+{
+    let n = elf::symbol_count(object);
+    if 1024 < n {
+        return;
+    }
+    let end = n as u32 + 3;
+    let mut known = array;
+    let mut k: u32 = 0;
+    while k < end {
+        let found = place::symbol_value(object, order, counts, known, k);
+        let value = found.value;
+        lines::value(value);
+        known = found.addresses;
+        k += 1;
+    }
+}

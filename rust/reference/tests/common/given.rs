@@ -1,0 +1,54 @@
+//! The objects and orders of the repository: the fits of the vectors, and what
+//! real assemblers and compilers made.
+
+use std::fs;
+use std::path::Path;
+
+use super::vectors::{bytes, lines, number};
+
+/// What a fit is asked with, besides the ledger, and its number and place.
+#[derive(Clone, Debug)]
+pub struct Given {
+    pub name: String,
+    pub object: Vec<u8>,
+    pub order: Vec<u8>,
+    pub image_length: usize,
+    pub answer: (u32, u32),
+}
+
+/// The fits of the vectors.
+pub fn vectors() -> Vec<Given> {
+    let fits = lines("calls.txt").into_iter();
+    fits.filter(|(_, words)| words[0] == "fit")
+        .map(|(at, words)| Given {
+            name: format!("vector {at}"),
+            object: bytes(&words[1]),
+            order: bytes(&words[2]),
+            image_length: bytes(&words[3]).len(),
+            answer: (number(&words[5]), number(&words[6])),
+        })
+        .collect()
+}
+
+/// The real objects with their orders. All of these fits are done.
+pub fn objects() -> Vec<Given> {
+    let folder = Path::new(env!("CARGO_MANIFEST_DIR")).join("../../objects");
+    let entries = fs::read_dir(&folder).expect("objects");
+    let mut names: Vec<String> = entries
+        .map(|entry| entry.expect("entry"))
+        .filter(|entry| entry.path().is_dir())
+        .map(|entry| entry.file_name().into_string().expect("a name"))
+        .collect();
+    names.sort();
+    let read = |name: String| {
+        let file = |file: &str| fs::read(folder.join(&name).join(file)).expect("a file");
+        Given {
+            object: file(&format!("{name}.o")),
+            order: file("order"),
+            image_length: file("image").len(),
+            answer: (0, 0),
+            name,
+        }
+    };
+    names.into_iter().map(read).collect()
+}

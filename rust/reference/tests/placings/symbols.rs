@@ -1,0 +1,206 @@
+//! S of symbols of every kind, with the values.
+
+use crate::common::build::*;
+use crate::Case;
+
+const BASE: u32 = 0x8000_0000;
+const NOBITS_AT: u32 = 0xFFFF_FFF0;
+const EMPTY_AT: u32 = 0x10;
+const LOCAL: u8 = 0;
+const TLS: u8 = 6;
+const IFUNC: u8 = 10;
+/// The section number of a common symbol.
+const COMMON: u16 = 0xFFF2;
+/// Sections that are not in the table, or are no section.
+const OTHERS: [u16; 12] = [
+    6, 7, 31, 32, 33, 0x101, 0xFEFF, 0xFF00, 0xFFF0, COMMON, 0xFFF3, 0xFFFF,
+];
+
+/// Sections 1, 3 and 5 are allocated, section 4 is the symbol table.
+fn six(symbols: &[Symbol], external_values: &[(u32, u32)]) -> Fit {
+    let note = Section {
+        flags: 0,
+        ..Section::loaded(1, &[7; 8])
+    };
+    let sections = [
+        (Section::loaded(4, &[1; 8]), BASE),
+        (note, 0),
+        (Section::nobits(4, 8), NOBITS_AT),
+        (Section::symbols(symbols), 0),
+        (Section::loaded(1, &[]), EMPTY_AT),
+    ];
+    let mut fit = Fit::placed(BASE, 64, &sections);
+    fit.placements.retain(|(index, _)| index % 2 == 1);
+    fit.external_values = external_values.to_vec();
+    fit
+}
+
+/// A symbol, the order's value for it, and S.
+type Row = (Symbol, Option<u32>, Option<u32>);
+
+fn defined() -> Vec<Row> {
+    let row = |info, section, value, s| (Symbol::new(info, section, value), None, Some(s));
+    vec![
+        row(LOCAL, 1, 0, BASE),
+        row(GLOBAL, 1, 8, BASE + 8),
+        row(WEAK, 1, 9_000, BASE + 9_000),
+        row(LOCAL, 1, 0x7FFF_FFFF, u32::MAX),
+        row(LOCAL, 1, 0x8000_0000, 0),
+        row(LOCAL, 1, 0x8000_0001, 1),
+        row(LOCAL, 1, u32::MAX, 0x7FFF_FFFF),
+        row(LOCAL, 3, 0, NOBITS_AT),
+        row(LOCAL, 3, 15, u32::MAX),
+        row(LOCAL, 3, 16, 0),
+        row(GLOBAL, 3, u32::MAX, NOBITS_AT - 1),
+        row(GLOBAL, 5, 4, EMPTY_AT + 4),
+        row(GLOBAL, 5, u32::MAX, EMPTY_AT - 1),
+        row(LOCAL, ABSOLUTE, 0, 0),
+        row(GLOBAL, ABSOLUTE, 0x1234_5678, 0x1234_5678),
+        row(WEAK, ABSOLUTE, u32::MAX, u32::MAX),
+    ]
+}
+
+fn undefined() -> Vec<Row> {
+    let row = |info, external, s| (Symbol::new(info, 0, 0x111), external, s);
+    vec![
+        row(GLOBAL, Some(7), Some(7)),
+        row(GLOBAL, Some(0), Some(0)),
+        row(GLOBAL, Some(u32::MAX), Some(u32::MAX)),
+        row(GLOBAL, None, None),
+        row(LOCAL, Some(8), Some(8)),
+        row(LOCAL, None, None),
+        row(WEAK, Some(0x8765_4321), Some(0x8765_4321)),
+        row(WEAK, Some(0), Some(0)),
+        row(WEAK, None, Some(0)),
+        row(0x30, Some(9), Some(9)),
+        row(0x30, None, None),
+        row(0x60, None, None),
+        row(0xA0, None, None),
+        row(0x02, None, None),
+        row(0x12, None, None),
+        row(0xF2, None, None),
+        row(0x22, None, Some(0)),
+        row(0x2F, None, Some(0)),
+    ]
+}
+
+/// "Anything else [...] and types TLS 6 and IFUNC 10 do not resolve."
+fn unresolved() -> Vec<Row> {
+    let mut rows = Vec::new();
+    for section in [2, 4].into_iter().chain(OTHERS) {
+        rows.push((Symbol::new(GLOBAL, section, 5), None, None));
+    }
+    for kind in [TLS, IFUNC] {
+        for section in [1, 2, 3, 5, 6, ABSOLUTE, COMMON] {
+            rows.push((Symbol::new(GLOBAL + kind, section, 4), None, None));
+        }
+        for binding in [LOCAL, GLOBAL, WEAK] {
+            rows.push((Symbol::new(binding + kind, 0, 0), Some(3), None));
+            rows.push((Symbol::new(binding + kind, 0, 0), None, None));
+        }
+    }
+    rows
+}
+
+/// All these symbols in one table.
+fn table(name: &str, rows: &[Row]) -> Case {
+    let symbols = rows.iter().map(|row| row.0);
+    let all: Vec<Symbol> = [Symbol::default()].into_iter().chain(symbols).collect();
+    let given = (1..).zip(rows);
+    let externals: Vec<(u32, u32)> = given
+        .clone()
+        .filter_map(|(index, row)| Some((index, row.1?)))
+        .collect();
+    let mut case = Case::new(name, &six(&all, &externals), (0, 0));
+    case.values = given.map(|(index, row)| (index, row.2)).collect();
+    let past = all.len() as u32;
+    case.values
+        .extend([(0, Some(0)), (past, None), (past + 2, None)]);
+    case
+}
+
+/// "0 for symbol 0, whatever its entry holds and even in an empty table"
+fn symbol_0() -> Vec<Case> {
+    let entries = [
+        Symbol::new(GLOBAL, 1, 99),
+        Symbol::new(GLOBAL, 2, 99),
+        Symbol::new(GLOBAL, 0, 99),
+        Symbol::new(GLOBAL + TLS, 77, 99),
+        Symbol::new(IFUNC, ABSOLUTE, 99),
+        Symbol::new(GLOBAL, COMMON, 99),
+        Symbol::absolute(99),
+    ];
+    let with = |name: &str, fit: &Fit, count: u32| {
+        let mut case = Case::new(name, fit, (0, 0));
+        case.values = vec![(0, Some(0))];
+        let past = [count.max(1), count + 1, count + 2];
+        case.values.extend(past.map(|index| (index, None)));
+        case
+    };
+    let no_table = Fit::placed(BASE, 8, &[(Section::loaded(4, &[1; 8]), BASE)]);
+    let mut cases = vec![
+        with("no table", &no_table, 0),
+        with("an empty table", &six(&[], &[]), 0),
+    ];
+    cases.extend(entries.map(|entry| with("an odd symbol 0", &six(&[entry], &[]), 1)));
+    cases
+}
+
+/// Every type, binding and section together, undefined ones once with a value
+/// and once without.
+fn every_kind() -> Case {
+    let mut symbols = vec![Symbol::default()];
+    let mut externals = Vec::new();
+    for kind in 0..16 {
+        for binding in [LOCAL, GLOBAL, WEAK, 0x30, 0xA0] {
+            for section in [1, 2, 3, 5, 6, 32, ABSOLUTE, COMMON, 0xFFFF, 0, 0] {
+                let at = symbols.len() as u32;
+                let is_second = symbols.last().is_some_and(|last| last.section == 0);
+                if section == 0 && is_second {
+                    externals.push((at, at << 20));
+                }
+                symbols.push(Symbol::new(binding + kind, section, at * 0x0030_0001));
+            }
+        }
+    }
+    Case::new("every kind", &six(&symbols, &externals), (0, 0))
+}
+
+/// A symbol of each of 32 sections, of which every third is not allocated.
+fn every_section() -> Case {
+    let is_allocated = |index: u32| !index.is_multiple_of(3);
+    let symbol = |section: u16| Symbol::new(GLOBAL, section, 0x10_0000);
+    let symbols: Vec<Symbol> = (0..34).map(symbol).collect();
+    let mut sections: Vec<(Section, u32)> = (1..32)
+        .map(|index| (Section::loaded(1, &[1]), BASE + index))
+        .collect();
+    for (section, _) in sections.iter_mut().skip(2).step_by(3) {
+        section.flags = 0;
+    }
+    sections[29].0 = Section::symbols(&symbols);
+    let mut fit = Fit::placed(BASE, 64, &sections);
+    fit.placements.retain(|(index, _)| is_allocated(*index));
+    let mut case = Case::new("every section", &fit, (0, 0));
+    let value = |index: u32| {
+        let is_placed = index < 32 && is_allocated(index);
+        (index, is_placed.then_some(BASE + 0x10_0000 + index))
+    };
+    case.values = (1..34).map(value).collect();
+    case
+}
+
+pub fn cases() -> Vec<Case> {
+    let mut cases = vec![
+        table("defined symbols", &defined()),
+        table("undefined symbols", &undefined()),
+        table("unresolved symbols", &unresolved()),
+        table(
+            "all symbols",
+            &[unresolved(), defined(), undefined()].concat(),
+        ),
+        every_kind(),
+        every_section(),
+    ];
+    cases.extend(symbol_0());
+    cases
+}
