@@ -50,7 +50,7 @@ returns-4 : tie.Need-returns-4
 returns-4 c = search needs
 
 save-requires : tie.Need-save-requires
-save-requires c κs = 
+save-requires c κs =
     savable _ _ _ (sym (c .before .before .before .before .before .before .before .before .before .before .is-sound .ensures) ∙ not-false _ (c .before .before .before .before .before .before .before .before .before .if1 .left))
     (sym (c .before .before .before .before .before .before .before .before .length-allowed .ensures) ∙ not-false _ (c .before .before .before .before .before .before .before .if2 .left))
     (not-true _ (sym (c .before .before .has-room .ensures) ∙ not-false _ (c .before .if4 .left))) (omega arith)
