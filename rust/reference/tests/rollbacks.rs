@@ -9,6 +9,7 @@ use std::fs;
 use std::path::{Path, PathBuf};
 
 use common::vectors::{bytes, bytes_after, lines};
+use reference::journal::Standing;
 use reference::{install, judge, rollback, Span, MAX_BYTES};
 
 const SPACE: usize = 131_072;
@@ -99,6 +100,48 @@ fn of_histories() -> Vec<Case> {
     let ends = ends.filter(|words| words[0] == "end");
     ends.flat_map(|words| rollbacks(&bytes(&words[1]), &bytes(&words[2])))
         .collect()
+}
+
+/// "Ledger after laying four bytes there over AA BB CC DD: 01000000, 08000000
+/// 04000000, 120 zero bytes, 04000000 AABBCCDD"
+fn bench() -> Vec<u8> {
+    let mut journal = vec![1, 0, 0, 0, 8, 0, 0, 0, 4, 0, 0, 0];
+    journal.extend([0; 120]);
+    journal.extend([4, 0, 0, 0, 0xAA, 0xBB, 0xCC, 0xDD]);
+    journal
+}
+
+/// The bench ledger saved and rolled back; a byte of room less and more; no
+/// entry left.
+fn of_bench() -> Vec<Case> {
+    let image = [&[0; 8], &[0xAA, 0xBB, 0xCC, 0xDD, 7][..]].concat();
+    let span = Span {
+        start: 8,
+        length: 4,
+    };
+    let mut full = vec![0; 140];
+    full[0] = 16;
+    let befores = [vec![0; 139], vec![0; 140], vec![0; 141], full];
+    let mut cases = Vec::new();
+    for before in befores {
+        let standing = Standing::read(&before, image.len()).expect("a sound ledger");
+        let room = standing.has_room_for(span, before.len());
+        let mut after = before.clone();
+        if room {
+            after[..140].copy_from_slice(&bench());
+        }
+        cases.push(Case {
+            kind: 1,
+            image: image.clone(),
+            journal: before,
+            span,
+            number: if room { 0 } else { 15 },
+            image_after: image.clone(),
+            journal_after: after.clone(),
+        });
+        cases.extend(rollbacks(&image, &after));
+    }
+    cases
 }
 
 /// A journal of two standing installs, of 4 bytes at 2 and of 3 at 4, with some
@@ -225,6 +268,7 @@ impl Case {
 fn cases() -> Vec<Case> {
     let mut cases = of_calls();
     cases.extend(of_histories());
+    cases.extend(of_bench());
     cases.extend(unsound());
     cases.extend(lengths());
     cases
