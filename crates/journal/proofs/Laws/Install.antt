@@ -6,13 +6,15 @@ use mathlib.Core.List.{List}
 use native.Mathlib.Omega.{arith}
 use lib.ListN.{length, getD}
 use lib.Dec.{eqb, ltb}
-use borrow.Author.Tests.{ltb-false, eqb-false}
+use borrow.Author.Tests.{leb-true, ltb-false, eqb-false}
 use Rattle.word.proofs.Laws.Tests.{neither-left, neither-right}
+use Rattle.order.specs.Windows.{lengthAllowed}
+use Rattle.journal.specs.declared.Span.{Span}
 use Rattle.journal.specs.Plans.{Piece, refused, plan, Judge, Inside, overwritten, spanOf}
 use Rattle.journal.specs.Journals.{maxEntries, oldAt, count, held, entries, blank, Sound, sound, noRoom, saved}
 use Rattle.journal.specs.Facts.{Savable}
 use Rattle.journal.specs.Calls.{journalUnsound, journalFull, Files, refuse, succeed, installed, settle, install}
-use Rattle.journal.proofs.Laws.Sound.{entries-length, entries-at, total-le}
+use Rattle.journal.proofs.Laws.Sound.{test-sound, entries-length, entries-at, total-le}
 use Rattle.journal.proofs.Laws.Span.{span-inside}
 
 -- where check 15 is not broken, there is an entry, and room for the span
@@ -53,16 +55,23 @@ module _ (judge : Judge) (object order : List ℕ) (f : Files) where
       unfolding install settle installed
       done-with r g a b = rw (ok, e, r) (λ i. succeed (record { image = a i; journal = b i }))
 
--- what `save` asks for follows from the checks: 1, the image's length, 15, and that the plan lies inside the image
-pub savable : (image j : List ℕ) (ps : List Piece) → Sound j (length image) → length image ≤ 65536
-    → noRoom (count j) (held j) (spanOf ps .size) (length j) ≡ false → Inside (length image) ps → Savable image j (spanOf ps)
-savable image j ps s short room inside =
-    let left = room-left (count j) (held j) (spanOf ps .size) (length j) room in
-    let within = span-inside (length image) ps inside in
-    let few = s .few in
+-- what `save` asks for follows from the checks: 1, the image's length, 15, and that the span lies inside the image
+pub savable : (image j : List ℕ) (s : Span) → sound j (length image) ≡ true → lengthAllowed (length image) ≡ true
+    → noRoom (count j) (held j) (s .size) (length j) ≡ false → s .start + s .size ≤ length image → Savable image j s
+unfolding lengthAllowed
+savable image j s ok allowed room inside =
+    let k : Sound j (length image) = test-sound j (length image) ok in
+    let short : length image ≤ 65536 = leb-true (length image) 65536 allowed in
+    let left = room-left (count j) (held j) (s .size) (length j) room in
+    let few : count j ≤ maxEntries = k .few in
     record {
       few = omega (arith, left .0);
       room = left .1;
-      inside = within;
-      small = omega (arith, held-small j (length image) s short);
+      inside = inside;
+      small = omega (arith, held-small j (length image) k short);
     }
+
+-- of a plan's span
+pub plan-savable : (image j : List ℕ) (ps : List Piece) → sound j (length image) ≡ true → lengthAllowed (length image) ≡ true
+    → noRoom (count j) (held j) (spanOf ps .size) (length j) ≡ false → Inside (length image) ps → Savable image j (spanOf ps)
+plan-savable image j ps ok allowed room inside = savable image j (spanOf ps) ok allowed room (span-inside (length image) ps inside)

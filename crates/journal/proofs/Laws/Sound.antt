@@ -1,5 +1,5 @@
 -- Check 1: the test and the proposition agree, and what is known of a sound journal. Assumes nothing.
-use mathlib.Core.Path.{_≡_, refl, ap}
+use mathlib.Core.Path.{_≡_, refl, ap, _∙_}
 use mathlib.Core.Bool.{Bool, true, false, _&&_, _||_}
 use mathlib.Core.List.{List, [], _∷_, _++_}
 use Prim.Native.Nat.{ℕ, zero, suc, _+_, _-_, _*_, _≤_, _<_}
@@ -49,6 +49,10 @@ blank-is s e =
 -- what the code tests at entry i
 abbrev pub allowed : List ℕ → ℕ → ℕ → Bool
 allowed j len i = (ltb i (count j) || isBlank (entry j i)) && endsWithin len (entry j i)
+
+pub allowed-is : (j : List ℕ) (len i n : ℕ) (s : Span) (r : Bool) → n ≡ count j → s ≡ entry j i → r ≡ (ltb i n || isBlank s) && endsWithin len s
+    → r ≡ allowed j len i
+allowed-is j len i n s r en es e = e ∙ rw (en, es)
 
 module _ (j : List ℕ) (len : ℕ) where
   pub test-sound : sound j len ≡ true → Sound j len

@@ -1,12 +1,17 @@
 -- The span of a plan: what is laid lies in it, so that its old bytes written back undo the laying. Assumes nothing.
 use mathlib.Core.Path.{_≡_, refl, ap, _∙_}
-use Prim.Native.Nat.{ℕ, zero, suc, _+_, _≤_, _<_, min}
+use Prim.Native.Nat.{ℕ, zero, suc, _+_, _-_, _≤_, _<_, min, max}
 use native.Mathlib.Omega.{arith}
 use mathlib.Core.List.{List, [], _∷_}
+use mathlib.Core.Bool.{Bool, true, false}
+use mathlib.Core.Logic.{_⊎_, inl, inr, ⊎-elim}
+use lib.Dec.{leb}
+use borrow.Author.Tests.{leb-true, leb-false}
 use lib.ListN.{length, take, drop, take-append-drop}
 use lib.Seq.{sets, sets-eq, length-sets, take-add}
 use Rattle.word.specs.Bytes.{part}
 use Rattle.word.proofs.Laws.Lists.{take-sets, drop-sets, length-part}
+use Rattle.journal.specs.declared.Span.{Span}
 use Rattle.journal.specs.Plans.{Piece, piece, Inside, overwritten, end, lowest, spanOf}
 
 -- laying keeps the image's length
@@ -81,3 +86,79 @@ undone image ps h =
     restored image (overwritten image ps) (spanOf ps .start) (spanOf ps .size) (span-inside (length image) ps h) (length-overwritten image ps)
     (take-overwritten (spanOf ps .start) (end ps) image ps (omega arith))
     (drop-overwritten (spanOf ps .start + spanOf ps .size) image ps (omega arith))
+
+-- ---- the span is what its sentence says
+
+-- a byte is laid at a place
+abbrev pub Laid : ℕ → List Piece → Type 0
+Laid i [] = ⊥
+Laid i (piece at b ∷ ps) = ((at ≤ i) × (i < at + length b)) ⊎ Laid i ps
+
+lowest-covers : (i top : ℕ) (ps : List Piece) → Laid i ps → lowest top ps ≤ i
+unfolding lowest
+lowest-covers i top [] l = absurd l
+lowest-covers i top (piece at [] ∷ ps) l = ⊎-elim (λ h. absurd (omega arith)) (lowest-covers i top ps) l
+lowest-covers i top (piece at (b ∷ bs) ∷ ps) l = ⊎-elim (λ h. omega arith) (λ r. omega (arith, lowest-covers i top ps r)) l
+
+end-covers : (i : ℕ) (ps : List Piece) → Laid i ps → i < end ps
+unfolding end
+end-covers i [] l = absurd l
+end-covers i (piece at [] ∷ ps) l = ⊎-elim (λ h. absurd (omega arith)) (end-covers i ps) l
+end-covers i (piece at (b ∷ bs) ∷ ps) l = ⊎-elim (λ h. omega arith) (λ r. omega (arith, end-covers i ps r)) l
+
+lowest-laid : (top : ℕ) (ps : List Piece) → 0 < end ps → end ps ≤ top → Laid (lowest top ps) ps
+unfolding lowest end
+lowest-laid top [] some h = absurd (omega arith)
+lowest-laid top (piece at [] ∷ ps) some h = inr (lowest-laid top ps some h)
+lowest-laid top (piece at (b ∷ bs) ∷ ps) some h = go (leb at (lowest top ps)) refl (end ps) refl (lowest-laid top ps)
+  where
+    go : (t : Bool) → leb at (lowest top ps) ≡ t → (e : ℕ) → end ps ≡ e → (0 < end ps → end ps ≤ top → Laid (lowest top ps) ps)
+        → Laid (min at (lowest top ps)) (piece at (b ∷ bs) ∷ ps)
+    go true le e is rest = let le′ : at ≤ lowest top ps = leb-true at (lowest top ps) le in inl (omega arith, omega arith)
+    go false gt zero is rest =
+        let gt′ : lowest top ps < at = leb-false at (lowest top ps) gt in
+        absurd (omega (arith, lowest-none top ps is))
+    go false gt (suc e) is rest =
+        let gt′ : lowest top ps < at = leb-false at (lowest top ps) gt in
+        let here : min at (lowest top ps) ≡ lowest top ps = omega arith in
+        inr (rw here (rest (omega arith) (omega arith)))
+
+end-laid : (ps : List Piece) → 0 < end ps → Laid (end ps - 1) ps
+unfolding end
+end-laid [] some = absurd (omega arith)
+end-laid (piece at [] ∷ ps) some = inr (end-laid ps some)
+end-laid (piece at (b ∷ bs) ∷ ps) some = go (leb (end ps) (at + length (b ∷ bs))) refl (end-laid ps)
+  where
+    go : (t : Bool) → leb (end ps) (at + length (b ∷ bs)) ≡ t → (0 < end ps → Laid (end ps - 1) ps)
+        → Laid (max (at + length (b ∷ bs)) (end ps) - 1) (piece at (b ∷ bs) ∷ ps)
+    go true le rest = let le′ : end ps ≤ at + length (b ∷ bs) = leb-true _ _ le in inl (omega arith, omega arith)
+    go false gt rest =
+        let gt′ : at + length (b ∷ bs) < end ps = leb-false _ _ gt in
+        let here : max (at + length (b ∷ bs)) (end ps) - 1 ≡ end ps - 1 = omega arith in
+        inr (rw here (rest (omega arith)))
+
+-- "from the lowest to the end of the highest laid byte; with none laid it is start 0, length 0"
+pub record Spans (ps : List Piece) (s : Span) : Type 0 where
+  pub covers : (i : ℕ) → Laid i ps → (s .start ≤ i) × (i < s .start + s .size)
+  pub first-laid : 0 < s .size → Laid (s .start) ps
+  pub last-laid : 0 < s .size → Laid (s .start + s .size - 1) ps
+  pub none-laid : s .size ≡ 0 → s .start ≡ 0
+
+pub span-is : (ps : List Piece) → Spans ps (spanOf ps)
+unfolding spanOf
+span-is ps =
+    let low : lowest (end ps) ps ≤ end ps = lowest-le (end ps) ps in
+    record {
+      covers = λ i l. (lowest-covers i (end ps) ps l, omega (arith, end-covers i ps l));
+      first-laid = λ some. lowest-laid (end ps) ps (omega arith) (omega arith);
+      last-laid = λ some.
+          let last : lowest (end ps) ps + (end ps - lowest (end ps) ps) - 1 ≡ end ps - 1 = omega arith in
+          rw last (end-laid ps (omega arith));
+      none-laid = λ none. go (end ps) refl none;
+    }
+  where
+    go : (e : ℕ) → end ps ≡ e → end ps - lowest (end ps) ps ≡ 0 → lowest (end ps) ps ≡ 0
+    go zero is none = omega (arith, lowest-le (end ps) ps)
+    go (suc e) is none =
+        let inside : lowest (end ps) ps < end ps = end-covers _ ps (lowest-laid (end ps) ps (omega arith) (omega arith)) in
+        absurd (omega arith)

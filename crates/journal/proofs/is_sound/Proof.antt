@@ -11,7 +11,7 @@ use Rattle.word.specs.First.{tabulate}
 use Rattle.word.proofs.Laws.Tests.{not-both}
 use Rattle.journal.specs.declared.Span.{Span}
 use Rattle.journal.specs.Journals.{entry, entries, total}
-use Rattle.journal.proofs.Laws.Sound.{allowed, unsound-test, sound-entry, sound-by-held, total-snoc}
+use Rattle.journal.proofs.Laws.Sound.{allowed, allowed-is, unsound-test, sound-entry, sound-by-held, total-snoc}
 use borrow.Author.Needs.{needs}
 use Rattle.journal.proofs.is_sound.Statement.{statement}
 use Rattle.journal.proofs.is_sound.Tie as tie
@@ -61,7 +61,8 @@ returns-4 : tie.Need-returns-4 Inv-loop μ-loop
 returns-4 c =
     let j : List ℕ = c .before .before .before .before .before .before .before .before .before .before .before .args .journal .now in
     let i : ℕ = c .before .before .before .before .loop .i in
-    let same : c .before .entry-allowed .result ≡ allowed j (c .before .before .before .before .before .before .before .before .before .before .before .args .len) i = cc in
+    let same : c .before .entry-allowed .result ≡ allowed j (c .before .before .before .before .before .before .before .before .before .before .before .args .len) i =
+    allowed-is j (c .before .before .before .before .before .before .before .before .before .before .before .args .len) i (c .before .before .before .before .before .before .before .before .read32 .result) (c .before .before .read-entry .result) (c .before .entry-allowed .result) (c .before .before .before .before .before .before .before .before .read32 .ensures) (c .before .before .read-entry .ensures) (c .before .entry-allowed .ensures) in
     unsound-test j (c .before .before .before .before .before .before .before .before .before .before .before .args .len) (λ k. not-both _ _ (c .if4 .taken) same (sound-entry j (c .before .before .before .before .before .before .before .before .before .before .before .args .len) k i (omega arith)))
 
 cast-sum : tie.Need-cast-sum Inv-loop μ-loop
@@ -80,7 +81,8 @@ loop-again : tie.Need-loop-again Inv-loop μ-loop
 loop-again c =
     let j : List ℕ = c .before .before .before .before .before .before .before .before .before .before .before .before .args .journal .now in
     let i : ℕ = c .before .before .before .before .before .loop .i in
-    let same : c .before .before .entry-allowed .result ≡ allowed j (c .before .before .before .before .before .before .before .before .before .before .before .before .args .len) i = cc in
+    let same : c .before .before .entry-allowed .result ≡ allowed j (c .before .before .before .before .before .before .before .before .before .before .before .before .args .len) i =
+    allowed-is j (c .before .before .before .before .before .before .before .before .before .before .before .before .args .len) i (c .before .before .before .before .before .before .before .before .before .read32 .result) (c .before .before .before .read-entry .result) (c .before .before .entry-allowed .result) (c .before .before .before .before .before .before .before .before .before .read32 .ensures) (c .before .before .before .read-entry .ensures) (c .before .before .entry-allowed .ensures) in
     let size : c .before .before .before .read-entry .result .size ≡ entry j i .size = ap (λ (s : Span). s .size) (c .before .before .before .read-entry .ensures) in (
       omega arith,
       omega arith,

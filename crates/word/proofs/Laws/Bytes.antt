@@ -7,7 +7,7 @@ use native.Mathlib.Numerals.{one-add}
 use native.Mathlib.Omega.{arith}
 use mathlib.Core.List.{List, [], _∷_, _++_}
 use lib.ListN.{length, getD, take, drop, length-drop}
-use lib.Seq.{sets, drop-drop, drop-at, getD-drop}
+use lib.Seq.{sets, drop-drop, drop-at, getD-drop, getD-take}
 use lib.Arith.{mod-mul}
 use lib.Dec.{lit<}
 use Rattle.word.specs.Bytes.{le, leAt, bytes, part}
@@ -145,3 +145,9 @@ unfolding leAt
 leAt-sets-other n s j i v apart =
     le-ext n (drop j (sets s i v)) (drop j s)
     (λ k h. rw (getD-drop, getD-drop) (getD-sets-other s i v (j + k) (λ a b. ⊎-elim (λ l. omega arith) (λ l. omega arith) apart)))
+
+-- a number in the first bytes of a list
+pub leAt-take : (n m : ℕ) (s : List ℕ) (i : ℕ) → i + n ≤ m → leAt n (take m s) i ≡ leAt n s i
+unfolding leAt
+leAt-take n m s i h =
+    le-ext n (drop i (take m s)) (drop i s) (λ k l. rw (getD-drop, getD-drop) (getD-take m s (i + k) 0 (omega arith)))

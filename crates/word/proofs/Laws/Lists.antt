@@ -5,7 +5,7 @@ use native.Mathlib.Numerals.{add-one}
 use native.Mathlib.Omega.{arith}
 use mathlib.Core.List.{List, [], _∷_, _++_, append-assoc}
 use lib.ListN.{length, take, drop, set, getD, replicate, length-append, length-drop, replicate-append-replicate}
-use lib.Seq.{sets, sets-eq, take-at, drop-at, take-set-le, drop-set-lt, take-suc, getD-drop, getD-set-other, length-take-le, take-add, take-all, drop-drop}
+use lib.Seq.{sets, sets-eq, take-at, drop-at, take-set-le, drop-set-lt, take-suc, getD-drop, getD-take, getD-set-other, ext-getD, length-take-le, take-add, take-all, drop-drop}
 use Rattle.word.specs.Bytes.{part}
 
 -- ---- sets
@@ -73,6 +73,16 @@ part-append s i m j n e = rw (take-add m n (drop i s), drop-drop m i s, e)
 pub part-whole : (s : List ℕ) (n : ℕ) → length s ≡ n → part s 0 n ≡ s
 unfolding part
 part-whole s n e = take-all n s (omega arith)
+
+-- a part of the first bytes
+pub part-take : (m : ℕ) (s : List ℕ) (i n : ℕ) → i + n ≤ m → m ≤ length s → part (take m s) i n ≡ part s i n
+unfolding part
+part-take m s i n h l =
+    let short : length (part (take m s) i n) ≡ n = length-part (take m s) i n (rw (length-take-le m s l) h) in
+    let long : length (part s i n) ≡ n = length-part s i n (omega arith) in
+    ext-getD 0 _ _ (short ∙ sym long)
+    (λ k b. rw (getD-take n (drop i (take m s)) k 0 (omega arith), getD-take n (drop i s) k 0 (omega arith), getD-drop, getD-drop)
+    (getD-take m s (i + k) 0 (omega arith)))
 
 -- ---- replicate
 
