@@ -12,7 +12,7 @@ use Rattle.order.specs.Addresses.{placedAt}
 use Rattle.place.specs.declared.Fault.{Fault}
 use Rattle.place.specs.declared.Fault.the-variants.{Nowhere, At}
 
--- the least number below 2^32 at which a rule is broken, if there is one
+-- the least number below n at which a rule is broken, if there is one
 unfoldable pub lowest : (ℕ → Bool) → ℕ → Fault
 lowest broken n = cond (ltb (first broken n) n) (At (first broken n)) Nowhere
 
