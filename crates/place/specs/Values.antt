@@ -1,5 +1,6 @@
 -- S, the value of a symbol ("How a record is read"). Assumes nothing: these are definitions.
-use Prim.Native.Nat.{ℕ}
+use mathlib.Core.Path.{_≡_}
+use Prim.Native.Nat.{ℕ, _<_}
 use mathlib.Core.Bool.{cond, _||_}
 use mathlib.Core.List.{List}
 use lib.ListN.{getD}
@@ -11,6 +12,7 @@ use Rattle.elf.specs.Entries.{symbolAt, symbolCount}
 use Rattle.order.specs.declared.Value.{Value}
 use Rattle.order.specs.declared.Value.the-variants.{Given, NotGiven}
 use Rattle.order.specs.Orders.{externalValue}
+use Rattle.place.specs.declared.Symbols.{Symbols}
 use Rattle.place.specs.declared.SymbolValue.{SymbolValue}
 use Rattle.place.specs.declared.SymbolValue.the-variants.{Resolved, Unresolved}
 use Rattle.place.specs.Placements.{isAllocated}
@@ -49,3 +51,8 @@ symbolValue object order addresses k =
     (cond (ltb k (symbolCount object))
     (cond (eqb (y .kind) TLS || eqb (y .kind) IFUNC) Unresolved (ofSection object order addresses k y))
     Unresolved)
+
+-- what a lookup asks of the symbol table that it is given
+pub record SymbolsOf (object : List ℕ) (y : Symbols) : Type 0 where
+  pub count : y .count ≡ symbolCount object
+  pub table : 0 < y .count → y .table ≡ sectionAt object (symbolTable object)

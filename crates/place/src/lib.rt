@@ -13,7 +13,7 @@ ghost use Rattle.place.specs.Placements.{isGiven, isAllocated, placement
 ghost use Rattle.place.specs.Externals.{isUndefined, externalCheck};
 ghost use Rattle.place.specs.Placing.{unit, hasBytes, share, apart, misplaced, placingCheck};
 ghost use Rattle.place.specs.Spans.{highest, lowestByte, spanOf};
-ghost use Rattle.place.specs.Values.{ofUndefined, ofSection, symbolValue};
+ghost use Rattle.place.specs.Values.{SymbolsOf, ofUndefined, ofSection, symbolValue};
 use elf::Section;
 use elf::Symbol;
 use order::Counts;
@@ -282,15 +282,40 @@ fn value_in_section(
     undefined_value(symbol, order::external_value(order, counts, k))
 }
 
+// The symbol table: its header, and how many symbols it has. Without symbols the header means nothing.
+pub struct Symbols {
+    pub table: Section,
+    pub count: usize,
+}
+
+// The symbols of an object.
+pub fn symbols_of(object: &[u8]) -> Symbols
+    requires { ⌜ SoundObject (now object) ⌝ }
+    ensures { λ r. ⌜ SymbolsOf (now (object .entry)) r ⌝ }
+{
+    let count = elf::symbol_count(object);
+    if count == 0 {
+        return Symbols {
+            table: elf::read_section(object, 0),
+            count,
+        };
+    }
+    Symbols {
+        table: elf::read_section(object, elf::symbol_table(object)),
+        count,
+    }
+}
+
 // S: the value of symbol k.
 pub fn symbol_value(
     object: &[u8],
     order: &[u8],
     counts: Counts,
+    symbols: Symbols,
     addresses: [u32; 32],
     k: u32,
 ) -> Lookup
-    requires { ⌜ SoundObject (now object) × (reading (now order) ≡ Reading.WellFormed counts) ⌝ }
+    requires { ⌜ SoundObject (now object) × (reading (now order) ≡ Reading.WellFormed counts) × SymbolsOf (now object) symbols ⌝ }
     ensures { λ r. ⌜ (r .value ≡ symbolValue (now (object .entry)) (now (order .entry)) addresses k) × (r .addresses ≡ addresses) ⌝ }
 {
     let at = k as usize;
@@ -300,14 +325,13 @@ pub fn symbol_value(
             addresses,
         };
     }
-    if elf::symbol_count(object) <= at {
+    if symbols.count <= at {
         return Lookup {
             value: SymbolValue::Unresolved,
             addresses,
         };
     }
-    let table = elf::read_section(object, elf::symbol_table(object));
-    let symbol = elf::read_symbol(object, table, at);
+    let symbol = elf::read_symbol(object, symbols.table, at);
     if (symbol.kind == 6) | (symbol.kind == 10) {
         return Lookup {
             value: SymbolValue::Unresolved,

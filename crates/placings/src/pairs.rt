@@ -86,7 +86,8 @@ fn addresses(array: [u32; 32]) {
 fn values(object: &[u8], order: &[u8], counts: Counts, array: [u32; 32])
     requires { ⌜ SoundObject (now object) × (reading (now order) ≡ Reading.WellFormed counts) ⌝ }
 {
-    let n = elf::symbol_count(object);
+    let symbols = place::symbols_of(object);
+    let n = symbols.count;
     if 1024 < n {
         return;
     }
@@ -94,7 +95,7 @@ fn values(object: &[u8], order: &[u8], counts: Counts, array: [u32; 32])
     let mut known = array;
     let mut k: u32 = 0;
     while k < end {
-        let found = place::symbol_value(object, order, counts, known, k);
+        let found = place::symbol_value(object, order, counts, symbols, known, k);
         let value = found.value;
         lines::value(value);
         known = found.addresses;

@@ -5,13 +5,13 @@ use Rattle.placings.proofs.pairs.values.Statement.{statement}
 use Rattle.placings.proofs.pairs.values.Tie as tie
 
 abbrev Inv-loop : tie.InvT-loop
-Inv-loop object order counts n end known₀ k₀ known k = k ≤ end
+Inv-loop object order counts symbols n end known₀ k₀ known k = k ≤ end
 
 abbrev μ-loop : tie.MeasureT-loop
-μ-loop object order counts n end known₀ k₀ known k = end - k
+μ-loop object order counts symbols n end known₀ k₀ known k = end - k
 
-symbol-count-requires : tie.Need-symbol-count-requires Inv-loop μ-loop
-symbol-count-requires c κs = search needs
+symbols-of-requires : tie.Need-symbols-of-requires Inv-loop μ-loop
+symbols-of-requires c κs = search needs
 
 returns : tie.Need-returns Inv-loop μ-loop
 returns c = search needs
@@ -49,7 +49,7 @@ values-spec =
     (tie.spec
     Inv-loop
     μ-loop
-    symbol-count-requires
+    symbols-of-requires
     returns
     cast-end
     add-end

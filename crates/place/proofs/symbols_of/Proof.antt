@@ -1,0 +1,43 @@
+-- `place::symbols_of` meets its contract. Assumes nothing.
+use mathlib.Core.Path.{ap, _∙_}
+use native.Mathlib.Omega.{arith}
+use Rattle.elf.specs.Sections.{sectionAt}
+use Rattle.elf.proofs.Laws.Bounds.{some-symbol}
+use borrow.Author.Needs.{needs}
+use Rattle.place.proofs.symbols_of.Statement.{statement}
+use Rattle.place.proofs.symbols_of.Tie as tie
+
+symbol-count-requires : tie.Need-symbol-count-requires
+symbol-count-requires c κs = search needs
+
+read-section-requires : tie.Need-read-section-requires
+read-section-requires c κs = search needs
+
+returns : tie.Need-returns
+returns c = record { count = c .before .before .symbol-count .ensures; table = λ some. absurd (omega arith) }
+
+symbol-table-requires : tie.Need-symbol-table-requires
+symbol-table-requires c κs = search needs
+
+read-section-requires-2 : tie.Need-read-section-requires-2
+read-section-requires-2 c κs =
+    let s = c .before .before .before .before .args .object .now in
+    let f = c .before .before .before .before .pre in
+    let there = some-symbol s f 0 (omega arith) in
+    record { header = f .table .header; inside = omega (arith, there .0, f .table .inside) }
+
+returns-2 : tie.Need-returns-2
+returns-2 c =
+    let s = c .before .before .before .before .before .args .object .now in
+    record { count = c .before .before .before .symbol-count .ensures; table = λ some. c .read-section2 .ensures ∙ ap (sectionAt s) (c .before .symbol-table .ensures) }
+
+pub symbols-of-spec : {M : Type 1} → statement M
+symbols-of-spec =
+    tie.close
+    (tie.spec
+    symbol-count-requires
+    read-section-requires
+    returns
+    symbol-table-requires
+    read-section-requires-2
+    returns-2)
