@@ -1,7 +1,7 @@
 // The inputs: fields, widths, ranges and words by number.
 ghost use Prim.Native.Nat.{_<_};
-use riscv::fields::Field;
-use riscv::fields::Width;
+use fields::Field;
+use fields::Width;
 use riscv::ranges::Range;
 
 pub fn width(number: u64) -> Width {

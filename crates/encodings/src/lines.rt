@@ -1,7 +1,7 @@
 // The lines: numbers in hexadecimal, with a space before each but the first.
 use super::choices;
-use riscv::fields::Field;
-use riscv::fields::Width;
+use fields::Field;
+use fields::Width;
 use riscv::forms::Form;
 use riscv::types::Calculation;
 use riscv::types::Decision;
@@ -35,8 +35,8 @@ pub fn field(number: u64, word: u64, value: u64) {
     first(b'f', number);
     then(word);
     then(value);
-    then(riscv::fields::put_field(field, word, value));
-    then(riscv::fields::read_field(field, word));
+    then(fields::put_field(field, word, value));
+    then(fields::read_field(field, word));
     end();
 }
 

@@ -1,6 +1,4 @@
 -- The laws of the definitions in specs/.
-pub mod Layouts
-pub mod Fields
 pub mod Halves
 pub mod Ranges
 pub mod Data

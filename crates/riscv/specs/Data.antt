@@ -3,9 +3,9 @@
 use Prim.Native.Nat.{ℕ}
 use lib.IntN.{ℤ, pos, _+ℤ_, _-ℤ_}
 use Rattle.word.specs.Whole.{residue}
-use Rattle.riscv.specs.declared.fields.Width.{Width}
-use Rattle.riscv.specs.Layouts.{read, put}
-use Rattle.riscv.specs.Fields.{bits, dataLayout}
+use Rattle.fields.specs.declared.Width.{Width}
+use Rattle.fields.specs.Layouts.{read, put}
+use Rattle.fields.specs.Fields.{bits, dataLayout}
 
 -- "V + S + A", wrapping at the width of the field
 unfoldable pub added : Width → ℕ → ℤ → ℕ

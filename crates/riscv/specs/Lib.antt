@@ -1,5 +1,3 @@
-pub mod Layouts
-pub mod Fields
 pub mod Halves
 pub mod Ranges
 pub mod Forms

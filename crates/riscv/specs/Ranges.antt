@@ -2,8 +2,8 @@
 use Prim.Native.Nat.{ℕ}
 use mathlib.Core.Bool.{Bool, _&&_}
 use lib.IntN.{ℤ, pos, _-ℤ_}
-use Rattle.riscv.specs.declared.fields.Field.{Field}
-use Rattle.riscv.specs.declared.fields.Field.the-variants.{U, I, S, B, J, Cb, Cj, Call, Data}
+use Rattle.fields.specs.declared.Field.{Field}
+use Rattle.fields.specs.declared.Field.the-variants.{U, I, S, B, J, Cb, Cj, Call, Data}
 use Rattle.riscv.specs.declared.ranges.Range.{Range}
 use Rattle.word.specs.Whole.{within, even}
 

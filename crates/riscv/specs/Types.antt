@@ -3,8 +3,8 @@ use Prim.Native.Nat.{ℕ}
 use mathlib.Core.Bool.{Bool, false, cond, _||_}
 use mathlib.Core.List.{List, [], _∷_}
 use lib.Dec.{eqb}
-use Rattle.riscv.specs.declared.fields.Width.the-variants.{W6, W8, W16, W32, W64}
-use Rattle.riscv.specs.declared.fields.Field.the-variants.{U, I, S, B, J, Cb, Cj, Call, Data}
+use Rattle.fields.specs.declared.Width.the-variants.{W6, W8, W16, W32, W64}
+use Rattle.fields.specs.declared.Field.the-variants.{U, I, S, B, J, Cb, Cj, Call, Data}
 use Rattle.riscv.specs.declared.forms.Form.the-variants.{Any, Lui, Auipc, Jal, Branch, LowI, LowS, CallPair, CBranch, CJump}
 use Rattle.riscv.specs.declared.types.Calculation.the-variants.{Absolute, PcRelative, Distance, BothHalves, HighPcRelative, HighAbsolute, LowAbsolute, LowOfPair, Add, Sub, Set}
 use Rattle.riscv.specs.declared.types.Decision.{Decision}

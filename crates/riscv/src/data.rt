@@ -2,8 +2,8 @@
 ghost use mathlib.Core.Path.{_≡_};
 ghost use Rattle.word.specs.Whole.{signed};
 ghost use Rattle.riscv.specs.Data.{added, subtracted, replaced};
-use super::fields::Width;
-use super::fields::put_data;
+use fields::Width;
+use fields::put_data;
 
 // The present value with x added.
 pub fn add(width: Width, v: u64, x: u64) -> u64

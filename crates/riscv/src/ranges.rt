@@ -1,7 +1,7 @@
 // How far jumps and branches reach.
 ghost use mathlib.Core.Path.{_≡_};
 ghost use Rattle.riscv.specs.Ranges.{distance, anywhere, rangeOf, reaches};
-use super::fields::Field;
+use fields::Field;
 
 // Distances from -back to ahead.
 pub struct Range {

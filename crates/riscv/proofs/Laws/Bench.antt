@@ -5,10 +5,10 @@ use mathlib.Core.List.{List, [], _∷_, map}
 use Prim.Native.Nat.{ℕ, _*_, _+_}
 use lib.IntN.{pos, negsuc}
 use Rattle.word.specs.Whole.{residue, signed, within, even}
-use Rattle.riscv.specs.declared.fields.Width.the-variants.{W6, W8}
-use Rattle.riscv.specs.declared.fields.Field.the-variants.{U, I, J, B, Cb, Cj, Call}
-use Rattle.riscv.specs.Layouts.{read, put}
-use Rattle.riscv.specs.Fields.{layout}
+use Rattle.fields.specs.declared.Width.the-variants.{W6, W8}
+use Rattle.fields.specs.declared.Field.the-variants.{U, I, J, B, Cb, Cj, Call}
+use Rattle.fields.specs.Layouts.{read, put}
+use Rattle.fields.specs.Fields.{layout}
 use Rattle.riscv.specs.Halves.{high, low}
 use Rattle.riscv.specs.Ranges.{branch, jal, reaches}
 use Rattle.riscv.specs.Data.{added, subtracted}

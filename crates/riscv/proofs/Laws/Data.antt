@@ -1,26 +1,18 @@
 -- Laws of data fields, over the width. Assumes nothing.
 use mathlib.Core.Path.{_≡_, sym, ap, _∙_}
 use Prim.Native.Nat.{ℕ, suc, _+_, _*_, _/_, _%_, _^_, _<_}
-use native.Mathlib.Nat.{mod-eq-of-lt, pow-zero, div-one, sub-zero}
+use native.Mathlib.Nat.{mod-eq-of-lt}
 use native.Mathlib.Omega.{arith}
-use mathlib.Core.List.{List, [], _∷_}
+use mathlib.Core.List.{[], _∷_}
 use lib.IntN.{ℤ, pos, _+ℤ_, _-ℤ_}
 use Rattle.word.specs.Whole.{residue, signed, plus, minus}
 use Rattle.word.proofs.Laws.Whole.{residue-lt, residue-narrow, plus-signed, minus-signed, cut-signed}
-use Rattle.riscv.specs.declared.fields.Width.{Width}
-use Rattle.riscv.specs.declared.fields.Width.the-variants.{W6, W8, W16, W32, W64}
-use Rattle.riscv.specs.Layouts.{Bits, imm, keep, read, put}
-use Rattle.riscv.specs.Fields.{dataLayout}
+use Rattle.fields.specs.declared.Width.{Width}
+use Rattle.fields.specs.declared.Width.the-variants.{W6, W8, W16, W32, W64}
+use Rattle.fields.specs.Layouts.{imm, read, put}
+use Rattle.fields.specs.Fields.{dataLayout}
+use Rattle.fields.proofs.Laws.Fields.{read-whole, put-whole, six, read-six}
 use Rattle.riscv.specs.Data.{replaced}
-
--- a field of whole bytes
-pub read-whole : (h v : ℕ) → read (imm h 0 ∷ []) v ≡ v % 2 ^ suc h
-unfolding read
-read-whole h v = rw (sub-zero, pow-zero) (omega arith)
-
-pub put-whole : (h v x : ℕ) → put (imm h 0 ∷ []) v x ≡ x % 2 ^ suc h
-unfolding put
-put-whole h v x = rw (sub-zero, pow-zero, div-one) (omega arith)
 
 -- ADD, SUB and SET on whole bytes: x, of j + suc h bits, spells S + A
 pub add-whole : (j h v x : ℕ) → x < 2 ^ (j + suc h)
@@ -45,21 +37,10 @@ set-whole j h v x b =
     ∙ sym (mod-eq-of-lt (residue-lt (suc h) (signed (j + suc h) x)))
     ∙ sym (put-whole h v (residue (suc h) (signed (j + suc h) x)))
 
--- six bits of a byte: of what is put in, six bits count
-abbrev pub six : List Bits
-six = imm 5 0 ∷ keep 2 ∷ []
-
+-- of what is put into six bits, six bits count
 six-cut : (v a b : ℕ) → a % 64 ≡ b % 64 → put six v a ≡ put six v b
 unfolding put
 six-cut v a b e = omega arith
-
-pub read-six : (v : ℕ) → read six v ≡ v % 64
-unfolding read
-read-six v = omega arith
-
-pub put-six : (v x : ℕ) → put six v x ≡ x % 64 + v / 64 % 4 * 64
-unfolding put
-put-six v x = omega arith
 
 pub add-six : (j v x : ℕ) → x < 2 ^ (j + 8) → put six v (plus 8 (v % 64) x) ≡ put six v (residue 6 (pos (read six v) +ℤ signed (j + 8) x))
 add-six j v x b =

@@ -9,13 +9,13 @@ use lib.IntN.{ℤ, pos, negℤ}
 use Rattle.word.specs.Whole.{residue, signed, within, even}
 use Rattle.word.proofs.Laws.Tests.{and-left, and-right, and-true}
 use Rattle.word.proofs.Laws.Whole.{even-residue, within-spelt, sub-ahead, sub-back}
-use Rattle.riscv.specs.declared.fields.Field.{Field}
-use Rattle.riscv.specs.declared.fields.Field.the-variants.{B, J, Cb, Cj}
-use Rattle.riscv.specs.Layouts.{read, put}
-use Rattle.riscv.specs.Fields.{layout, valueBits, unit}
+use Rattle.fields.specs.declared.Field.{Field}
+use Rattle.fields.specs.declared.Field.the-variants.{B, J, Cb, Cj}
+use Rattle.fields.specs.Layouts.{read, put}
+use Rattle.fields.specs.Fields.{layout, valueBits, unit}
 use Rattle.riscv.specs.declared.ranges.Range.{Range}
 use Rattle.riscv.specs.Ranges.{distance, branch, jal, rvcBranch, rvcJump, anywhere, reaches}
-use Rattle.riscv.proofs.Laws.Fields.{reads-back-signed}
+use Rattle.fields.proofs.Laws.Fields.{reads-back-signed}
 
 -- both ends are reached, the next steps are not, and nothing odd is
 pub record Ends (r : Range) (back ahead : ℕ) : Type 0 where

@@ -3,9 +3,10 @@ use mathlib.Core.Path.{sym, ap, _∙_}
 use native.Mathlib.Nat.{mod-eq-of-lt}
 use native.Mathlib.Omega.{arith}
 use Rattle.word.specs.Whole.{signed, plus}
-use Rattle.riscv.specs.Layouts.{put}
+use Rattle.fields.specs.Layouts.{put}
 use Rattle.riscv.specs.Data.{added}
-use Rattle.riscv.proofs.Laws.Data.{six, add-whole, add-six}
+use Rattle.fields.proofs.Laws.Fields.{six}
+use Rattle.riscv.proofs.Laws.Data.{add-whole, add-six}
 use borrow.Author.Needs.{needs}
 use Rattle.riscv.proofs.data.add.Statement.{statement}
 use Rattle.riscv.proofs.data.add.Tie as tie

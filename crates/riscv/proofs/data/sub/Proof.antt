@@ -3,9 +3,10 @@ use mathlib.Core.Path.{sym, ap, _∙_}
 use native.Mathlib.Nat.{mod-eq-of-lt}
 use native.Mathlib.Omega.{arith}
 use Rattle.word.specs.Whole.{signed, minus}
-use Rattle.riscv.specs.Layouts.{put}
+use Rattle.fields.specs.Layouts.{put}
 use Rattle.riscv.specs.Data.{subtracted}
-use Rattle.riscv.proofs.Laws.Data.{six, sub-whole, sub-six}
+use Rattle.fields.proofs.Laws.Fields.{six}
+use Rattle.riscv.proofs.Laws.Data.{sub-whole, sub-six}
 use borrow.Author.Needs.{needs}
 use Rattle.riscv.proofs.data.sub.Statement.{statement}
 use Rattle.riscv.proofs.data.sub.Tie as tie
