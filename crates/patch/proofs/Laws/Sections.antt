@@ -1,0 +1,149 @@
+-- Laws of sections after their relocations. Assumes nothing.
+use mathlib.Core.Path.{_≡_, refl, sym, ap, _∙_}
+use mathlib.Core.Bool.{Bool, true, false, _&&_}
+use mathlib.Core.List.{List}
+use Prim.Native.Nat.{ℕ, zero, suc, _+_, _%_, _^_, _≤_, _<_}
+use native.Mathlib.Nat.{mod-eq-of-lt}
+use native.Mathlib.Omega.{arith}
+use lib.ListN.{length}
+use lib.Dec.{eqb, ltb}
+use lib.IntN.{ℤ, pos, _+ℤ_, _-ℤ_}
+use lib.Seq.{sets}
+use borrow.Author.Tests.{eqb-true, lt-ltb, le-ltb}
+use Rattle.word.specs.Bytes.{leAt, bytes}
+use Rattle.word.specs.Whole.{residue, signed, plus, minus}
+use Rattle.word.specs.First.{first}
+use Rattle.word.proofs.Laws.Tests.{and-left, and-right}
+use Rattle.word.proofs.Laws.First.{first-at}
+use Rattle.word.proofs.Laws.Whole.{minus-residue, residue-signed}
+use Rattle.elf.specs.declared.Section.{Section}
+use Rattle.elf.specs.declared.Symbol.{Symbol}
+use Rattle.elf.specs.declared.Relocation.{Relocation}
+use Rattle.elf.specs.Headers.{sectionCount}
+use Rattle.elf.specs.Sections.{sectionAt, symbolTable, countingRela, relocationsIn}
+use Rattle.elf.specs.Entries.{bytesOf, symbolAt}
+use Rattle.elf.specs.Sound.{SoundObject}
+use Rattle.fields.specs.declared.Field.{Field}
+use Rattle.riscv.specs.declared.forms.Form.{Form}
+use Rattle.riscv.specs.declared.types.Calculation.{Calculation}
+use Rattle.riscv.specs.declared.types.Decision.{Decision}
+use Rattle.riscv.specs.declared.types.Decision.the-variants.{Marker, Align, Store, Refused}
+use Rattle.place.specs.declared.SymbolValue.{SymbolValue}
+use Rattle.place.specs.Values.{symbolValue}
+use Rattle.relocate.specs.declared.sites.Site.{Site}
+use Rattle.relocate.specs.declared.search.RelocationCheck.the-variants.{Passed}
+use Rattle.relocate.specs.Sites.{siteAt, count, entry, effect, offset, A, P, S, T, found}
+use Rattle.relocate.specs.Effects.{takesPair, isStore}
+use Rattle.relocate.specs.Shape.{end}
+use Rattle.relocate.specs.Rules.{symbol}
+use Rattle.relocate.specs.Search.{valueAt, relocationCheck}
+use Rattle.relocate.specs.Facts.{SoundSite, Placed}
+use Rattle.relocate.proofs.Laws.Widths.{never}
+use Rattle.relocate.proofs.Laws.Sites.{sound-site, count-is}
+use Rattle.relocate.proofs.Laws.Rules.{place-below}
+use Rattle.relocate.proofs.Laws.Search.{counted, finding-entry, passed-kept}
+use Rattle.patch.specs.Patches.{patched}
+use Rattle.patch.specs.Sections.{stored, sumAt, distanceAt, pairDistance, applied, after, relaOf, relocated}
+use Rattle.patch.specs.Facts.{Checked}
+use Rattle.patch.proofs.Laws.Patches.{same-patch}
+
+module _ (object order addresses : List ℕ) (x : Site) (j : ℕ) (r : Relocation) (v : SymbolValue) (re : r ≡ entry object x j) (ve : v ≡ symbolValue object order addresses (r .symbol)) where
+  -- by the relocation r and the value v that were read
+  same-value : v ≡ valueAt object order addresses x j
+  same-value = ve ∙ ap (λ e. symbolValue object order addresses (e .symbol)) re
+
+  pub sum-read : residue 64 (pos (S v) +ℤ signed 64 (r .addend)) ≡ residue 64 (sumAt object order addresses x j)
+  unfolding sumAt
+  sum-read = ap (λ v. residue 64 (pos (S v) +ℤ signed 64 (r .addend))) same-value ∙ ap (λ e. residue 64 (pos (S (valueAt object order addresses x j)) +ℤ signed 64 (e .addend))) re
+
+  pub distance-read : (t p : ℕ) → t ≡ T (S v) (signed 64 (r .addend)) → p ≡ plus 32 (x .address .0) (r .offset .0) → minus 32 t p ≡ distanceAt object order addresses x j
+  unfolding distanceAt minus plus residue
+  distance-read t p te pe =
+      let m : ℕ = x .address .0 + r .offset .0 in
+      ap (minus 32 t) pe
+      ∙ minus-residue 0 32 t (pos m)
+      ∙ ap (λ t. residue 32 (pos t -ℤ pos m)) te
+      ∙ ap (λ v. residue 32 (pos (T (S v) (signed 64 (r .addend))) -ℤ pos m)) same-value
+      ∙ ap (λ e. residue 32 (pos (T (S (valueAt object order addresses x j)) (signed 64 (e .addend))) -ℤ pos (x .address .0 + e .offset .0))) re
+
+-- the symbol of relocation j, by the table h and the relocation r that were read
+pub symbol-read : (object : List ℕ) (x : Site) (j : ℕ) (r : Relocation) (h : Section) (y : Symbol) → r ≡ entry object x j → h ≡ sectionAt object (symbolTable object)
+    → y ≡ symbolAt object h (r .symbol) → y ≡ symbol object x j
+symbol-read object x j r h y re he ye =
+    ye ∙ ap (λ h. symbolAt object h (r .symbol)) he ∙ ap (λ r. symbolAt object (sectionAt object (symbolTable object)) (r .symbol)) re
+
+-- P of a store, which adding modulo 2^32 gives
+pub place-read : (object : List ℕ) (x : Site) (j : ℕ) (r : Relocation) (p : ℕ) → r ≡ entry object x j → p ≡ plus 32 (x .address .0) (r .offset .0) → SoundSite object x
+    → end object x j ≤ x .target .size → isStore (effect object x j) ≡ true → p ≡ P object x j
+unfolding plus
+place-read object x j r p re pe f inside s = pe ∙ ap (λ r. plus 32 (x .address .0) (r .offset .0)) re ∙ mod-eq-of-lt (place-below object x j f inside s)
+
+-- ---- one relocation applied
+
+module _ (object order addresses : List ℕ) (x : Site) (j : ℕ) where
+  pub applied-store : (c : Calculation) (f : Field) (form : Form) (n : ℕ) (s : List ℕ) → effect object x j ≡ Store c f form n
+      → applied object order addresses x j s
+      ≡ sets s (offset object x j) (bytes n (patched c f (leAt n s (offset object x j)) (sumAt object order addresses x j) (P object x j) (pairDistance object order addresses x j)))
+  unfolding applied
+  applied-store c f form n s e =
+      ap (λ d. stored d (offset object x j) (sumAt object order addresses x j) (P object x j) (pairDistance object order addresses x j) s) e
+
+  pub applied-marker : (s : List ℕ) → isStore (effect object x j) ≡ false → applied object order addresses x j s ≡ s
+  unfolding applied
+  applied-marker s e = go (effect object x j) e
+    where
+      go : (d : Decision) → isStore d ≡ false → stored d (offset object x j) (sumAt object order addresses x j) (P object x j) (pairDistance object order addresses x j) s ≡ s
+      go (Store c f form n) q = never (sym q)
+      go Marker q = refl
+      go Align q = refl
+      go Refused q = refl
+
+  -- by what the code works out: w the bytes as one number, y S + A in two's complement, p P, d the pair's distance, u what is stored
+  pub applied-read : (c : Calculation) (f : Field) (form : Form) (n : ℕ) (s : List ℕ) (w y p d u at : ℕ) → effect object x j ≡ Store c f form n
+      → at ≡ offset object x j → w ≡ leAt n s at → y < 2 ^ 64 → y ≡ residue 64 (sumAt object order addresses x j) → p ≡ P object x j
+      → (takesPair c ≡ true → d ≡ pairDistance object order addresses x j) → u ≡ patched c f w (signed 64 y) p d → sets s at (bytes n u) ≡ applied object order addresses x j s
+  applied-read c f form n s w y p d u at e ae we b ye pe de ue =
+      let z : ℤ = sumAt object order addresses x j in
+      let same : residue 64 (signed 64 y) ≡ residue 64 z = residue-signed 64 y b ∙ ye in
+      ap (λ u. sets s at (bytes n u)) ue
+      ∙ ap (λ u. sets s at (bytes n u)) (same-patch c f w (signed 64 y) z p d (pairDistance object order addresses x j) same de)
+      ∙ ap (λ p. sets s at (bytes n (patched c f w z p (pairDistance object order addresses x j)))) pe
+      ∙ ap (λ w. sets s at (bytes n (patched c f w z (P object x j) (pairDistance object order addresses x j)))) we
+      ∙ ap (λ at. sets s at (bytes n (patched c f (leAt n s at) z (P object x j) (pairDistance object order addresses x j)))) ae
+      ∙ sym (applied-store c f form n s e)
+
+-- ---- the RELA section of a section
+
+module _ (object order addresses : List ℕ) (f : SoundObject object) (p : Placed object addresses) (pass : relocationCheck object order addresses ≡ Passed) where
+  -- the relocations of a RELA section that counts break no rule
+  pub checked : (i : ℕ) → i < sectionCount object → countingRela object i ≡ true → Checked object order addresses (siteAt object addresses i)
+  checked i h e =
+      record {
+        site = sound-site object addresses f i h e p;
+        kept = λ j l.
+            let m : j < relocationsIn object i = omega (arith, count-is object addresses f i h e) in
+            sym (finding-entry object i j h m order addresses) ∙ passed-kept object order addresses pass _ (counted object i j h m);
+      }
+
+-- a RELA section that was found counts, and relocates the section
+pub rela-found : (object : List ℕ) (t : ℕ) → relaOf object t < sectionCount object → (countingRela object (relaOf object t) ≡ true) × (sectionAt object (relaOf object t) .info ≡ t)
+unfolding relaOf
+rela-found object t h =
+    let q : ℕ → Bool = λ i. countingRela object i && eqb (sectionAt object i .info) t in
+    let both : q (first q (sectionCount object)) ≡ true = first-at q (sectionCount object) h in
+    let i : ℕ = first q (sectionCount object) in
+    (and-left (countingRela object i) (eqb (sectionAt object i .info) t) both, eqb-true _ _ (and-right (countingRela object i) (eqb (sectionAt object i .info) t) both))
+
+pub relocated-some : (object order addresses : List ℕ) (t : ℕ) → relaOf object t < sectionCount object
+    → relocated object order addresses t ≡ after object order addresses (siteAt object addresses (relaOf object t)) (count (siteAt object addresses (relaOf object t)))
+unfolding relocated
+relocated-some object order addresses t h = rw (lt-ltb _ _ h)
+
+pub relocated-none : (object order addresses : List ℕ) (t : ℕ) → sectionCount object ≤ relaOf object t → relocated object order addresses t ≡ bytesOf object (sectionAt object t)
+unfolding relocated
+relocated-none object order addresses t h = rw (le-ltb _ _ h)
+
+-- what its site finds in the object is the section itself
+pub found-target : (object addresses : List ℕ) (t : ℕ) → relaOf object t < sectionCount object → found object (siteAt object addresses (relaOf object t)) ≡ bytesOf object (sectionAt object t)
+unfolding siteAt
+found-target object addresses t h = ap (λ i. bytesOf object (sectionAt object i)) (rela-found object t h .1)

@@ -1,0 +1,70 @@
+-- `patch::apply_all` meets its contract. The invariant: the first `j` relocations are applied. Assumes nothing.
+use mathlib.Core.Path.{_≡_, refl, ap, _∙_}
+use Prim.Native.Nat.{_-_, _/_, _≤_}
+use native.Mathlib.Numerals.{add-one}
+use native.Mathlib.Omega.{arith}
+use lib.ListN.{length}
+use Rattle.relocate.proofs.Laws.Sites.{found-length}
+use Rattle.patch.specs.Sections.{applied, after}
+use borrow.Author.Needs.{needs}
+use Rattle.patch.proofs.apply_all.Statement.{statement}
+use Rattle.patch.proofs.apply_all.Tie as tie
+
+abbrev Inv-loop : tie.InvT-loop
+Inv-loop object order counts symbols addresses site part₀ n j₀ part j = (j ≤ n) × (length part ≡ length part₀) × (part ≡ after object order addresses site j)
+
+abbrev μ-loop : tie.MeasureT-loop
+μ-loop object order counts symbols addresses site part₀ n j₀ part j = n - j
+
+cast-n : tie.Need-cast-n Inv-loop μ-loop
+cast-n c = search needs
+
+loop-holds : tie.Need-loop-holds Inv-loop μ-loop
+unfolding after
+loop-holds c = (omega arith, refl, c .before .before .before .before .pre .4)
+
+apply-requires : tie.Need-apply-requires Inv-loop μ-loop
+apply-requires c κs =
+    let a = c .before .before .before .before .before .before .before .args in
+    let f = c .before .before .before .before .before .before .before .pre in
+    let at = c .before .before .loop in
+    let size : length (at .part) ≡ a .site .target .size = at .inv .1 ∙ ap length (f .4) ∙ found-length (a .object .now) (a .site) (f .3 .site) in
+    (f .0, f .1, f .2, f .3, c .before .loop-test .taken, size)
+
+add-j : tie.Need-add-j Inv-loop μ-loop
+add-j c = search needs
+
+loop-less : tie.Need-loop-less Inv-loop μ-loop
+loop-less c = search needs
+
+loop-again : tie.Need-loop-again Inv-loop μ-loop
+unfolding after
+loop-again c =
+    let a = c .before .before .before .before .before .before .before .before .before .before .args in
+    let at = c .before .before .before .before .before .loop in
+    (omega arith, omega arith, rw add-one (c .before .before .apply .ensures ∙ ap (applied (a .object .now) (a .order .now) (a .addresses) (a .site) (at .j)) (at .inv .2)))
+
+same-length : tie.Need-same-length Inv-loop μ-loop
+same-length c = search needs
+
+returns : tie.Need-returns Inv-loop μ-loop
+returns c =
+    let a = c .before .before .before .before .before .before .args in
+    let at = c .before .loop in
+    let stop : at .j ≡ a .site .rela .size / 12 = omega arith in
+    at .inv .2 ∙ ap (after (a .object .now) (a .order .now) (a .addresses) (a .site)) stop
+
+pub apply-all-spec : {M : Type 1} → statement M
+apply-all-spec =
+    tie.close
+    (tie.spec
+    Inv-loop
+    μ-loop
+    cast-n
+    loop-holds
+    apply-requires
+    add-j
+    loop-less
+    loop-again
+    same-length
+    returns)

@@ -1,0 +1,27 @@
+-- `patch::distance_for` meets its contract. Assumes nothing.
+use mathlib.Core.Path.{_≡_, sym, _∙_}
+use mathlib.Core.Bool.{true}
+use Rattle.relocate.specs.Effects.{takesPair}
+use Rattle.relocate.proofs.Laws.Widths.{never}
+use borrow.Author.Needs.{needs}
+use Rattle.patch.proofs.distance_for.Statement.{statement}
+use Rattle.patch.proofs.distance_for.Tie as tie
+
+takes-pair-requires : tie.Need-takes-pair-requires
+takes-pair-requires c κs = search needs
+
+pair-distance-requires : tie.Need-pair-distance-requires
+pair-distance-requires c κs =
+    let f = c .before .before .before .before .pre in
+    let known = f .4 (sym (c .before .takes-pair .ensures) ∙ c .if1 .taken) in
+    (f .0, f .1, f .2, f .3, known .0, known .1)
+
+returns : tie.Need-returns
+returns c = λ _. c .pair-distance .ensures
+
+returns-2 : tie.Need-returns-2
+returns-2 c = λ e. never (sym (c .if1 .left) ∙ c .before .takes-pair .ensures ∙ e)
+
+pub distance-for-spec : {M : Type 1} → statement M
+distance-for-spec =
+    tie.close (tie.spec takes-pair-requires pair-distance-requires returns returns-2)

@@ -1,0 +1,31 @@
+-- `patch::high_part` meets its contract. Assumes nothing.
+use mathlib.Core.Path.{_≡_, ap}
+use Prim.Native.Nat.{_*_, _-_, _^_, _<_}
+use native.Mathlib.Nat.{mod-lt}
+use native.Mathlib.Omega.{arith}
+use lib.Pow.{pow-pos}
+use Rattle.riscv.specs.Halves.{high}
+use borrow.Author.Needs.{needs}
+use Rattle.patch.proofs.high_part.Statement.{statement}
+use Rattle.patch.proofs.high_part.Tie as tie
+
+hi20-requires : tie.Need-hi20-requires
+hi20-requires c κs = search needs
+
+cast-result : tie.Need-cast-result
+cast-result c = search needs
+
+mul-result : tie.Need-mul-result
+unfolding high
+mul-result c =
+    let few : c .hi20 .result < 2 ^ 20 = rw (c .hi20 .ensures) (mod-lt _ (pow-pos 20)) in
+    omega arith
+
+returns : tie.Need-returns
+unfolding high
+returns c =
+    let few : c .hi20 .result < 2 ^ 20 = rw (c .hi20 .ensures) (mod-lt _ (pow-pos 20)) in
+    (ap (λ h. 4096 * h) (c .hi20 .ensures), omega arith)
+
+pub high-part-spec : {M : Type 1} → statement M
+high-part-spec = tie.close (tie.spec hi20-requires cast-result mul-result returns)

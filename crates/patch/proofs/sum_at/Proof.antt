@@ -1,0 +1,24 @@
+-- `patch::sum_at` meets its contract. Assumes nothing.
+use mathlib.Core.Path.{_∙_}
+use Rattle.patch.proofs.Laws.Sections.{sum-read}
+use borrow.Author.Needs.{needs}
+use Rattle.patch.proofs.sum_at.Statement.{statement}
+use Rattle.patch.proofs.sum_at.Tie as tie
+
+read-relocation-requires : tie.Need-read-relocation-requires
+read-relocation-requires c κs = search needs
+
+symbol-value-requires : tie.Need-symbol-value-requires
+symbol-value-requires c κs = search needs
+
+symbol-sum-requires : tie.Need-symbol-sum-requires
+symbol-sum-requires c κs = search needs
+
+returns : tie.Need-returns
+returns c =
+    let a = c .before .before .before .before .before .args in
+    c .symbol-sum .ensures ∙ sum-read (a .object .now) (a .order .now) (a .addresses) (a .site) (a .j) _ _ (c .before .before .read-relocation .ensures) (c .before .symbol-value .ensures .0)
+
+pub sum-at-spec : {M : Type 1} → statement M
+sum-at-spec =
+    tie.close (tie.spec read-relocation-requires symbol-value-requires symbol-sum-requires returns)

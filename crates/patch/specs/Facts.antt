@@ -1,0 +1,14 @@
+-- What inner functions ask of their callers. Assumes nothing: these are definitions.
+use mathlib.Core.Path.{_≡_}
+use mathlib.Core.List.{List}
+use Prim.Native.Nat.{ℕ, _<_}
+use Rattle.relocate.specs.declared.sites.Site.{Site}
+use Rattle.relocate.specs.declared.search.Finding.the-variants.{Kept}
+use Rattle.relocate.specs.Sites.{count}
+use Rattle.relocate.specs.Search.{finding}
+use Rattle.relocate.specs.Facts.{SoundSite}
+
+-- a site whose relocations break no rule
+pub record Checked (object order addresses : List ℕ) (x : Site) : Type 0 where
+  pub site : SoundSite object x
+  pub kept : (j : ℕ) → j < count x → finding object order addresses x j ≡ Kept

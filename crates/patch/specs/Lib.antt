@@ -1,0 +1,3 @@
+pub mod Patches
+pub mod Sections
+pub mod Facts

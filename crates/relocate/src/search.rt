@@ -1,0 +1,161 @@
+// Checks 9 to 14 over all relocations: the first that breaks a rule, and which.
+ghost use mathlib.Core.Path.{_≡_};
+ghost use mathlib.Core.Bool.{true};
+ghost use Prim.Native.Nat.{_+_, _^_, _≤_};
+ghost use Rattle.word.specs.Whole.{signed, plus};
+ghost use Rattle.elf.specs.Sound.{SoundObject};
+ghost use Rattle.order.specs.Orders.{reading};
+ghost use Rattle.place.specs.Values.{SymbolsOf};
+ghost use Rattle.relocate.specs.Sites.{S, T};
+ghost use Rattle.relocate.specs.Shape.{previous as «the-previous»};
+ghost use Rattle.relocate.specs.Search.{finding, isBroken, relocationCheck};
+ghost use Rattle.relocate.specs.Facts.{There, Placed};
+use super::rules::is_form_kept;
+use super::rules::is_in_reach;
+use super::rules::is_on_boundary;
+use super::rules::is_paired;
+use super::rules::is_symbol_kept;
+use super::shape::Previous;
+use super::shape::is_shape_kept;
+use super::shape::step;
+use super::sites::Site;
+use super::sites::site_at;
+use elf::Relocation;
+use order::Counts;
+use order::Reading;
+use place::SymbolValue;
+use place::Symbols;
+use riscv::types::decide;
+use word::Address;
+
+// Which of checks 9 to 14 a relocation breaks, if it breaks one.
+pub enum Finding {
+    Kept,
+    BadShape,
+    BadSymbol,
+    BadForm,
+    NoPair,
+    OutOfReach,
+    OffBoundary,
+}
+
+// What checks 9 to 14 find: nothing, or the first broken rule of the first relocation that breaks one, and its number.
+pub enum RelocationCheck {
+    Passed,
+    Broken(Finding, u32),
+}
+
+// T: the symbol's value with the addend.
+pub fn target_of(value: SymbolValue, addend: u64) -> u32
+    ensures { λ r. ⌜ r ≡ T (S value) (signed 64 addend) ⌝ }
+{
+    match value {
+        SymbolValue::Resolved(s) => word::add32(s, addend),
+        SymbolValue::Unresolved => word::add32(0, addend),
+    }
+}
+
+// P: the place's address. Of a non-marker it is below 2^32.
+pub fn place_of(site: Site, here: Relocation) -> Address
+    ensures { λ r. ⌜ r .0 ≡ plus 32 (site .address .0) (here .offset .0) ⌝ }
+{
+    Address(word::add32(site.address.0, here.offset.0 as u64))
+}
+
+// The first of checks 9 to 14 that relocation j breaks.
+fn find_broken(
+    object: &[u8],
+    order: &[u8],
+    counts: Counts,
+    symbols: Symbols,
+    addresses: [u32; 32],
+    site: Site,
+    previous: Previous,
+    j: usize,
+) -> Finding
+    requires { ⌜ SoundObject (now object) × (reading (now order) ≡ Reading.WellFormed counts) × SymbolsOf (now object) symbols × There (now object) site j × (previous ≡ «the-previous» (now object) site j) ⌝ }
+    ensures { λ r. ⌜ r ≡ finding (now (object .entry)) (now (order .entry)) addresses site j ⌝ }
+{
+    let here = elf::read_relocation(object, site.rela, j);
+    let decision = decide(here.kind);
+    if !is_shape_kept(object, site, previous, j) {
+        return Finding::BadShape;
+    }
+    let lookup = place::symbol_value(object, order, counts, symbols, addresses, here.symbol);
+    let value = lookup.value;
+    if !is_symbol_kept(object, symbols, site, j, value) {
+        return Finding::BadSymbol;
+    }
+    if !is_form_kept(object, site, j) {
+        return Finding::BadForm;
+    }
+    if !is_paired(object, symbols, site, j) {
+        return Finding::NoPair;
+    }
+    if !is_in_reach(
+        decision,
+        target_of(value, here.addend),
+        place_of(site, here),
+    ) {
+        return Finding::OutOfReach;
+    }
+    let p = site.address.0 as u64 + here.offset.0 as u64;
+    if !is_on_boundary(decision, p, here.addend) {
+        return Finding::OffBoundary;
+    }
+    Finding::Kept
+}
+
+fn is_broken(finding: Finding) -> bool
+    ensures { λ r. ⌜ r ≡ isBroken finding ⌝ }
+{
+    match finding {
+        Finding::Kept => false,
+        Finding::BadShape => true,
+        Finding::BadSymbol => true,
+        Finding::BadForm => true,
+        Finding::NoPair => true,
+        Finding::OutOfReach => true,
+        Finding::OffBoundary => true,
+    }
+}
+
+// Checks 9 to 14: by RELA section, then in file order, each relocation through all rules before the next.
+pub fn check_relocations(
+    object: &[u8],
+    order: &[u8],
+    counts: Counts,
+    addresses: [u32; 32],
+) -> RelocationCheck
+    requires { ⌜ SoundObject (now object) × (reading (now order) ≡ Reading.WellFormed counts) × Placed (now object) addresses ⌝ }
+    ensures { λ r. ⌜ r ≡ relocationCheck (now (object .entry)) (now (order .entry)) addresses ⌝ }
+{
+    let symbols = place::symbols_of(object);
+    let n = elf::section_count(object);
+    let mut result = RelocationCheck::Passed;
+    let mut number: u32 = 0;
+    let mut i: usize = 0;
+    'search: while i < n {
+        if !elf::is_counting_rela(object, i) {
+            i += 1;
+            continue 'search;
+        }
+        let site = site_at(object, addresses, i);
+        let count = (site.rela.size / 12) as usize;
+        let mut previous = Previous::Nothing;
+        let mut j: usize = 0;
+        while j < count {
+            let here = elf::read_relocation(object, site.rela, j);
+            let finding = find_broken(object, order, counts, symbols, addresses, site, previous, j);
+            if is_broken(finding) {
+                result = RelocationCheck::Broken(finding, number);
+                break 'search;
+            }
+            previous = step(previous, decide(here.kind), j);
+            number += 1;
+            j += 1;
+        }
+        i += 1;
+    }
+    result
+}
