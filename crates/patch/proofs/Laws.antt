@@ -1,3 +1,8 @@
 -- The laws of the definitions in specs/.
 pub mod Patches
 pub mod Sections
+pub mod Overlap
+pub mod After
+pub mod Said
+pub mod Stacks
+pub mod ReadBack

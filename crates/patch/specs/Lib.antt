@@ -1,3 +1,4 @@
 pub mod Patches
 pub mod Sections
+pub mod Promises
 pub mod Facts

@@ -1,0 +1,93 @@
+-- ADD, SUB and SET on a field, as one whole number. Assumes nothing.
+use mathlib.Core.Path.{_≡_, refl, sym, ap, _∙_}
+use mathlib.Core.Bool.{Bool, true, false}
+use Prim.Native.Nat.{ℕ, _+_, _%_, _^_, _<_}
+use native.Mathlib.Nat.{mod-eq-of-lt, mod-lt, mod-one, mod-mod}
+use native.Mathlib.Omega.{arith}
+use lib.Pow.{pow-pos}
+use lib.IntN.{ℤ, pos, _+ℤ_, _-ℤ_}
+use Rattle.word.specs.Whole.{residue}
+use Rattle.word.proofs.Laws.Modulo.{mod-unique}
+use Rattle.word.proofs.Laws.Whole.{residue-lt, residue-add, residue-sub}
+use Rattle.fields.specs.declared.Width.{Width}
+use Rattle.fields.specs.declared.Width.the-variants.{W6, W8, W16, W32, W64}
+use Rattle.fields.specs.declared.Field.{Field}
+use Rattle.fields.specs.declared.Field.the-variants.{U, I, S, B, J, Cb, Cj, Call, Data}
+use Rattle.fields.specs.Layouts.{read, put, outside}
+use Rattle.fields.specs.Fields.{layout, valueBits, bits, dataLayout}
+use Rattle.fields.proofs.Laws.Fields.{reads-back, read-whole, read-six}
+use Rattle.riscv.specs.declared.types.Calculation.{Calculation}
+use Rattle.riscv.specs.declared.types.Calculation.the-variants.{Absolute, PcRelative, Distance, BothHalves, HighPcRelative, HighAbsolute, LowAbsolute, LowOfPair, Add, Sub, Set}
+use Rattle.relocate.specs.Effects.{stacks}
+use Rattle.relocate.specs.Facts.{isDataField}
+use Rattle.relocate.proofs.Laws.Widths.{never}
+use Rattle.patch.specs.Patches.{calculated, patched}
+use Rattle.patch.specs.Promises.{stackStep}
+
+-- a number reduced in between is reduced in the end
+residue-again : (w : ℕ) (z : ℤ) → residue w (pos (residue w z)) ≡ residue w z
+unfolding residue
+residue-again w z = mod-eq-of-lt (residue-lt w z)
+
+sum-again : (w : ℕ) (z x : ℤ) → residue w (pos (residue w z) +ℤ x) ≡ residue w (z +ℤ x)
+sum-again w z x =
+    residue-add w (pos (residue w z)) x ∙ ap (λ r. (r + residue w x) % 2 ^ w) (residue-again w z) ∙ sym (residue-add w z x)
+
+difference-again : (w : ℕ) (z x : ℤ) → residue w (pos (residue w z) -ℤ x) ≡ residue w (z -ℤ x)
+difference-again w z x =
+    mod-unique (2 ^ w) (residue w (pos (residue w z) -ℤ x)) (residue w (z -ℤ x)) (residue w x) (residue-lt w (pos (residue w z) -ℤ x)) (residue-lt w (z -ℤ x))
+    (residue-sub w (pos (residue w z)) x ∙ residue-again w z ∙ sym (residue-sub w z x))
+
+-- one more of a stack
+step-again : (c : Calculation) (w v : ℕ) (z x : ℤ) (p d : ℕ) → stacks c ≡ true → v ≡ residue w z → calculated c w v x p d ≡ residue w (stackStep c z x)
+step-again Add w v z x p d s e = ap (λ n. residue w (pos n +ℤ x)) e ∙ sum-again w z x
+step-again Sub w v z x p d s e = ap (λ n. residue w (pos n -ℤ x)) e ∙ difference-again w z x
+step-again Set w v z x p d s e = refl
+step-again Absolute w v z x p d s e = never s
+step-again PcRelative w v z x p d s e = never s
+step-again Distance w v z x p d s e = never s
+step-again BothHalves w v z x p d s e = never s
+step-again HighPcRelative w v z x p d s e = never s
+step-again HighAbsolute w v z x p d s e = never s
+step-again LowAbsolute w v z x p d s e = never s
+step-again LowOfPair w v z x p d s e = never s
+
+-- a data field's value has no more than its bits
+data-lt : (n : Width) (w : ℕ) → read (dataLayout n) w < 2 ^ bits n
+data-lt W6 w = rw (read-six w) (mod-lt w (pow-pos 6))
+data-lt W8 w = rw (read-whole 7 w) (mod-lt w (pow-pos 8))
+data-lt W16 w = rw (read-whole 15 w) (mod-lt w (pow-pos 16))
+data-lt W32 w = rw (read-whole 31 w) (mod-lt w (pow-pos 32))
+data-lt W64 w = rw (read-whole 63 w) (mod-lt w (pow-pos 64))
+
+pub field-lt : (f : Field) (w : ℕ) → isDataField f ≡ true → read (layout f) w < 2 ^ valueBits f
+field-lt (Data n) w e = data-lt n w
+field-lt U w e = never e
+field-lt I w e = never e
+field-lt S w e = never e
+field-lt B w e = never e
+field-lt J w e = never e
+field-lt Cb w e = never e
+field-lt Cj w e = never e
+field-lt Call w e = never e
+
+data-back : (f : Field) (w v : ℕ) → isDataField f ≡ true → v < 2 ^ valueBits f → read (layout f) (put (layout f) w v) ≡ v
+data-back (Data n) w v e l = reads-back (Data n) w v (mod-one v) ∙ mod-eq-of-lt l
+data-back U w v e l = never e
+data-back I w v e l = never e
+data-back S w v e l = never e
+data-back B w v e l = never e
+data-back J w v e l = never e
+data-back Cb w v e l = never e
+data-back Cj w v e l = never e
+data-back Call w v e l = never e
+
+-- a field that holds a whole number modulo its width holds the next one after the next of the stack
+pub stacked : (c : Calculation) (f : Field) (w : ℕ) (z x : ℤ) (p d : ℕ) → stacks c ≡ true → isDataField f ≡ true → read (layout f) w ≡ residue (valueBits f) z
+    → read (layout f) (patched c f w x p d) ≡ residue (valueBits f) (stackStep c z x)
+unfolding patched
+stacked c f w z x p d s e h =
+    let v : ℕ = calculated c (valueBits f) (read (layout f) w) x p d in
+    let is : v ≡ residue (valueBits f) (stackStep c z x) = step-again c (valueBits f) (read (layout f) w) z x p d s h in
+    let small : v < 2 ^ valueBits f = rw is (residue-lt (valueBits f) (stackStep c z x)) in
+    data-back f w v e small ∙ is

@@ -1,0 +1,100 @@
+-- What the final bytes of a section say when they are read by the manual's fields. Assumes nothing: these are definitions.
+use mathlib.Core.Path.{_≡_}
+use mathlib.Core.Bool.{Bool, true, false, not, cond, _&&_}
+use mathlib.Core.List.{List}
+use Prim.Native.Nat.{ℕ, zero, suc, _+_, _/_, _%_, _^_, _<_}
+use lib.ListN.{getD}
+use lib.Dec.{leb, ltb, eqb}
+use lib.IntN.{ℤ, pos, _+ℤ_, _-ℤ_}
+use Rattle.word.specs.Bytes.{leAt}
+use Rattle.word.specs.First.{everywhere}
+use Rattle.word.specs.Whole.{residue, signed, minus}
+use Rattle.fields.specs.declared.Field.{Field}
+use Rattle.fields.specs.Layouts.{formatU, formatI, read, outside}
+use Rattle.fields.specs.Fields.{layout, valueBits}
+use Rattle.riscv.specs.declared.types.Calculation.{Calculation}
+use Rattle.riscv.specs.declared.types.Calculation.the-variants.{Absolute, PcRelative, Distance, BothHalves, HighPcRelative, HighAbsolute, LowAbsolute, LowOfPair, Add, Sub, Set}
+use Rattle.riscv.specs.declared.types.Decision.{Decision}
+use Rattle.riscv.specs.declared.types.Decision.the-variants.{Marker, Align, Store, Refused}
+use Rattle.riscv.specs.Halves.{high, low}
+use Rattle.riscv.specs.Ranges.{distance}
+use Rattle.relocate.specs.declared.sites.Site.{Site}
+use Rattle.relocate.specs.Sites.{count, effect, offset, A, P, S, T, found}
+use Rattle.relocate.specs.Shape.{end}
+use Rattle.relocate.specs.Search.{valueAt}
+use Rattle.patch.specs.Patches.{highPart}
+use Rattle.patch.specs.Sections.{sumAt, distanceAt, pairDistance}
+
+-- ---- bytes that no relocation touches
+
+unfoldable pub touches : List ℕ → Site → ℕ → ℕ → Bool
+touches object x j b = leb (offset object x j) b && ltb b (end object x j)
+
+unfoldable pub untouched : List ℕ → Site → ℕ → Bool
+untouched object x b = everywhere (λ j. not (touches object x j b)) (count x)
+
+-- ---- ADD, SUB and SET at one place
+
+-- one of them, on what those before it left; no other type is there
+abbrev pub stackStep : Calculation → ℤ → ℤ → ℤ
+stackStep Add v x = v +ℤ x
+stackStep Sub v x = v -ℤ x
+stackStep Set v x = x
+stackStep Absolute v x = v
+stackStep PcRelative v x = v
+stackStep Distance v x = v
+stackStep BothHalves v x = v
+stackStep HighPcRelative v x = v
+stackStep HighAbsolute v x = v
+stackStep LowAbsolute v x = v
+stackStep LowOfPair v x = v
+
+abbrev pub stackOn : Decision → Bool → ℤ → ℤ → ℤ
+stackOn (Store c f form n) here v x = cond here (stackStep c v x) v
+stackOn Marker here v x = v
+stackOn Align here v x = v
+stackOn Refused here v x = v
+
+-- "V + S + A, V - S - A", "S + A", in file order: the whole number that the first j relocations make of v at an offset
+unfoldable pub stackAt : List ℕ → List ℕ → List ℕ → Site → ℕ → ℕ → ℕ → ℤ
+stackAt object order addresses x at v zero = pos v
+stackAt object order addresses x at v (suc j) =
+    stackOn (effect object x j) (eqb (offset object x j) at) (stackAt object order addresses x at v j) (sumAt object order addresses x j)
+
+-- ---- what is read out of the bytes w of a relocation, as one number. t is T, p is P, d the paired high half's T - P, total the stack's number.
+
+abbrev pub Said : Calculation → Field → ℕ → ℕ → ℕ → ℕ → ℤ → Type 0
+-- 1: T
+Said Absolute f w t p d total = read (layout f) w ≡ t
+-- 57: T - P modulo 2^32
+Said PcRelative f w t p d total = read (layout f) w ≡ minus 32 t p
+-- 16, 17, 44, 45: the signed distance is T - P, whole
+Said Distance f w t p d total = signed (valueBits f) (read (layout f) w) ≡ distance t p
+-- 18, 19: high half and low half, each read out of its own instruction, add up to T - P modulo 2^32
+Said BothHalves f w t p d total = residue 32 (pos (read formatU w) +ℤ signed 12 (read formatI (w / 2 ^ 32))) ≡ minus 32 t p
+-- 23, 26: the high half of T - P; of T
+Said HighPcRelative f w t p d total = read (layout f) w ≡ highPart (minus 32 t p)
+Said HighAbsolute f w t p d total = read (layout f) w ≡ highPart t
+-- 27, 28: the low half of T, from -2,048 to 2,047
+Said LowAbsolute f w t p d total = signed 12 (read (layout f) w) ≡ low 32 t
+-- 24, 25: that of the paired high half's T - P
+Said LowOfPair f w t p d total = signed 12 (read (layout f) w) ≡ low 32 d
+-- 33..40, 52..56: what the whole stack says, modulo the width
+Said Add f w t p d total = read (layout f) w ≡ residue (valueBits f) total
+Said Sub f w t p d total = read (layout f) w ≡ residue (valueBits f) total
+Said Set f w t p d total = read (layout f) w ≡ residue (valueBits f) total
+
+-- a store at an offset of a section that was `before` and is `final`: what is read, and that the bits outside the field are the object's
+abbrev pub Stored : Decision → List ℕ → List ℕ → ℕ → ℕ → ℕ → ℕ → (ℕ → ℤ) → Type 0
+Stored (Store c f form n) before final at t p d total =
+    Said c f (leAt n final at) t p d (total (read (layout f) (leAt n before at)))
+    × (outside (layout f) (leAt n final at) ≡ outside (layout f) (leAt n before at))
+Stored Marker before final at t p d total = Unit {0}
+Stored Align before final at t p d total = Unit {0}
+Stored Refused before final at t p d total = Unit {0}
+
+-- relocation j, read out of the final bytes
+unfoldable pub ReadsBack : List ℕ → List ℕ → List ℕ → Site → List ℕ → ℕ → Type 0
+ReadsBack object order addresses x final j =
+    Stored (effect object x j) (found object x) final (offset object x j) (T (S (valueAt object order addresses x j)) (A object x j)) (P object x j)
+    (pairDistance object order addresses x j) (λ v. stackAt object order addresses x (offset object x j) v (count x))
