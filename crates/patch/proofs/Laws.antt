@@ -6,3 +6,5 @@ pub mod After
 pub mod Said
 pub mod Stacks
 pub mod ReadBack
+pub mod Halves
+pub mod Bench

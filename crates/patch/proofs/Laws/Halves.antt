@@ -1,0 +1,110 @@
+-- The high half and the low half of one address or distance add up to it. Assumes nothing.
+use mathlib.Core.Path.{_≡_, refl, sym, ap, _∙_, subst}
+use mathlib.Core.Bool.{Bool, true, false, not, _&&_, _||_}
+use mathlib.Core.List.{List}
+use Prim.Native.Nat.{ℕ, _%_, _^_, _<_}
+use native.Mathlib.Nat.{mod-eq-of-lt}
+use lib.Dec.{eqb}
+use lib.IntN.{pos, _+ℤ_}
+use borrow.Author.Tests.{eqb-true}
+use Rattle.word.specs.Bytes.{leAt}
+use Rattle.word.specs.Whole.{residue, signed, minus}
+use Rattle.word.proofs.Laws.Tests.{and-left}
+use Rattle.word.proofs.Laws.Whole.{residue-lt}
+use Rattle.fields.specs.declared.Field.{Field}
+use Rattle.fields.specs.declared.Field.the-variants.{U}
+use Rattle.fields.specs.Layouts.{read}
+use Rattle.fields.specs.Fields.{layout}
+use Rattle.riscv.specs.declared.forms.Form.{Form}
+use Rattle.riscv.specs.declared.forms.Form.the-variants.{Auipc}
+use Rattle.riscv.specs.declared.types.Calculation.the-variants.{HighPcRelative, HighAbsolute, LowAbsolute, LowOfPair}
+use Rattle.riscv.specs.declared.types.Decision.{Decision}
+use Rattle.riscv.specs.declared.types.Decision.the-variants.{Store}
+use Rattle.riscv.specs.Types.{table, among, lookup, decision}
+use Rattle.riscv.specs.Halves.{low}
+use Rattle.riscv.proofs.Laws.Halves.{halves-sum}
+use Rattle.relocate.specs.declared.sites.Site.{Site}
+use Rattle.relocate.specs.declared.pairs.Pair.{Pair}
+use Rattle.relocate.specs.declared.pairs.Pair.the-variants.{At, NotOne}
+use Rattle.relocate.specs.Sites.{count, entry, effect, offset, A, P, S, T, found}
+use Rattle.relocate.specs.Effects.{needsPair}
+use Rattle.relocate.specs.Pairs.{PCREL_HI20, isPair, pairOf}
+use Rattle.relocate.specs.Rules.{symbol, isOne, pairWell}
+use Rattle.relocate.specs.Search.{valueAt}
+use Rattle.relocate.proofs.Laws.Widths.{never}
+use Rattle.relocate.proofs.Laws.Pairs.{pair-there}
+use Rattle.relocate.proofs.Laws.Search.{kept-rules}
+use Rattle.patch.specs.Patches.{highPart}
+use Rattle.patch.specs.Sections.{distanceAt, distanceOf, pairDistance, after}
+use Rattle.patch.specs.Promises.{stackAt, Stored, ReadsBack, AddUp, Halves}
+use Rattle.patch.specs.Facts.{Checked}
+use Rattle.patch.proofs.Laws.ReadBack.{read-back}
+
+-- what is read of each, added up
+add-up : (f g : Field) (w v d : ℕ) → d < 2 ^ 32 → read (layout f) w ≡ highPart d → signed 12 (read (layout g) v) ≡ low 32 d → AddUp f w g v d
+add-up f g w v d h p q =
+    ap (λ n. residue 32 (pos n +ℤ signed 12 (read (layout g) v))) p
+    ∙ ap (λ z. residue 32 (pos (highPart d) +ℤ z)) q
+    ∙ halves-sum 32 d
+    ∙ mod-eq-of-lt h
+
+module _ (object order addresses : List ℕ) (x : Site) (k : Checked object order addresses x) where
+  abbrev final : List ℕ
+  final = after object order addresses x (count x)
+
+  abbrev t : ℕ → ℕ
+  t j = T (S (valueAt object order addresses x j)) (A object x j)
+
+  -- what relocation j says, for a decision
+  abbrev Says : ℕ → Decision → Type 0
+  Says j d =
+      Stored d (found object x) final (offset object x j) (t j) (P object x j) (pairDistance object order addresses x j)
+      (λ v. stackAt object order addresses x (offset object x j) v (count x))
+
+  says : (j : ℕ) → j < count x → (d : Decision) → effect object x j ≡ d → Says j d
+  says j h d e = subst (Says j) e (unfold ReadsBack in read-back object order addresses x k j h)
+
+  -- a pair is a PCREL_HI20
+  hi20 : (j : ℕ) (value : ℕ) → isPair object x value j ≡ true → effect object x j ≡ Store HighPcRelative U Auipc 4
+  unfolding isPair decision table lookup among
+  hi20 j value e = ap decision (eqb-true (entry object x j .kind) PCREL_HI20 (and-left (eqb (entry object x j .kind) PCREL_HI20) (eqb (offset object x j) value) e))
+
+  -- a PCREL_LO12 has one
+  has-pair : (j : ℕ) → j < count x → needsPair (effect object x j) ≡ true → (i : ℕ) × (pairOf object x (symbol object x j .value) ≡ At i)
+  unfolding pairWell
+  has-pair j h n = go (pairOf object x (symbol object x j .value)) refl (one n (kept-rules object order addresses x j (k .kept j h) .pair))
+    where
+      one : needsPair (effect object x j) ≡ true → (not (needsPair (effect object x j)) || isOne (pairOf object x (symbol object x j .value))) ≡ true
+          → isOne (pairOf object x (symbol object x j .value)) ≡ true
+      one n e = rw n at e
+
+      go : (p : Pair) → pairOf object x (symbol object x j .value) ≡ p → isOne (pairOf object x (symbol object x j .value)) ≡ true
+          → (i : ℕ) × (pairOf object x (symbol object x j .value) ≡ At i)
+      go (At i) e o = (i, e)
+      go NotOne e o = never (sym (ap isOne e) ∙ o)
+
+  distance-lt : (i : ℕ) → distanceAt object order addresses x i < 2 ^ 32
+  unfolding distanceAt minus
+  distance-lt i = residue-lt 32 _
+
+  pub halves : Halves object order addresses x final
+  unfolding distanceAt
+  halves =
+      record {
+        address = λ i j hi hj f g a b m n p q same.
+            let high = says i hi (Store HighAbsolute f a m) p in
+            let low-half = says j hj (Store LowAbsolute g b n) q in
+            add-up f g (leAt m final (offset object x i)) (leAt n final (offset object x j)) (t i) (residue-lt 32 _) (high .0) (low-half .0 ∙ ap (low 32) (sym same));
+        distance = λ j hj g b n q.
+            let pair = has-pair j hj (ap needsPair q) in
+            let i : ℕ = pair .0 in
+            let there = pair-there object x (symbol object x j .value) i (pair .1) in
+            let high = says i (there .0) (Store HighPcRelative U Auipc 4) (hi20 i (symbol object x j .value) (there .1)) in
+            let low-half = says j hj (Store LowOfPair g b n) q in
+            let same : pairDistance object order addresses x j ≡ distanceAt object order addresses x i = ap (distanceOf object order addresses x) (pair .1) in (
+              i,
+              there .0,
+              pair .1,
+              add-up U g (leAt 4 final (offset object x i)) (leAt n final (offset object x j)) (distanceAt object order addresses x i) (distance-lt i) (high .0) (low-half .0 ∙ ap (low 32) same),
+            );
+      }
