@@ -131,7 +131,7 @@ fn wound_table(random: &mut Random, object: &mut [u8]) {
 
 /// One field of one relocation, of the symbol beside it, or of its section's
 /// bytes.
-fn wound_relocation(random: &mut Random, object: &mut [u8]) {
+pub fn wound_relocation(random: &mut Random, object: &mut [u8]) {
     let (table, count) = (get(object, 32, 4), get(object, 48, 2));
     let rela = |row: &usize| get(object, table + 40 * row + 4, 4) == 4;
     let rows: Vec<usize> = (0..count.min(32)).filter(rela).collect();

@@ -4,9 +4,10 @@
 use std::fs;
 use std::path::Path;
 
-use super::vectors::{bytes, lines, number};
+use super::vectors::{bytes, bytes_after, lines, number};
 
-/// What a fit is asked with, besides the ledger, and its number and place.
+/// What a fit is asked with, besides the ledger, its number and place, and the
+/// image after it, where that is given.
 #[derive(Clone, Debug)]
 pub struct Given {
     pub name: String,
@@ -14,6 +15,7 @@ pub struct Given {
     pub order: Vec<u8>,
     pub image_length: usize,
     pub answer: (u32, u32),
+    pub image: Option<Vec<u8>>,
 }
 
 /// The fits of the vectors.
@@ -26,11 +28,34 @@ pub fn vectors() -> Vec<Given> {
             order: bytes(&words[2]),
             image_length: bytes(&words[3]).len(),
             answer: (number(&words[5]), number(&words[6])),
+            image: Some(bytes_after(&words[7], &bytes(&words[3]))),
         })
         .collect()
 }
 
-/// The real objects with their orders. All of these fits are done.
+/// The fits of the histories.
+pub fn histories() -> Vec<Given> {
+    let mut image_length = 0;
+    let mut fits = Vec::new();
+    for (at, words) in lines("histories.txt") {
+        match words[0].as_str() {
+            "start" => image_length = bytes(&words[1]).len(),
+            "fit" => fits.push(Given {
+                name: format!("history, line {at}"),
+                object: bytes(&words[1]),
+                order: bytes(&words[2]),
+                image_length,
+                answer: (number(&words[3]), number(&words[4])),
+                image: None,
+            }),
+            _ => {}
+        }
+    }
+    fits
+}
+
+/// The real objects with their orders, and the image as GNU ld lays it. All of
+/// these fits are done.
 pub fn objects() -> Vec<Given> {
     let folder = Path::new(env!("CARGO_MANIFEST_DIR")).join("../../objects");
     let entries = fs::read_dir(&folder).expect("objects");
@@ -47,6 +72,7 @@ pub fn objects() -> Vec<Given> {
             order: file("order"),
             image_length: file("image").len(),
             answer: (0, 0),
+            image: Some(file("image")),
             name,
         }
     };

@@ -1,0 +1,83 @@
+-- `relocations::pairs::section` is safe and ends: the bytes of a loaded section lie in the object, which is no longer than the room. Assumes nothing.
+use mathlib.Core.Path.{_≡_, sym, ap, _∙_}
+use mathlib.Core.Bool.{true}
+use mathlib.Core.List.{List}
+use Prim.Native.Nat.{ℕ, _-_, _≤_, _<_}
+use native.Mathlib.Omega.{arith}
+use lib.Seq.{length-take-le}
+use Rattle.word.proofs.Laws.Tests.{and-left}
+use Rattle.elf.specs.Headers.{sectionCount}
+use Rattle.elf.specs.Sections.{sectionAt, loaded}
+use Rattle.elf.specs.Sound.{Inside, SoundObject}
+use Rattle.elf.proofs.Laws.Tables.{header-short}
+use Rattle.elf.proofs.Laws.Bounds.{loaded-inside}
+use borrow.Author.Needs.{needs}
+use Rattle.relocations.proofs.pairs.section.Statement.{statement}
+use Rattle.relocations.proofs.pairs.section.Tie as tie
+
+-- a loaded section is no larger than an object may be
+size-small : (s : List ℕ) (f : SoundObject s) (t : ℕ) → t < sectionCount s → loaded (sectionAt s t) ≡ true → sectionAt s t .size ≤ 65536
+size-small s f t h e =
+    let inside : Inside s (sectionAt s t .offset .0) (sectionAt s t .size) = loaded-inside s f t h e in
+    omega (arith, header-short s (f .header))
+
+read-section-requires : tie.Need-read-section-requires
+read-section-requires c κs = search needs
+
+is-loaded-requires : tie.Need-is-loaded-requires
+is-loaded-requires c κs = search needs
+
+cast-lay : tie.Need-cast-lay
+cast-lay c = search needs
+
+sub-lay : tie.Need-sub-lay
+sub-lay c = search needs
+
+part-lay-start : tie.Need-part-lay-start
+part-lay-start c = search needs
+
+part-lay-end : tie.Need-part-lay-end
+part-lay-end c =
+    let start = c .before .before .before .before .before .before .before .before in
+    let s = start .args .object .now in
+    let t = start .args .t in
+    let read : c .before .before .before .before .read-section .result ≡ sectionAt s t = c .before .before .before .before .read-section .ensures in
+    let laid : loaded (sectionAt s t) ≡ true = sym (ap loaded read) ∙ sym (c .before .before .before .is-loaded .ensures) ∙ and-left _ _ (c .before .if1 .taken) in
+    omega (arith, size-small s (start .pre .0) t (start .pre .4) laid, ap (λ h. h .size) read)
+
+lay-requires : tie.Need-lay-requires
+lay-requires c κs =
+    let start = c .before .before .before .before .before .before .before .before .before in
+    let s = start .args .object .now in
+    let t = start .args .t in
+    let pre = start .pre in
+    let read : c .before .before .before .before .before .read-section .result ≡ sectionAt s t = c .before .before .before .before .before .read-section .ensures in
+    let laid : loaded (sectionAt s t) ≡ true = sym (ap loaded read) ∙ sym (c .before .before .before .before .is-loaded .ensures) ∙ and-left _ _ (c .before .before .if1 .taken) in
+    let small = size-small s (pre .0) t (pre .4) laid in
+    let n = c .before .before .before .before .before .read-section .result .size in
+    let size : n ≡ sectionAt s t .size = ap (λ h. h .size) read in
+    (pre .0, pre .1, pre .2, pre .3, pre .4, laid, length-take-le (n - 0) (start .args .room .now) (omega arith) ∙ omega arith)
+
+same-length : tie.Need-same-length
+same-length c = search needs
+
+returns : tie.Need-returns
+returns c = search needs
+
+returns-2 : tie.Need-returns-2
+returns-2 c = search needs
+
+pub section-spec : {M : Type 1} → statement M
+section-spec =
+    tie.close
+    (tie.spec
+    read-section-requires
+    is-loaded-requires
+    cast-lay
+    sub-lay
+    part-lay-start
+    part-lay-end
+    lay-requires
+    same-length
+    returns
+    returns-2)

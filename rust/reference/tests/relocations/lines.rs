@@ -1,0 +1,64 @@
+//! The lines, as the program `relocations` writes them.
+
+use reference::object::{Header, Object};
+use reference::order::Order;
+use reference::placement::{addresses, has_loaded_bytes};
+
+use crate::{Answer, Case, Laid};
+
+/// The number and size of each loaded section of size above 0.
+pub fn loaded_sections(object: &[u8]) -> Vec<(usize, usize)> {
+    let header = Header::read(object).expect("check 4 has passed");
+    let object = Object::read(object, header).expect("check 5 has passed");
+    let allocated = object.allocated();
+    let loaded = allocated.filter(|(_, section)| has_loaded_bytes(section));
+    loaded
+        .map(|(index, section)| (index, section.size as usize))
+        .collect()
+}
+
+/// Those sections with their bytes after relocation, or number and place of the
+/// first broken check of 2 to 14.
+pub fn relocate(case: &Case) -> Result<Vec<Laid>, Answer> {
+    let plan = reference::judge(&case.object, &case.order, case.image_length)
+        .map_err(|answer| (answer.number, answer.place))?;
+    let numbers = loaded_sections(&case.object).into_iter();
+    let pieces = plan.pieces.into_iter();
+    Ok(numbers
+        .zip(pieces)
+        .map(|((index, _), piece)| (index, piece.bytes))
+        .collect())
+}
+
+/// Where an order puts the loaded sections of an object in the image.
+pub fn starts_in_image(object: &[u8], order: &[u8]) -> Vec<usize> {
+    let order = Order::read(order).expect("check 2 has passed");
+    let addresses = addresses(&order);
+    let start = |index: usize| (addresses[index].0 - order.base.0) as usize;
+    let sections = loaded_sections(object).into_iter();
+    sections.map(|(index, _)| start(index)).collect()
+}
+
+/// The same for a case; none where a check is broken.
+pub fn starts(case: &Case) -> Vec<usize> {
+    match relocate(case) {
+        Ok(_) => starts_in_image(&case.object, &case.order),
+        Err(_) => Vec::new(),
+    }
+}
+
+pub fn answer(case: &Case) -> Answer {
+    relocate(case).err().unwrap_or((0, 0))
+}
+
+pub fn line(case: &Case) -> String {
+    let digits = |bytes: &[u8]| -> String { bytes.iter().map(|b| format!("{b:02x}")).collect() };
+    match relocate(case) {
+        Err((number, place)) => format!("{number} {place}"),
+        Ok(sections) => {
+            let words = sections.iter();
+            let words = words.map(|(index, bytes)| format!(" {index} {}", digits(bytes)));
+            format!("0 0{}", words.collect::<String>())
+        }
+    }
+}

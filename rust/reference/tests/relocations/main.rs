@@ -1,0 +1,200 @@
+//! `crates/relocations/stdin` and `stdout`, worked out anew: pairs of an object
+//! and an order, right ones and wrong ones, and how this fitter relocates them.
+//! The program `relocations` writes the same lines from the proved functions.
+
+#[path = "../common/mod.rs"]
+mod common;
+
+mod data;
+mod distances;
+mod errors;
+mod first;
+mod fits;
+mod forms;
+mod given;
+mod halves;
+mod lines;
+mod padding;
+mod pairs;
+mod random;
+mod shapes;
+mod stacks;
+mod symbols;
+mod types;
+
+use std::collections::BTreeMap;
+use std::fs;
+use std::path::{Path, PathBuf};
+
+use common::build::{journal, Fit};
+use common::commands::Commands;
+use lines::{answer, line, relocate};
+use reference::install;
+
+/// Where the order is in the program's space, and the space's end.
+const ORDER: usize = 65_600;
+const SPACE: usize = 74_200;
+
+/// Number and place.
+pub type Answer = (u32, u32);
+
+/// Document 01: "done".
+pub const DONE: Answer = (0, 0);
+
+/// A loaded section and its bytes after relocation.
+pub type Laid = (usize, Vec<u8>);
+
+/// What the program is asked, and where it comes from. What is stated is
+/// stated by hand, by a vector or by GNU ld.
+#[derive(Clone, Debug)]
+pub struct Case {
+    pub name: String,
+    pub object: Vec<u8>,
+    pub order: Vec<u8>,
+    pub image_length: usize,
+    /// Number and place of the first broken check of 2 to 14.
+    pub stated: Option<Answer>,
+    pub bytes: Vec<Laid>,
+}
+
+impl Case {
+    pub fn new(name: impl Into<String>, fit: &Fit, stated: Answer) -> Case {
+        Case {
+            name: name.into(),
+            object: fit.object(),
+            order: fit.order(),
+            image_length: fit.image.len(),
+            stated: Some(stated),
+            bytes: Vec::new(),
+        }
+    }
+
+    /// Breaks no check, and section 1 then has these bytes.
+    pub fn done(name: impl Into<String>, fit: &Fit, bytes: &[u8]) -> Case {
+        Case {
+            bytes: vec![(1, bytes.to_vec())],
+            ..Case::new(name, fit, DONE)
+        }
+    }
+}
+
+fn cases() -> Vec<Case> {
+    let mut cases = Vec::new();
+    cases.extend(errors::cases());
+    cases.extend(types::cases());
+    cases.extend(distances::cases());
+    cases.extend(halves::cases());
+    cases.extend(data::cases());
+    cases.extend(shapes::cases());
+    cases.extend(symbols::cases());
+    cases.extend(forms::cases());
+    cases.extend(stacks::cases());
+    cases.extend(pairs::cases());
+    cases.extend(padding::cases());
+    cases.extend(first::cases());
+    cases.extend(given::cases());
+    cases.extend(random::cases());
+    cases
+}
+
+fn commands(cases: &[Case]) -> Vec<u8> {
+    let mut commands = Commands::new(SPACE);
+    for case in cases {
+        commands.store(0, &case.object);
+        commands.store(ORDER, &case.order);
+        let lengths = [case.object.len(), case.order.len(), case.image_length];
+        commands.ask(b'r', lengths.map(|length| length as u32));
+    }
+    commands.input()
+}
+
+fn path(file: &str) -> PathBuf {
+    Path::new(env!("CARGO_MANIFEST_DIR"))
+        .join("../../crates/relocations")
+        .join(file)
+}
+
+fn read(file: &str) -> Vec<u8> {
+    fs::read(path(file)).expect("the file is in the repository")
+}
+
+#[test]
+fn stated_answers() {
+    let differs = |case: &Case| {
+        let (given, stated) = (answer(case), case.stated?);
+        (given != stated).then(|| format!("{}: {given:?}, stated {stated:?}", case.name))
+    };
+    let wrong: Vec<String> = cases().iter().filter_map(differs).collect();
+    assert!(wrong.is_empty(), "{}", wrong.join("\n"));
+}
+
+#[test]
+fn stated_bytes() {
+    for case in cases().iter().filter(|case| !case.bytes.is_empty()) {
+        let sections = relocate(case).expect("a pair that passes");
+        for stated in &case.bytes {
+            let is_same = |given: &&Laid| given.0 == stated.0;
+            let given = sections.iter().find(is_same).expect("a loaded section");
+            assert_eq!(given.1, stated.1, "section {} of {}", stated.0, case.name);
+        }
+    }
+}
+
+/// An install by the whole fitter gives the same number and place, and lays the
+/// same bytes one section after the other, by address.
+#[test]
+fn answers_of_the_whole() {
+    for case in cases().iter().filter(|case| case.image_length <= 65_536) {
+        let mut image = vec![0; case.image_length];
+        let mut journal = journal(case.image_length);
+        let whole = install(&case.object, &case.order, &mut image, &mut journal);
+        assert_eq!(answer(case), (whole.number, whole.place), "{}", case.name);
+        let sections = relocate(case).unwrap_or_default();
+        let mut laid = vec![0; case.image_length];
+        for (start, (_, bytes)) in lines::starts(case).into_iter().zip(sections) {
+            laid[start..start + bytes.len()].copy_from_slice(&bytes);
+        }
+        assert!(image == laid, "{}", case.name);
+    }
+}
+
+#[test]
+fn input() {
+    assert!(commands(&cases()) == read("stdin"), "another stdin");
+}
+
+#[test]
+fn lines() {
+    let text = String::from_utf8(read("stdout")).expect("text");
+    let cases = cases();
+    for (case, written) in cases.iter().zip(text.lines()) {
+        assert_eq!(line(case), written, "{}", case.name);
+    }
+    assert_eq!(text.lines().count(), cases.len());
+    assert!(text.ends_with('\n'));
+}
+
+/// Every answer of 9 to 14 occurs often, and at many places.
+#[test]
+fn many_answers() {
+    let mut numbers = BTreeMap::new();
+    let mut places = BTreeMap::new();
+    for case in cases() {
+        let (number, place) = answer(&case);
+        *numbers.entry(number).or_insert(0) += 1;
+        *places.entry((number, place)).or_insert(0) += 1;
+    }
+    println!("{numbers:?}\n{places:?}");
+    assert!([0, 9, 10, 11, 12, 13, 14].iter().all(|n| numbers[n] >= 30));
+    let different = |number| places.keys().filter(|answer| answer.0 == number).count();
+    assert!((9..=14).all(|number| different(number) >= 4));
+}
+
+#[test]
+#[ignore = "writes the files anew"]
+fn write_relocations() {
+    let cases = cases();
+    let lines = cases.iter().map(|case| line(case) + "\n");
+    fs::write(path("stdout"), lines.collect::<String>()).expect("stdout can be written");
+    fs::write(path("stdin"), commands(&cases)).expect("stdin can be written");
+}
