@@ -2,11 +2,11 @@
 use mathlib.Core.Path.{_≡_}
 use mathlib.Core.List.{List}
 use Prim.Native.Nat.{ℕ, _<_}
-use Rattle.relocate.specs.declared.sites.Site.{Site}
+use Rattle.rela.specs.declared.sites.Site.{Site}
 use Rattle.relocate.specs.declared.search.Finding.the-variants.{Kept}
-use Rattle.relocate.specs.Sites.{count}
+use Rattle.rela.specs.Sites.{count}
 use Rattle.relocate.specs.Search.{finding}
-use Rattle.relocate.specs.Facts.{SoundSite}
+use Rattle.rela.specs.Facts.{SoundSite}
 
 -- a site whose relocations break no rule
 pub record Checked (object order addresses : List ℕ) (x : Site) : Type 0 where

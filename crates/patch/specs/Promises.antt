@@ -19,13 +19,14 @@ use Rattle.riscv.specs.declared.types.Decision.{Decision}
 use Rattle.riscv.specs.declared.types.Decision.the-variants.{Marker, Align, Store, Refused}
 use Rattle.riscv.specs.Halves.{low}
 use Rattle.riscv.specs.Ranges.{distance}
-use Rattle.relocate.specs.declared.sites.Site.{Site}
+use Rattle.rela.specs.declared.sites.Site.{Site}
 use Rattle.relocate.specs.declared.pairs.Pair.the-variants.{At}
-use Rattle.relocate.specs.Sites.{count, effect, offset, A, P, S, T, found}
-use Rattle.relocate.specs.Shape.{end}
+use Rattle.rela.specs.Sites.{count, effect, offset, A, P, found}
+use Rattle.relocate.specs.Values.{S, T}
+use Rattle.rela.specs.Shape.{end}
 use Rattle.relocate.specs.Pairs.{pairOf}
 use Rattle.relocate.specs.Rules.{symbol}
-use Rattle.relocate.specs.Search.{valueAt}
+use Rattle.relocate.specs.Values.{valueAt}
 use Rattle.patch.specs.Patches.{highPart}
 use Rattle.patch.specs.Sections.{sumAt, distanceAt, pairDistance}
 

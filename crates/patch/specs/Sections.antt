@@ -13,13 +13,14 @@ use Rattle.elf.specs.Sections.{sectionAt, countingRela}
 use Rattle.elf.specs.Entries.{bytesOf}
 use Rattle.riscv.specs.declared.types.Decision.{Decision}
 use Rattle.riscv.specs.declared.types.Decision.the-variants.{Marker, Align, Store, Refused}
-use Rattle.relocate.specs.declared.sites.Site.{Site}
+use Rattle.rela.specs.declared.sites.Site.{Site}
 use Rattle.relocate.specs.declared.pairs.Pair.{Pair}
 use Rattle.relocate.specs.declared.pairs.Pair.the-variants.{At, NotOne}
-use Rattle.relocate.specs.Sites.{siteAt, count, effect, offset, A, P, S, T, found}
+use Rattle.rela.specs.Sites.{siteAt, count, effect, offset, A, P, found}
+use Rattle.relocate.specs.Values.{S, T}
 use Rattle.relocate.specs.Pairs.{pairOf}
 use Rattle.relocate.specs.Rules.{symbol}
-use Rattle.relocate.specs.Search.{valueAt}
+use Rattle.relocate.specs.Values.{valueAt}
 use Rattle.patch.specs.Patches.{patched}
 
 -- what a decision leaves of a section's bytes: the n bytes at an offset, as one number, are patched

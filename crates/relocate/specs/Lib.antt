@@ -1,7 +1,4 @@
-pub mod Sites
-pub mod Effects
-pub mod Shape
+pub mod Values
 pub mod Pairs
 pub mod Rules
 pub mod Search
-pub mod Facts

@@ -5,10 +5,10 @@ use mathlib.Core.List.{List}
 use lib.Dec.{eqb}
 use Rattle.word.specs.First.{first}
 use Rattle.word.specs.Sums.{sum}
-use Rattle.relocate.specs.declared.sites.Site.{Site}
+use Rattle.rela.specs.declared.sites.Site.{Site}
 use Rattle.relocate.specs.declared.pairs.Pair.{Pair}
 use Rattle.relocate.specs.declared.pairs.Pair.the-variants.{At, NotOne}
-use Rattle.relocate.specs.Sites.{count, entry, offset}
+use Rattle.rela.specs.Sites.{count, entry, offset}
 
 abbrev pub PCREL_HI20 : ℕ
 PCREL_HI20 = 23

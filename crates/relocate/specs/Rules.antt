@@ -21,11 +21,11 @@ use Rattle.riscv.specs.declared.types.Decision.{Decision}
 use Rattle.riscv.specs.declared.types.Decision.the-variants.{Marker, Align, Store, Refused}
 use Rattle.riscv.specs.Forms.{hasForm}
 use Rattle.riscv.specs.Ranges.{distance, rangeOf, reaches}
-use Rattle.relocate.specs.declared.sites.Site.{Site}
+use Rattle.rela.specs.declared.sites.Site.{Site}
 use Rattle.relocate.specs.declared.pairs.Pair.{Pair}
 use Rattle.relocate.specs.declared.pairs.Pair.the-variants.{At, NotOne}
-use Rattle.relocate.specs.Sites.{entry, offset, effect, P, found}
-use Rattle.relocate.specs.Effects.{isStore, touched, needsPair}
+use Rattle.rela.specs.Sites.{entry, offset, effect, P, found}
+use Rattle.rela.specs.Effects.{isStore, touched, needsPair}
 use Rattle.relocate.specs.Pairs.{pairOf}
 
 -- ---- check 10

@@ -5,15 +5,14 @@ use mathlib.Core.List.{List}
 use lib.Dec.{ltb}
 use Rattle.word.specs.First.{first}
 use Rattle.elf.specs.Entries.{relocationCount, locationOf}
-use Rattle.place.specs.declared.SymbolValue.{SymbolValue}
-use Rattle.place.specs.Values.{symbolValue}
-use Rattle.relocate.specs.declared.sites.Site.{Site}
+use Rattle.rela.specs.declared.sites.Site.{Site}
 use Rattle.relocate.specs.declared.search.Finding.{Finding}
 use Rattle.relocate.specs.declared.search.Finding.the-variants.{Kept, BadShape, BadSymbol, BadForm, NoPair, OutOfReach, OffBoundary}
 use Rattle.relocate.specs.declared.search.RelocationCheck.{RelocationCheck}
 use Rattle.relocate.specs.declared.search.RelocationCheck.the-variants.{Passed, Broken}
-use Rattle.relocate.specs.Sites.{siteAt, entry, effect, A, P, S, T}
-use Rattle.relocate.specs.Shape.{shapeWell}
+use Rattle.rela.specs.Sites.{siteAt, entry, effect, A, P}
+use Rattle.relocate.specs.Values.{valueAt, S, T}
+use Rattle.rela.specs.Shape.{shapeWell}
 use Rattle.relocate.specs.Rules.{symbolWell, formWell, pairWell, distanceWell, boundaryWell}
 
 -- document 01's number of what is found; 0 where all rules are kept
@@ -25,10 +24,6 @@ number BadForm = 11
 number NoPair = 12
 number OutOfReach = 13
 number OffBoundary = 14
-
--- S of relocation j
-abbrev pub valueAt : List ℕ → List ℕ → List ℕ → Site → ℕ → SymbolValue
-valueAt object order addresses x j = symbolValue object order addresses (entry object x j .symbol)
 
 -- the first of 9 to 14 that relocation j of a site breaks
 unfoldable pub finding : List ℕ → List ℕ → List ℕ → Site → ℕ → Finding

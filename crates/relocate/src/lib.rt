@@ -1,7 +1,5 @@
-// The rules of relocations: checks 9 to 14. Everything is read out of the object as it came, and nothing is written.
-pub mod effects;
+// The rules of relocations: checks 10 to 14, and all of 9 to 14 over every relocation. Everything is read out of the object as it came, and
+// nothing is written.
 pub mod pairs;
 pub mod rules;
 pub mod search;
-pub mod shape;
-pub mod sites;

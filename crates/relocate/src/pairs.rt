@@ -2,8 +2,8 @@
 ghost use mathlib.Core.Path.{_≡_};
 ghost use mathlib.Core.Bool.{cond};
 ghost use Rattle.relocate.specs.Pairs.{isPair, pairOf};
-ghost use Rattle.relocate.specs.Facts.{SoundSite, There};
-use super::sites::Site;
+ghost use Rattle.rela.specs.Facts.{SoundSite, There};
+use rela::sites::Site;
 
 // The one PCREL_HI20 at an offset, or that there is not exactly one.
 pub enum Pair {

@@ -9,7 +9,7 @@ ghost use Rattle.elf.specs.Sound.{SoundObject};
 ghost use Rattle.order.specs.Orders.{reading};
 ghost use Rattle.relocate.specs.Search.{relocationCheck};
 ghost use Rattle.relocate.specs.Search.{number as «the-number»};
-ghost use Rattle.relocate.specs.Facts.{Placed};
+ghost use Rattle.rela.specs.Facts.{Placed};
 use super::lines;
 use elf::ObjectCheck;
 use order::Counts;

@@ -15,10 +15,10 @@ use Rattle.word.proofs.Laws.First.{everywhere-at}
 use Rattle.word.proofs.Laws.Bytes.{leAt-one, leAt-sets-other, length-bytes}
 use Rattle.riscv.specs.declared.types.Decision.{Decision}
 use Rattle.riscv.specs.declared.types.Decision.the-variants.{Marker, Align, Store, Refused}
-use Rattle.relocate.specs.declared.sites.Site.{Site}
-use Rattle.relocate.specs.Sites.{count, effect, offset, P, found}
-use Rattle.relocate.specs.Effects.{touched, isStore}
-use Rattle.relocate.specs.Shape.{end}
+use Rattle.rela.specs.declared.sites.Site.{Site}
+use Rattle.rela.specs.Sites.{count, effect, offset, P, found}
+use Rattle.rela.specs.Effects.{touched, isStore}
+use Rattle.rela.specs.Shape.{end}
 use Rattle.patch.specs.Patches.{patched}
 use Rattle.patch.specs.Sections.{sumAt, pairDistance, applied, after}
 use Rattle.patch.specs.Promises.{touches, untouched}

@@ -19,16 +19,16 @@ use Rattle.riscv.specs.declared.types.Calculation.{Calculation}
 use Rattle.riscv.specs.declared.types.Decision.{Decision}
 use Rattle.riscv.specs.declared.types.Decision.the-variants.{Marker, Align, Store, Refused}
 use Rattle.riscv.specs.Types.{decision}
-use Rattle.relocate.specs.declared.sites.Site.{Site}
-use Rattle.relocate.specs.declared.shape.Previous.{Previous}
-use Rattle.relocate.specs.declared.shape.Previous.the-variants.{Nothing, Entry}
-use Rattle.relocate.specs.Sites.{count, entry, offset, effect}
-use Rattle.relocate.specs.Effects.{isStore, touched, stacks, stackWidth}
-use Rattle.relocate.specs.Shape.{end, neverFalls, previous, sharesPlace, clears, noOverlap, shapeWell}
-use Rattle.relocate.specs.Facts.{isDataField, onData}
-use Rattle.relocate.proofs.Laws.Widths.{never}
-use Rattle.relocate.proofs.Laws.Decisions.{fieldBytes, store-bytes, store-data}
-use Rattle.relocate.proofs.Laws.Rules.{shape-rises, shape-clear}
+use Rattle.rela.specs.declared.sites.Site.{Site}
+use Rattle.rela.specs.declared.shape.Previous.{Previous}
+use Rattle.rela.specs.declared.shape.Previous.the-variants.{Nothing, Entry}
+use Rattle.rela.specs.Sites.{count, entry, offset, effect}
+use Rattle.rela.specs.Effects.{isStore, touched, stacks, stackWidth}
+use Rattle.rela.specs.Shape.{end, neverFalls, previous, sharesPlace, clears, noOverlap, shapeWell}
+use Rattle.rela.specs.Facts.{isDataField, onData}
+use Rattle.rela.proofs.Laws.Widths.{never}
+use Rattle.rela.proofs.Laws.Decisions.{fieldBytes, store-bytes, store-data}
+use Rattle.rela.proofs.Laws.Shape.{shape-rises, shape-clear}
 
 -- ---- equal widths are equal fields
 

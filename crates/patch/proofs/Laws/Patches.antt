@@ -13,7 +13,7 @@ use Rattle.fields.specs.Fields.{layout, valueBits}
 use Rattle.riscv.specs.declared.types.Calculation.{Calculation}
 use Rattle.riscv.specs.declared.types.Calculation.the-variants.{Absolute, PcRelative, Distance, BothHalves, HighPcRelative, HighAbsolute, LowAbsolute, LowOfPair, Add, Sub, Set}
 use Rattle.riscv.specs.Ranges.{distance}
-use Rattle.relocate.specs.Effects.{takesPair}
+use Rattle.rela.specs.Effects.{takesPair}
 use Rattle.patch.specs.Patches.{highPart, lowPart, calculated, patched}
 
 -- ---- numbers that are equal modulo 2^(j + k) are so modulo 2^k

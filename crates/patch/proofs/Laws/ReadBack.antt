@@ -25,17 +25,18 @@ use Rattle.riscv.specs.declared.types.Calculation.{Calculation}
 use Rattle.riscv.specs.declared.types.Calculation.the-variants.{Absolute, PcRelative, Distance, BothHalves, HighPcRelative, HighAbsolute, LowAbsolute, LowOfPair, Add, Sub, Set}
 use Rattle.riscv.specs.declared.types.Decision.{Decision}
 use Rattle.riscv.specs.declared.types.Decision.the-variants.{Marker, Align, Store, Refused}
-use Rattle.relocate.specs.declared.sites.Site.{Site}
-use Rattle.relocate.specs.Sites.{count, effect, offset, A, P, S as value, T, found}
-use Rattle.relocate.specs.Effects.{touched, isStore, stacks, stackWidth}
-use Rattle.relocate.specs.Shape.{end, shapeWell}
+use Rattle.rela.specs.declared.sites.Site.{Site}
+use Rattle.rela.specs.Sites.{count, effect, offset, A, P, found}
+use Rattle.relocate.specs.Values.{S as value, T}
+use Rattle.rela.specs.Effects.{touched, isStore, stacks, stackWidth}
+use Rattle.rela.specs.Shape.{end, shapeWell}
 use Rattle.relocate.specs.Rules.{reachesWell, distanceWell}
-use Rattle.relocate.specs.Search.{valueAt}
-use Rattle.relocate.specs.Facts.{isDataField}
-use Rattle.relocate.proofs.Laws.Widths.{never}
-use Rattle.relocate.proofs.Laws.Decisions.{fieldBytes, store-width, store-bytes, store-data, width-some}
-use Rattle.relocate.proofs.Laws.Sites.{store-inside}
-use Rattle.relocate.proofs.Laws.Rules.{shape-inside}
+use Rattle.relocate.specs.Values.{valueAt}
+use Rattle.rela.specs.Facts.{isDataField}
+use Rattle.rela.proofs.Laws.Widths.{never}
+use Rattle.rela.proofs.Laws.Decisions.{fieldBytes, store-width, store-bytes, store-data, width-some}
+use Rattle.rela.proofs.Laws.Sites.{store-inside}
+use Rattle.rela.proofs.Laws.Shape.{shape-inside}
 use Rattle.relocate.proofs.Laws.Search.{kept-rules}
 use Rattle.patch.specs.Patches.{patched}
 use Rattle.patch.specs.Sections.{sumAt, pairDistance, applied, after}

@@ -29,11 +29,11 @@ use Rattle.riscv.specs.Halves.{high, low}
 use Rattle.riscv.specs.Ranges.{distance, rangeOf, reaches}
 use Rattle.riscv.proofs.Laws.Halves.{halves-sum, low-spelt}
 use Rattle.riscv.proofs.Laws.Ranges.{branch-reads-back, jal-reads-back, rvc-branch-reads-back, rvc-jump-reads-back}
-use Rattle.relocate.specs.Effects.{stacks}
+use Rattle.rela.specs.Effects.{stacks}
 use Rattle.relocate.specs.Rules.{reachesWell}
-use Rattle.relocate.specs.Facts.{isDataField}
-use Rattle.relocate.proofs.Laws.Widths.{never}
-use Rattle.relocate.proofs.Laws.Decisions.{holds, decided}
+use Rattle.rela.specs.Facts.{isDataField}
+use Rattle.rela.proofs.Laws.Widths.{never}
+use Rattle.rela.proofs.Laws.Decisions.{holds, decided}
 use Rattle.patch.specs.Patches.{highPart, lowPart, calculated, patched}
 use Rattle.patch.specs.Promises.{Said}
 

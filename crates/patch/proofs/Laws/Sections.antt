@@ -30,16 +30,18 @@ use Rattle.riscv.specs.declared.types.Decision.{Decision}
 use Rattle.riscv.specs.declared.types.Decision.the-variants.{Marker, Align, Store, Refused}
 use Rattle.place.specs.declared.SymbolValue.{SymbolValue}
 use Rattle.place.specs.Values.{symbolValue}
-use Rattle.relocate.specs.declared.sites.Site.{Site}
+use Rattle.rela.specs.declared.sites.Site.{Site}
 use Rattle.relocate.specs.declared.search.RelocationCheck.the-variants.{Passed}
-use Rattle.relocate.specs.Sites.{siteAt, count, entry, effect, offset, A, P, S, T, found}
-use Rattle.relocate.specs.Effects.{takesPair, isStore}
-use Rattle.relocate.specs.Shape.{end}
+use Rattle.rela.specs.Sites.{siteAt, count, entry, effect, offset, A, P, found}
+use Rattle.relocate.specs.Values.{S, T}
+use Rattle.rela.specs.Effects.{takesPair, isStore}
+use Rattle.rela.specs.Shape.{end}
 use Rattle.relocate.specs.Rules.{symbol}
-use Rattle.relocate.specs.Search.{valueAt, relocationCheck}
-use Rattle.relocate.specs.Facts.{SoundSite, Placed}
-use Rattle.relocate.proofs.Laws.Widths.{never}
-use Rattle.relocate.proofs.Laws.Sites.{sound-site, count-is}
+use Rattle.relocate.specs.Search.{relocationCheck}
+use Rattle.relocate.specs.Values.{valueAt}
+use Rattle.rela.specs.Facts.{SoundSite, Placed}
+use Rattle.rela.proofs.Laws.Widths.{never}
+use Rattle.rela.proofs.Laws.Sites.{sound-site, count-is}
 use Rattle.relocate.proofs.Laws.Rules.{place-below}
 use Rattle.relocate.proofs.Laws.Search.{counted, finding-entry, passed-kept}
 use Rattle.patch.specs.Patches.{patched}

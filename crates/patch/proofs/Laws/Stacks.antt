@@ -18,9 +18,9 @@ use Rattle.fields.specs.Fields.{layout, valueBits, bits, dataLayout}
 use Rattle.fields.proofs.Laws.Fields.{reads-back, read-whole, read-six}
 use Rattle.riscv.specs.declared.types.Calculation.{Calculation}
 use Rattle.riscv.specs.declared.types.Calculation.the-variants.{Absolute, PcRelative, Distance, BothHalves, HighPcRelative, HighAbsolute, LowAbsolute, LowOfPair, Add, Sub, Set}
-use Rattle.relocate.specs.Effects.{stacks}
-use Rattle.relocate.specs.Facts.{isDataField}
-use Rattle.relocate.proofs.Laws.Widths.{never}
+use Rattle.rela.specs.Effects.{stacks}
+use Rattle.rela.specs.Facts.{isDataField}
+use Rattle.rela.proofs.Laws.Widths.{never}
 use Rattle.patch.specs.Patches.{calculated, patched}
 use Rattle.patch.specs.Promises.{stackStep}
 

@@ -3,11 +3,12 @@ use mathlib.Core.Path.{_≡_, sym, ap, _∙_}
 use Prim.Native.Nat.{_+_, _≤_}
 use native.Mathlib.Omega.{arith}
 use Rattle.riscv.specs.Types.{decision}
-use Rattle.relocate.specs.Sites.{entry, offset, effect}
-use Rattle.relocate.specs.Effects.{isStore, touched, needsPair}
-use Rattle.relocate.proofs.Laws.Decisions.{store-width, store-data}
-use Rattle.relocate.proofs.Laws.Sites.{found-length, store-inside}
-use Rattle.relocate.proofs.Laws.Rules.{shape-inside, resolved-there, pair-symbol}
+use Rattle.rela.specs.Sites.{entry, offset, effect}
+use Rattle.rela.specs.Effects.{isStore, touched, needsPair}
+use Rattle.rela.proofs.Laws.Decisions.{store-width, store-data}
+use Rattle.rela.proofs.Laws.Sites.{found-length, store-inside}
+use Rattle.rela.proofs.Laws.Shape.{shape-inside}
+use Rattle.relocate.proofs.Laws.Rules.{resolved-there, pair-symbol}
 use Rattle.relocate.proofs.Laws.Search.{kept-rules}
 use Rattle.patch.proofs.Laws.Sections.{applied-read, applied-marker, place-read}
 use borrow.Author.Needs.{needs}

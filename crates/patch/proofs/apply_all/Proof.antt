@@ -4,7 +4,7 @@ use Prim.Native.Nat.{_-_, _/_, _≤_}
 use native.Mathlib.Numerals.{add-one}
 use native.Mathlib.Omega.{arith}
 use lib.ListN.{length}
-use Rattle.relocate.proofs.Laws.Sites.{found-length}
+use Rattle.rela.proofs.Laws.Sites.{found-length}
 use Rattle.patch.specs.Sections.{applied, after}
 use borrow.Author.Needs.{needs}
 use Rattle.patch.proofs.apply_all.Statement.{statement}

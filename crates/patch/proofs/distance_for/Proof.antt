@@ -1,8 +1,8 @@
 -- `patch::distance_for` meets its contract. Assumes nothing.
 use mathlib.Core.Path.{_≡_, sym, _∙_}
 use mathlib.Core.Bool.{true}
-use Rattle.relocate.specs.Effects.{takesPair}
-use Rattle.relocate.proofs.Laws.Widths.{never}
+use Rattle.rela.specs.Effects.{takesPair}
+use Rattle.rela.proofs.Laws.Widths.{never}
 use borrow.Author.Needs.{needs}
 use Rattle.patch.proofs.distance_for.Statement.{statement}
 use Rattle.patch.proofs.distance_for.Tie as tie

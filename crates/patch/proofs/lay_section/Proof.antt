@@ -9,7 +9,7 @@ use Rattle.elf.specs.Headers.{sectionCount}
 use Rattle.elf.specs.Sections.{sectionAt, countingRela}
 use Rattle.elf.specs.Entries.{bytesOf}
 use Rattle.elf.proofs.Laws.Bounds.{loaded-inside}
-use Rattle.relocate.specs.Sites.{siteAt, count, found}
+use Rattle.rela.specs.Sites.{siteAt, count, found}
 use Rattle.patch.specs.Sections.{after, relaOf}
 use Rattle.patch.specs.Facts.{Checked}
 use Rattle.patch.proofs.Laws.Sections.{checked, rela-found, found-target, relocated-some, relocated-none}

@@ -4,7 +4,7 @@ use Prim.Native.Nat.{_<_}
 use native.Mathlib.Omega.{arith}
 use Rattle.elf.specs.Entries.{symbolCount}
 use Rattle.elf.proofs.Laws.Bounds.{symbol-inside}
-use Rattle.relocate.specs.Sites.{entry}
+use Rattle.rela.specs.Sites.{entry}
 use Rattle.relocate.specs.Pairs.{pairOf}
 use Rattle.relocate.proofs.Laws.Pairs.{pair-there}
 use Rattle.patch.specs.Sections.{distanceOf}

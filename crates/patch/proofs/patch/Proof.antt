@@ -8,7 +8,7 @@ use Rattle.fields.specs.Layouts.{put}
 use Rattle.fields.specs.Fields.{layout}
 use Rattle.riscv.specs.declared.types.Calculation.the-variants.{Add, Sub, Set}
 use Rattle.riscv.specs.Data.{added, subtracted, replaced}
-use Rattle.relocate.specs.Facts.{onData}
+use Rattle.rela.specs.Facts.{onData}
 use Rattle.patch.specs.Patches.{highPart, lowPart, patched}
 use borrow.Author.Needs.{needs}
 use Rattle.patch.proofs.patch.Statement.{statement}

@@ -12,9 +12,9 @@ use Rattle.word.specs.First.{first}
 use Rattle.word.specs.Sums.{sum}
 use Rattle.word.proofs.Laws.First.{first-is, first-at, first-below}
 use Rattle.word.proofs.Laws.Sums.{sum-mono}
-use Rattle.relocate.specs.declared.sites.Site.{Site}
+use Rattle.rela.specs.declared.sites.Site.{Site}
 use Rattle.relocate.specs.declared.pairs.Pair.the-variants.{At, NotOne}
-use Rattle.relocate.specs.Sites.{count}
+use Rattle.rela.specs.Sites.{count}
 use Rattle.relocate.specs.Pairs.{isPair, howMany, pairOf}
 
 -- ---- at how many numbers a test holds

@@ -2,16 +2,15 @@
 use mathlib.Core.Path.{_≡_, refl, sym, ap, _∙_}
 use mathlib.Core.Bool.{Bool, true, false, not, cond, _&&_, _||_}
 use mathlib.Core.List.{List}
-use Prim.Native.Nat.{ℕ, suc, _+_, _%_, _^_, _≤_, _<_}
+use Prim.Native.Nat.{ℕ, _+_, _*_, _%_, _^_, _≤_, _<_}
 use native.Mathlib.Nat.{mod-eq-of-lt}
 use native.Mathlib.Omega.{arith}
-use native.Mathlib.Decide.{decLt}
-use lib.Dec.{leb, ltb, eqb}
-use lib.IntN.{pos}
-use borrow.Author.Tests.{ne-eqb, ltb-true, leb-true, lt-leb}
+use lib.Dec.{ltb, eqb}
+use borrow.Author.Tests.{ne-eqb, ltb-true}
 use Rattle.word.specs.Bytes.{leAt}
 use Rattle.word.specs.Whole.{signed, plus}
-use Rattle.word.proofs.Laws.Tests.{and-left, and-right}
+use Rattle.word.specs.Powers.{ceilPower}
+use Rattle.word.proofs.Laws.Tests.{and-left}
 use Rattle.elf.specs.declared.Relocation.{Relocation}
 use Rattle.elf.specs.Entries.{symbolCount}
 use Rattle.place.specs.declared.SymbolValue.{SymbolValue}
@@ -23,53 +22,16 @@ use Rattle.riscv.specs.declared.types.Calculation.{Calculation}
 use Rattle.riscv.specs.declared.types.Decision.{Decision}
 use Rattle.riscv.specs.declared.types.Decision.the-variants.{Marker, Align, Store, Refused}
 use Rattle.riscv.specs.Types.{decision}
-use Rattle.relocate.specs.declared.sites.Site.{Site}
-use Rattle.relocate.specs.Sites.{entry, offset, effect, A, P, S, T, found}
-use Rattle.relocate.specs.Effects.{isStore, isRefused, touched, needsPair}
-use Rattle.relocate.specs.Shape.{end, neverFalls, staysInside, noOverlap, addendWell, shapeWell}
+use Rattle.rela.specs.declared.sites.Site.{Site}
+use Rattle.rela.specs.Sites.{entry, offset, effect, A, P, found}
+use Rattle.relocate.specs.Values.{S, T}
+use Rattle.rela.specs.Effects.{isStore, touched, needsPair}
+use Rattle.rela.specs.Shape.{end}
 use Rattle.relocate.specs.Rules.{isResolved, inTarget, symbolWell, standsWell, asksWell, formWell, distanceWell, boundaryWell}
-use Rattle.relocate.specs.Facts.{SoundSite, There, InTable, isWidth}
-use Rattle.relocate.proofs.Laws.Decisions.{store-width, width-some}
-use Rattle.relocate.proofs.Laws.Widths.{never}
-use Rattle.relocate.proofs.Laws.Addends.{padding-refused}
-
--- ---- check 9, taken apart
-
-module _ (object : List ℕ) (x : Site) (j : ℕ) (kept : shapeWell object x j ≡ true) where
-  pub shape-known : isRefused (effect object x j) ≡ false
-  unfolding shapeWell
-  shape-known =
-      let known : not (isRefused (effect object x j)) ≡ true = search (and-left, and-right) in
-      borrow.Author.Tests.not-true _ known
-
-  pub shape-rises : neverFalls object x j ≡ true
-  unfolding shapeWell
-  shape-rises = search (and-left, and-right)
-
-  pub shape-inside : end object x j ≤ x .target .size
-  unfolding shapeWell staysInside
-  shape-inside =
-      let inside : leb (end object x j) (x .target .size) ≡ true = search (and-left, and-right) in
-      leb-true _ _ inside
-
-  pub shape-clear : noOverlap object x j ≡ true
-  unfolding shapeWell
-  shape-clear = search (and-left, and-right)
-
-  pub shape-addend : addendWell (effect object x j) (offset object x j) (x .target .size) (A object x j) ≡ true
-  unfolding shapeWell
-  shape-addend = search (and-left, and-right)
-
--- ALIGN's addend is small
-pub padded : (object : List ℕ) (x : Site) (j : ℕ) → shapeWell object x j ≡ true → effect object x j ≡ Align → entry object x j .addend < 2 ^ 64 → entry object x j .addend ≤ 4094
-padded object x j kept e b = go (decLt 4094 (entry object x j .addend))
-  where
-    go : Dec (4094 < entry object x j .addend) → entry object x j .addend ≤ 4094
-    go (no l) = omega arith
-    go (yes l) =
-        let out : addendWell (effect object x j) (offset object x j) (x .target .size) (A object x j) ≡ false =
-        ap (λ d. addendWell d (offset object x j) (x .target .size) (A object x j)) e ∙ padding-refused (offset object x j) (x .target .size) (entry object x j .addend) l b in
-        never (sym out ∙ shape-addend object x j kept)
+use Rattle.rela.specs.Facts.{SoundSite}
+use Rattle.rela.proofs.Laws.Decisions.{store-width, width-some}
+use Rattle.rela.proofs.Laws.Widths.{never}
+use Rattle.rela.proofs.Laws.Addends.{signed-low}
 
 -- ---- check 10
 
@@ -145,3 +107,8 @@ reach-read object x j r d v w t p f inside re de ve te pe = rw (pe, te, de, ve, 
 pub boundary-read : (object : List ℕ) (x : Site) (j : ℕ) (r : Relocation) (d : Decision) → r ≡ entry object x j → d ≡ decision (r .kind)
     → boundaryWell d (x .address .0 + r .offset .0) (signed 64 (r .addend)) ≡ boundaryWell (effect object x j) (P object x j) (A object x j)
 boundary-read object x j r d re de = rw (de, re)
+
+pub boundary-is : (p a : ℕ) → a ≤ 4094 → boundaryWell Align p (signed 64 a) ≡ eqb ((p + a) % ceilPower 32 (a + 2)) 0
+boundary-is p a h =
+    let low : 2 * a < 2 ^ 64 = omega arith in
+    rw (signed-low 64 a low)

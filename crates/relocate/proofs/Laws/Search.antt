@@ -18,15 +18,17 @@ use Rattle.elf.specs.Entries.{relocationCount, locationOf}
 use Rattle.elf.proofs.Laws.Entries.{located}
 use Rattle.place.specs.declared.SymbolValue.{SymbolValue}
 use Rattle.riscv.specs.declared.types.Decision.{Decision}
-use Rattle.relocate.specs.declared.sites.Site.{Site}
+use Rattle.rela.specs.declared.sites.Site.{Site}
 use Rattle.relocate.specs.declared.search.Finding.{Finding}
 use Rattle.relocate.specs.declared.search.Finding.the-variants.{Kept, BadShape, BadSymbol, BadForm, NoPair, OutOfReach, OffBoundary}
 use Rattle.relocate.specs.declared.search.RelocationCheck.the-variants.{Passed, Broken}
-use Rattle.relocate.specs.Sites.{siteAt, effect, A, P, S, T}
-use Rattle.relocate.specs.Shape.{shapeWell}
+use Rattle.rela.specs.Sites.{siteAt, effect, A, P}
+use Rattle.relocate.specs.Values.{S, T}
+use Rattle.rela.specs.Shape.{shapeWell}
 use Rattle.relocate.specs.Rules.{symbolWell, formWell, pairWell, distanceWell, boundaryWell}
-use Rattle.relocate.specs.Search.{valueAt, finding, findingOf, isBroken, relocationCheck}
-use Rattle.relocate.proofs.Laws.Widths.{never}
+use Rattle.relocate.specs.Search.{finding, findingOf, isBroken, relocationCheck}
+use Rattle.relocate.specs.Values.{valueAt}
+use Rattle.rela.proofs.Laws.Widths.{never}
 
 -- ---- the number of an entry
 

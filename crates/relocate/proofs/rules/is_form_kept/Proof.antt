@@ -1,10 +1,10 @@
 -- `relocate::rules::is_form_kept` meets its contract. Assumes nothing.
 use mathlib.Core.Path.{sym, ap, _∙_}
 use Rattle.riscv.specs.Types.{decision}
-use Rattle.relocate.specs.Effects.{touched}
+use Rattle.rela.specs.Effects.{touched}
 use Rattle.relocate.specs.Rules.{formWell}
-use Rattle.relocate.proofs.Laws.Decisions.{store-width}
-use Rattle.relocate.proofs.Laws.Sites.{store-inside}
+use Rattle.rela.proofs.Laws.Decisions.{store-width}
+use Rattle.rela.proofs.Laws.Sites.{store-inside}
 use Rattle.relocate.proofs.Laws.Rules.{form-read}
 use borrow.Author.Needs.{needs}
 use Rattle.relocate.proofs.rules.is_form_kept.Statement.{statement}

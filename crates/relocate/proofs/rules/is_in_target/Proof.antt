@@ -5,7 +5,7 @@ use native.Mathlib.Omega.{arith}
 use borrow.Author.Tests.{lt-ltb}
 use Rattle.elf.specs.Entries.{symbolCount}
 use Rattle.elf.proofs.Laws.Bounds.{symbol-inside}
-use Rattle.relocate.specs.Sites.{entry}
+use Rattle.rela.specs.Sites.{entry}
 use Rattle.relocate.specs.Rules.{inTarget}
 use borrow.Author.Needs.{needs}
 use Rattle.relocate.proofs.rules.is_in_target.Statement.{statement}

@@ -6,7 +6,7 @@ use lib.Pow.{pow-pos}
 use Rattle.word.specs.Whole.{signed}
 use Rattle.word.specs.Powers.{ceilPower, ceilLog}
 use Rattle.relocate.specs.Rules.{boundaryWell}
-use Rattle.relocate.proofs.Laws.Addends.{boundary-is}
+use Rattle.relocate.proofs.Laws.Rules.{boundary-is}
 use borrow.Author.Needs.{needs}
 use Rattle.relocate.proofs.rules.is_on_boundary.Statement.{statement}
 use Rattle.relocate.proofs.rules.is_on_boundary.Tie as tie

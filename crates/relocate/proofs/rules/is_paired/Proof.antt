@@ -6,8 +6,8 @@ use native.Mathlib.Omega.{arith}
 use borrow.Author.Tests.{not-true, not-false}
 use Rattle.elf.specs.Entries.{symbolCount}
 use Rattle.elf.proofs.Laws.Bounds.{symbol-inside}
-use Rattle.relocate.specs.Effects.{needsPair}
-use Rattle.relocate.specs.Sites.{effect}
+use Rattle.rela.specs.Effects.{needsPair}
+use Rattle.rela.specs.Sites.{effect}
 use Rattle.relocate.specs.Rules.{pairWell}
 use borrow.Author.Needs.{needs}
 use Rattle.relocate.proofs.rules.is_paired.Statement.{statement}

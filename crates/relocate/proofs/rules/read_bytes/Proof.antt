@@ -3,7 +3,7 @@ use mathlib.Core.Path.{_≡_, ap, _∙_}
 use Prim.Native.Nat.{ℕ}
 use native.Mathlib.Omega.{arith}
 use Rattle.word.specs.Bytes.{leAt}
-use Rattle.relocate.proofs.Laws.Widths.{last-width}
+use Rattle.rela.proofs.Laws.Widths.{last-width}
 use borrow.Author.Needs.{needs}
 use Rattle.relocate.proofs.rules.read_bytes.Statement.{statement}
 use Rattle.relocate.proofs.rules.read_bytes.Tie as tie

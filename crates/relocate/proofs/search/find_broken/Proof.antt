@@ -6,11 +6,14 @@ use borrow.Author.Tests.{not-true, not-false}
 use Rattle.riscv.specs.declared.types.Decision.the-variants.{Align}
 use Rattle.riscv.specs.Types.{decision}
 use Rattle.place.specs.Values.{symbolValue}
-use Rattle.relocate.specs.Sites.{entry, effect, A, P, S, T}
-use Rattle.relocate.specs.Shape.{shapeWell}
+use Rattle.rela.specs.Sites.{entry, effect, A, P}
+use Rattle.relocate.specs.Values.{S, T}
+use Rattle.rela.specs.Shape.{shapeWell}
 use Rattle.relocate.specs.Rules.{symbolWell, formWell, pairWell, distanceWell, boundaryWell}
-use Rattle.relocate.specs.Search.{valueAt, finding}
-use Rattle.relocate.proofs.Laws.Rules.{shape-inside, padded, resolved-there, pair-symbol, reach-read, boundary-read}
+use Rattle.relocate.specs.Search.{finding}
+use Rattle.relocate.specs.Values.{valueAt}
+use Rattle.rela.proofs.Laws.Shape.{shape-inside, padded}
+use Rattle.relocate.proofs.Laws.Rules.{resolved-there, pair-symbol, reach-read, boundary-read}
 use borrow.Author.Needs.{needs}
 use Rattle.relocate.proofs.search.find_broken.Statement.{statement}
 use Rattle.relocate.proofs.search.find_broken.Tie as tie

@@ -1,0 +1,60 @@
+-- Addends in two's complement. Assumes nothing.
+use mathlib.Core.Path.{_≡_, refl, sym, _∙_}
+use mathlib.Core.Bool.{Bool, true, false, not, _&&_, _||_}
+use Prim.Native.Nat.{ℕ, suc, _+_, _-_, _*_, _%_, _^_, _≤_, _<_}
+use native.Mathlib.Omega.{arith}
+use native.Mathlib.Decide.{decLt}
+use lib.Dec.{leb, eqb}
+use lib.IntN.{ℤ, pos, negsuc, natAbs}
+use borrow.Author.Tests.{lt-ltb, le-ltb, le-leb, lt-leb, ne-eqb}
+use Rattle.word.specs.Whole.{signed, within, even}
+use Rattle.word.proofs.Laws.Whole.{sub-back}
+use Rattle.riscv.specs.declared.types.Decision.{Decision}
+use Rattle.riscv.specs.declared.types.Decision.the-variants.{Marker, Align, Store, Refused}
+use Rattle.rela.specs.Effects.{isStore, needsPair}
+use Rattle.rela.specs.Shape.{addendWell}
+
+-- the lower half of the numbers of w bits are themselves, and the others negative
+pub signed-low : (w a : ℕ) → 2 * a < 2 ^ w → signed w a ≡ pos a
+unfolding signed
+signed-low w a h = rw (lt-ltb (2 * a) (2 ^ w) h)
+
+pub signed-high : (w a : ℕ) → 2 ^ w ≤ 2 * a → a < 2 ^ w → signed w a ≡ negsuc (2 ^ w - suc a)
+unfolding signed
+signed-high w a h b = rw (le-ltb (2 * a) (2 ^ w) h) (sub-back a (2 ^ w) b)
+
+-- ---- ALIGN
+
+pub padding-refused : (at size a : ℕ) → 4094 < a → a < 2 ^ 64 → addendWell Align at size (signed 64 a) ≡ false
+unfolding within
+padding-refused at size a h b = go (decLt (2 * a) (2 ^ 64))
+  where
+    go : Dec (2 * a < 2 ^ 64) → addendWell Align at size (signed 64 a) ≡ false
+    go (yes l) = rw (signed-low 64 a l, lt-leb a 4094 h)
+    go (no l) =
+        let none : leb (suc (2 ^ 64 - suc a)) 0 ≡ false = lt-leb (suc (2 ^ 64 - suc a)) 0 (omega arith) in
+        rw (signed-high 64 a (omega arith) b, none)
+
+pub padding-is : (at size a : ℕ) → a ≤ 4094 → addendWell Align at size (signed 64 a) ≡ (eqb (a % 2) 0 && leb (at + a) size)
+unfolding within even
+padding-is at size a h =
+    let low : 2 * a < 2 ^ 64 = omega arith in
+    rw (signed-low 64 a low, le-leb a 4094 h)
+
+-- ---- PCREL_LO12
+
+pub zero-is : (a : ℕ) → a < 2 ^ 64 → eqb (natAbs (signed 64 a)) 0 ≡ eqb a 0
+zero-is a b = go (decLt (2 * a) (2 ^ 64))
+  where
+    go : Dec (2 * a < 2 ^ 64) → eqb (natAbs (signed 64 a)) 0 ≡ eqb a 0
+    go (yes l) = rw (signed-low 64 a l)
+    go (no l) =
+        let some : a ≡ 0 → ⊥ = λ e. omega arith in
+        let other : eqb (suc (2 ^ 64 - suc a)) 0 ≡ false = ne-eqb (suc (2 ^ 64 - suc a)) 0 (λ e. omega arith) in
+        rw (signed-high 64 a (omega arith) b, ne-eqb a 0 some, other)
+
+pub store-addend : (d : Decision) (at size : ℕ) (a : ℤ) → isStore d ≡ true → addendWell d at size a ≡ (not (needsPair d) || eqb (natAbs a) 0)
+store-addend (Store c f form n) at size a e = refl
+store-addend Marker at size a e = cc
+store-addend Align at size a e = cc
+store-addend Refused at size a e = cc

@@ -1,0 +1,35 @@
+-- `rela::shape::is_clear` meets its contract. Assumes nothing.
+use mathlib.Core.Path.{sym, ap, _∙_}
+use native.Mathlib.Omega.{arith}
+use Rattle.rela.specs.Shape.{clears}
+use Rattle.rela.proofs.Laws.Shape.{previous-below}
+use borrow.Author.Needs.{needs}
+use Rattle.rela.proofs.shape.is_clear.Statement.{statement}
+use Rattle.rela.proofs.shape.is_clear.Tie as tie
+
+enum-told : tie.Need-enum-told
+enum-told c = search needs
+
+enum-known-previous : tie.Need-enum-known-previous
+enum-known-previous c = search needs
+
+is-apart-requires : tie.Need-is-apart-requires
+is-apart-requires c κs =
+    let a = c .before .before .before .before .args in
+    let f = c .before .before .before .before .pre in
+    let earlier = previous-below (a .object .now) (a .site) (a .j) _ (sym (f .1) ∙ c .before .previous .given .1) in
+    (record { site = f .0 .site; there = omega (arith, f .0 .there, earlier) }, f .0)
+
+returns : tie.Need-returns
+returns c =
+    let a = c .before .before .before .args in
+    sym (ap (clears (a .object .now) (a .site) (a .j)) (c .enum-told .given .1))
+
+returns-2 : tie.Need-returns-2
+returns-2 c =
+    let a = c .before .before .before .before .before .args in
+    c .is-apart .ensures ∙ sym (ap (clears (a .object .now) (a .site) (a .j)) (c .before .before .previous .given .1))
+
+pub is-clear-spec : {M : Type 1} → statement M
+is-clear-spec =
+    tie.close (tie.spec enum-told enum-known-previous is-apart-requires returns returns-2)

@@ -1,0 +1,23 @@
+-- `rela::shape::is_padding` meets its contract. Assumes nothing.
+use mathlib.Core.Path.{sym}
+use native.Mathlib.Omega.{arith}
+use Rattle.rela.proofs.Laws.Addends.{padding-refused, padding-is}
+use borrow.Author.Needs.{needs}
+use Rattle.rela.proofs.shape.is_padding.Statement.{statement}
+use Rattle.rela.proofs.shape.is_padding.Tie as tie
+
+returns : tie.Need-returns
+returns c =
+    let a = c .before .args in
+    sym (padding-refused (a .at) (a .size) (a .addend) (c .if1 .taken) (omega arith))
+
+add-result : tie.Need-add-result
+add-result c = search needs
+
+returns-2 : tie.Need-returns-2
+returns-2 c =
+    let a = c .before .args in
+    sym (padding-is (a .at) (a .size) (a .addend) (c .if1 .left))
+
+pub is-padding-spec : {M : Type 1} → statement M
+is-padding-spec = tie.close (tie.spec returns add-result returns-2)

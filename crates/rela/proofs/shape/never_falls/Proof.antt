@@ -1,0 +1,40 @@
+-- `rela::shape::never_falls` meets its contract. Assumes nothing.
+use mathlib.Core.Path.{_≡_, refl, sym}
+use mathlib.Core.Bool.{Bool}
+use Prim.Native.Nat.{ℕ, suc, _-_}
+use native.Mathlib.Omega.{arith}
+use lib.Dec.{leb}
+use Rattle.rela.specs.Sites.{offset}
+use Rattle.rela.specs.Shape.{neverFalls}
+use Rattle.rela.proofs.Laws.Shape.{never-falls-after}
+use borrow.Author.Needs.{needs}
+use Rattle.rela.proofs.shape.never_falls.Statement.{statement}
+use Rattle.rela.proofs.shape.never_falls.Tie as tie
+
+returns : tie.Need-returns
+unfolding neverFalls
+returns c = rw (c .if1 .taken)
+
+sub-read-relocation : tie.Need-sub-read-relocation
+sub-read-relocation c = search needs
+
+read-relocation-requires : tie.Need-read-relocation-requires
+read-relocation-requires c κs = search needs
+
+read-relocation-requires-2 : tie.Need-read-relocation-requires-2
+read-relocation-requires-2 c κs = search needs
+
+returns-2 : tie.Need-returns-2
+returns-2 c =
+    let a = c .before .before .before .before .before .before .args in
+    rw (c .before .before .read-relocation2 .ensures, c .before .before .before .read-relocation .ensures) (sym (never-falls-after (a .object .now) (a .site) (a .j) (c .before .before .before .before .if1 .left)))
+
+pub never-falls-spec : {M : Type 1} → statement M
+never-falls-spec =
+    tie.close
+    (tie.spec
+    returns
+    sub-read-relocation
+    read-relocation-requires
+    read-relocation-requires-2
+    returns-2)

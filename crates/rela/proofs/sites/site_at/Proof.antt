@@ -1,0 +1,52 @@
+-- `rela::sites::site_at` meets its contract. Assumes nothing.
+use mathlib.Core.Path.{_≡_}
+use Prim.Native.Nat.{_<_}
+use native.Mathlib.Omega.{arith}
+use Rattle.elf.specs.Headers.{sectionCount}
+use Rattle.elf.specs.Sections.{sectionAt}
+use Rattle.rela.specs.Sites.{siteAt}
+use borrow.Author.Needs.{needs}
+use Rattle.rela.proofs.sites.site_at.Statement.{statement}
+use Rattle.rela.proofs.sites.site_at.Tie as tie
+
+read-section-requires : tie.Need-read-section-requires
+read-section-requires c κs = search needs
+
+cast-index : tie.Need-cast-index
+cast-index c = search needs
+
+read-section-requires-2 : tie.Need-read-section-requires-2
+read-section-requires-2 c κs =
+    let a = c .before .before .before .args in
+    let f = c .before .before .before .pre in
+    let s = a .object .now in
+    let there : sectionAt s (a .i) .info < sectionCount s = f .0 .sections (a .i) (f .1) .rela (f .2) .target-there in
+    let info : c .before .read-section .result .info < sectionCount s = rw (c .before .read-section .ensures) there in
+    record { header = f .0 .table .header; inside = omega (arith, info, f .0 .table .inside) }
+
+mul-t8 : tie.Need-mul-t8
+mul-t8 c = search needs
+
+array-read-t11 : tie.Need-array-read-t11
+array-read-t11 c =
+    let a = c .before .before .before .before .args in
+    let f = c .before .before .before .before .pre in
+    let s = a .object .now in
+    let there : sectionAt s (a .i) .info < sectionCount s = f .0 .sections (a .i) (f .1) .rela (f .2) .target-there in
+    let info : c .before .before .read-section .result .info < sectionCount s = rw (c .before .before .read-section .ensures) there in
+    omega (arith, info, f .0 .table .few)
+
+returns : tie.Need-returns
+unfolding siteAt
+returns c = rw (c .read-section2 .ensures, c .before .before .read-section .ensures)
+
+pub site-at-spec : {M : Type 1} → statement M
+site-at-spec =
+    tie.close
+    (tie.spec
+    read-section-requires
+    cast-index
+    read-section-requires-2
+    mul-t8
+    array-read-t11
+    returns)

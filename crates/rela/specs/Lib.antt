@@ -1,0 +1,4 @@
+pub mod Sites
+pub mod Effects
+pub mod Shape
+pub mod Facts

@@ -1,0 +1,23 @@
+-- S and T of a relocation ("How a record is read"). Assumes nothing: these are definitions.
+use mathlib.Core.List.{List}
+use Prim.Native.Nat.{ℕ}
+use lib.IntN.{ℤ, pos, _+ℤ_}
+use Rattle.word.specs.Whole.{residue}
+use Rattle.place.specs.declared.SymbolValue.{SymbolValue}
+use Rattle.place.specs.declared.SymbolValue.the-variants.{Resolved, Unresolved}
+use Rattle.place.specs.Values.{symbolValue}
+use Rattle.rela.specs.declared.sites.Site.{Site}
+use Rattle.rela.specs.Sites.{entry}
+
+-- S of relocation j, if its symbol resolves
+abbrev pub valueAt : List ℕ → List ℕ → List ℕ → Site → ℕ → SymbolValue
+valueAt object order addresses x j = symbolValue object order addresses (entry object x j .symbol)
+
+-- S; 0, which means nothing, for a symbol that does not resolve
+abbrev pub S : SymbolValue → ℕ
+S (Resolved v) = v
+S Unresolved = 0
+
+-- "S + A is reduced modulo 2^32, then called T"
+abbrev pub T : ℕ → ℤ → ℕ
+T s a = residue 32 (pos s +ℤ a)
