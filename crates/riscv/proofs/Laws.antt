@@ -3,4 +3,3 @@ pub mod Halves
 pub mod Ranges
 pub mod Data
 pub mod Types
-pub mod Bench
