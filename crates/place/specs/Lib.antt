@@ -2,4 +2,3 @@ pub mod Placements
 pub mod Externals
 pub mod Placing
 pub mod Values
-pub mod Spans

@@ -1,7 +1,7 @@
 // Where sections go, and what symbols are worth.
 ghost use mathlib.Core.Path.{_≡_};
-ghost use mathlib.Core.Bool.{not, cond, _&&_};
-ghost use Prim.Native.Nat.{_+_, _-_, _≤_, _<_, min, max};
+ghost use mathlib.Core.Bool.{not, _&&_};
+ghost use Prim.Native.Nat.{_≤_, _<_};
 ghost use lib.ListN.{length};
 ghost use Rattle.word.specs.First.{first, everywhere};
 ghost use Rattle.elf.specs.Headers.{sectionCount};
@@ -11,8 +11,7 @@ ghost use Rattle.order.specs.Orders.{reading, placement, placementCount, extern
 ghost use Rattle.order.specs.Addresses.{placedAt};
 ghost use Rattle.place.specs.Placements.{isGiven, isAllocated, placementCheck};
 ghost use Rattle.place.specs.Externals.{isUndefined, externalCheck};
-ghost use Rattle.place.specs.Placing.{unit, hasBytes, share, apart, misplaced, placingCheck};
-ghost use Rattle.place.specs.Spans.{highest, lowestByte, spanOf};
+ghost use Rattle.place.specs.Placing.{unit, share, apart, misplaced, placingCheck};
 ghost use Rattle.place.specs.Values.{SymbolsOf, ofUndefined, ofSection, symbolValue};
 use elf::Section;
 use elf::Symbol;
@@ -340,100 +339,4 @@ pub fn symbol_value(
     }
     let value = value_in_section(object, order, counts, addresses, k, symbol);
     Lookup { value, addresses }
-}
-
-// A part of the image: where it starts, and how many bytes it has.
-pub struct Span {
-    pub start: u64,
-    pub size: u64,
-}
-
-// Whether a section has bytes in the image.
-fn has_bytes(h: Section) -> bool
-    ensures { λ r. ⌜ r ≡ hasBytes h ⌝ }
-{
-    elf::is_loaded(h) & (0 < h.size)
-}
-
-fn larger(a: u64, b: u64) -> u64
-    ensures { λ r. ⌜ r ≡ max a b ⌝ }
-{
-    if a <= b { b } else { a }
-}
-
-fn smaller(a: u64, b: u64) -> u64
-    ensures { λ r. ⌜ r ≡ min a b ⌝ }
-{
-    if a <= b { a } else { b }
-}
-
-// a - b, or 0 where b is larger.
-fn less(a: u64, b: u64) -> u64
-    ensures { λ r. ⌜ r ≡ a - b ⌝ }
-{
-    if b <= a { a - b } else { 0 }
-}
-
-// The end of the highest laid byte so far, with a section at an address.
-fn raised(h: Section, address: u32, base: u32, end: u64) -> u64
-    ensures { λ r. ⌜ r ≡ cond (hasBytes h) (max (address + h .size - base) end) end ⌝ }
-{
-    if !has_bytes(h) {
-        return end;
-    }
-    larger(less(wide(address) + wide(h.size), wide(base)), end)
-}
-
-// The lowest laid byte so far, with a section at an address.
-fn lowered(h: Section, address: u32, base: u32, start: u64) -> u64
-    ensures { λ r. ⌜ r ≡ cond (hasBytes h) (min (address - base) start) start ⌝ }
-{
-    if !has_bytes(h) {
-        return start;
-    }
-    smaller(less(wide(address), wide(base)), start)
-}
-
-// The end of the highest laid byte of the first n sections.
-fn highest_end(object: &[u8], addresses: [u32; 32], base: u32, n: usize) -> u64
-    requires { ⌜ SoundObject (now object) × (n ≤ sectionCount (now object)) ⌝ }
-    ensures { λ r. ⌜ r ≡ highest (now (object .entry)) addresses base n ⌝ }
-{
-    let mut end: u64 = 0;
-    let mut i: usize = 0;
-    while i < n {
-        let h = elf::read_section(object, i);
-        end = raised(h, addresses[i], base, end);
-        i += 1;
-    }
-    end
-}
-
-// The lowest laid byte of the first n sections; top with none laid.
-fn lowest_start(object: &[u8], addresses: [u32; 32], base: u32, top: u64, n: usize) -> u64
-    requires { ⌜ SoundObject (now object) × (n ≤ sectionCount (now object)) ⌝ }
-    ensures { λ r. ⌜ r ≡ lowestByte (now (object .entry)) addresses base top n ⌝ }
-{
-    let mut start = top;
-    let mut i: usize = 0;
-    while i < n {
-        let h = elf::read_section(object, i);
-        start = lowered(h, addresses[i], base, start);
-        i += 1;
-    }
-    start
-}
-
-// The span of an install, counted from the image's first byte.
-pub fn span_of(object: &[u8], addresses: [u32; 32], base: u32) -> Span
-    requires { ⌜ SoundObject (now object) ⌝ }
-    ensures { λ r. ⌜ r ≡ spanOf (now (object .entry)) addresses base ⌝ }
-{
-    let n = elf::section_count(object);
-    let end = highest_end(object, addresses, base, n);
-    let start = lowest_start(object, addresses, base, end, n);
-    Span {
-        start,
-        size: less(end, start),
-    }
 }

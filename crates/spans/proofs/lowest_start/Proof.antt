@@ -1,12 +1,12 @@
--- `place::lowest_start` meets its contract. Assumes nothing.
+-- `spans::lowest_start` meets its contract. Assumes nothing.
 use mathlib.Core.Path.{_≡_, refl}
 use Prim.Native.Nat.{_-_, _≤_}
 use native.Mathlib.Numerals.{add-one}
 use native.Mathlib.Omega.{arith}
-use Rattle.place.specs.Spans.{lowestByte}
+use Rattle.spans.specs.Spans.{lowestByte}
 use borrow.Author.Needs.{needs}
-use Rattle.place.proofs.lowest_start.Statement.{statement}
-use Rattle.place.proofs.lowest_start.Tie as tie
+use Rattle.spans.proofs.lowest_start.Statement.{statement}
+use Rattle.spans.proofs.lowest_start.Tie as tie
 
 abbrev Inv-loop : tie.InvT-loop
 Inv-loop object base top n addresses start₀ i₀ start i = (i ≤ n) × (start ≡ lowestByte object addresses base top i)

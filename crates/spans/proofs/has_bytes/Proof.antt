@@ -1,8 +1,8 @@
--- `place::has_bytes` meets its contract. Assumes nothing.
+-- `spans::has_bytes` meets its contract. Assumes nothing.
 use Rattle.place.specs.Placing.{hasBytes}
 use borrow.Author.Needs.{needs}
-use Rattle.place.proofs.has_bytes.Statement.{statement}
-use Rattle.place.proofs.has_bytes.Tie as tie
+use Rattle.spans.proofs.has_bytes.Statement.{statement}
+use Rattle.spans.proofs.has_bytes.Tie as tie
 
 is-loaded-requires : tie.Need-is-loaded-requires
 is-loaded-requires c κs = search needs

@@ -1,13 +1,13 @@
--- `place::highest_end` meets its contract. Assumes nothing.
+-- `spans::highest_end` meets its contract. Assumes nothing.
 use mathlib.Core.Path.{_≡_, refl}
 use Prim.Native.Nat.{_-_, _≤_}
 use native.Mathlib.Numerals.{add-one}
 use native.Mathlib.Omega.{arith}
 use Rattle.place.specs.Placing.{endOf}
-use Rattle.place.specs.Spans.{highest}
+use Rattle.spans.specs.Spans.{highest}
 use borrow.Author.Needs.{needs}
-use Rattle.place.proofs.highest_end.Statement.{statement}
-use Rattle.place.proofs.highest_end.Tie as tie
+use Rattle.spans.proofs.highest_end.Statement.{statement}
+use Rattle.spans.proofs.highest_end.Tie as tie
 
 abbrev Inv-loop : tie.InvT-loop
 Inv-loop object base n addresses end₀ i₀ end i = (i ≤ n) × (end ≡ highest object addresses base i)

@@ -1,11 +1,11 @@
--- `place::lowered` meets its contract. Assumes nothing.
+-- `spans::lowered` meets its contract. Assumes nothing.
 use mathlib.Core.Path.{_≡_, sym, _∙_}
 use mathlib.Core.Bool.{true, false}
 use borrow.Author.Tests.{not-true, not-false}
 use Rattle.place.specs.Placing.{hasBytes}
 use borrow.Author.Needs.{needs}
-use Rattle.place.proofs.lowered.Statement.{statement}
-use Rattle.place.proofs.lowered.Tie as tie
+use Rattle.spans.proofs.lowered.Statement.{statement}
+use Rattle.spans.proofs.lowered.Tie as tie
 
 has-bytes-requires : tie.Need-has-bytes-requires
 has-bytes-requires c κs = search needs
@@ -15,12 +15,6 @@ returns c =
     let none : hasBytes (c .before .before .args .h) ≡ false = sym (c .before .has-bytes .ensures) ∙ not-true _ (c .if1 .taken) in
     rw none
 
-wide-requires : tie.Need-wide-requires
-wide-requires c κs = search needs
-
-wide-requires-2 : tie.Need-wide-requires-2
-wide-requires-2 c κs = search needs
-
 less-requires : tie.Need-less-requires
 less-requires c κs = search needs
 
@@ -29,8 +23,8 @@ smaller-requires c κs = search needs
 
 returns-2 : tie.Need-returns-2
 returns-2 c =
-    let some : hasBytes (c .before .before .before .before .before .before .args .h) ≡ true = sym (c .before .before .before .before .before .has-bytes .ensures) ∙ not-false _ (c .before .before .before .before .if1 .left) in
-    rw (some, c .smaller .ensures, c .before .less .ensures, c .before .before .wide2 .ensures .0, c .before .before .before .wide .ensures .0)
+    let some : hasBytes (c .before .before .before .before .args .h) ≡ true = sym (c .before .before .before .has-bytes .ensures) ∙ not-false _ (c .before .before .if1 .left) in
+    rw (some, c .smaller .ensures, c .before .less .ensures)
 
 pub lowered-spec : {M : Type 1} → statement M
 lowered-spec =
@@ -38,8 +32,6 @@ lowered-spec =
     (tie.spec
     has-bytes-requires
     returns
-    wide-requires
-    wide-requires-2
     less-requires
     smaller-requires
     returns-2)

@@ -1,0 +1,99 @@
+// The span of an install: the part of the image that its loaded sections take.
+ghost use mathlib.Core.Path.{_≡_};
+ghost use mathlib.Core.Bool.{cond};
+ghost use Prim.Native.Nat.{_+_, _-_, _≤_, _<_, min, max};
+ghost use Rattle.elf.specs.Headers.{sectionCount};
+ghost use Rattle.elf.specs.Sound.{SoundObject};
+ghost use Rattle.place.specs.Placing.{hasBytes};
+ghost use Rattle.spans.specs.Spans.{highest, lowestByte, spanOf};
+use elf::Section;
+use journal::Span;
+
+// Whether a section has bytes in the image.
+fn has_bytes(h: Section) -> bool
+    ensures { λ r. ⌜ r ≡ hasBytes h ⌝ }
+{
+    elf::is_loaded(h) & (0 < h.size)
+}
+
+fn larger(a: u64, b: u64) -> u64
+    ensures { λ r. ⌜ r ≡ max a b ⌝ }
+{
+    if a <= b { b } else { a }
+}
+
+fn smaller(a: u64, b: u64) -> u64
+    ensures { λ r. ⌜ r ≡ min a b ⌝ }
+{
+    if a <= b { a } else { b }
+}
+
+// a - b, or 0 where b is larger.
+fn less(a: u64, b: u64) -> u64
+    ensures { λ r. ⌜ r ≡ a - b ⌝ }
+{
+    if b <= a { a - b } else { 0 }
+}
+
+// The end of the highest laid byte so far, with a section at an address.
+fn raised(h: Section, address: u32, base: u32, end: u64) -> u64
+    ensures { λ r. ⌜ r ≡ cond (hasBytes h) (max (address + h .size - base) end) end ⌝ }
+{
+    if !has_bytes(h) {
+        return end;
+    }
+    larger(less(address as u64 + h.size as u64, base as u64), end)
+}
+
+// The lowest laid byte so far, with a section at an address.
+fn lowered(h: Section, address: u32, base: u32, start: u64) -> u64
+    ensures { λ r. ⌜ r ≡ cond (hasBytes h) (min (address - base) start) start ⌝ }
+{
+    if !has_bytes(h) {
+        return start;
+    }
+    smaller(less(address as u64, base as u64), start)
+}
+
+// The end of the highest laid byte of the first n sections.
+fn highest_end(object: &[u8], addresses: [u32; 32], base: u32, n: usize) -> u64
+    requires { ⌜ SoundObject (now object) × (n ≤ sectionCount (now object)) ⌝ }
+    ensures { λ r. ⌜ r ≡ highest (now (object .entry)) addresses base n ⌝ }
+{
+    let mut end: u64 = 0;
+    let mut i: usize = 0;
+    while i < n {
+        let h = elf::read_section(object, i);
+        end = raised(h, addresses[i], base, end);
+        i += 1;
+    }
+    end
+}
+
+// The lowest laid byte of the first n sections; top with none laid.
+fn lowest_start(object: &[u8], addresses: [u32; 32], base: u32, top: u64, n: usize) -> u64
+    requires { ⌜ SoundObject (now object) × (n ≤ sectionCount (now object)) ⌝ }
+    ensures { λ r. ⌜ r ≡ lowestByte (now (object .entry)) addresses base top n ⌝ }
+{
+    let mut start = top;
+    let mut i: usize = 0;
+    while i < n {
+        let h = elf::read_section(object, i);
+        start = lowered(h, addresses[i], base, start);
+        i += 1;
+    }
+    start
+}
+
+// The span of an install, counted from the image's first byte. Where check 8 passes it lies inside the image.
+pub fn span_of(object: &[u8], addresses: [u32; 32], base: u32) -> Span
+    requires { ⌜ SoundObject (now object) × (highest (now object) addresses base (sectionCount (now object)) < 4294967296) ⌝ }
+    ensures { λ r. ⌜ r ≡ spanOf (now (object .entry)) addresses base ⌝ }
+{
+    let n = elf::section_count(object);
+    let end = highest_end(object, addresses, base, n);
+    let lowest = lowest_start(object, addresses, base, end, n);
+    let start = lowest as u32;
+    let size = less(end, lowest) as u32;
+    Span { start, size }
+}
