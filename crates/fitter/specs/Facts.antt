@@ -1,0 +1,40 @@
+-- What inner functions ask of their callers: the checks that have passed. Assumes nothing: these are definitions.
+use mathlib.Core.Path.{_≡_}
+use mathlib.Core.Bool.{true}
+use mathlib.Core.List.{List}
+use Prim.Native.Nat.{ℕ}
+use Rattle.order.specs.declared.Counts.{Counts}
+use Rattle.order.specs.declared.Reading.the-variants.{WellFormed}
+use Rattle.order.specs.Orders.{base, reading}
+use Rattle.order.specs.Windows.{windowAllowed}
+use Rattle.order.specs.Addresses.{addresses}
+use Rattle.elf.specs.declared.ObjectCheck.the-variants.{Passed}
+use Rattle.elf.specs.Rules.{objectCheck}
+use Rattle.place.specs.declared.Fault.the-variants.{Nowhere}
+use Rattle.place.specs.Placements.{placementCheck}
+use Rattle.place.specs.Externals.{externalCheck}
+use Rattle.place.specs.Placing.{placingCheck}
+use Rattle.relocate.specs.declared.search.RelocationCheck.the-variants.{Passed as AllKept}
+use Rattle.relocate.specs.Search.{relocationCheck}
+
+-- checks 2 to 5
+pub record Readable (object order : List ℕ) (counts : Counts) (len : ℕ) : Type 0 where
+  pub reading-is : reading order ≡ WellFormed counts
+  pub window : windowAllowed (base order) len ≡ true
+  pub object-is : objectCheck object ≡ Passed
+
+-- checks 2 to 7
+pub record Named (object order : List ℕ) (counts : Counts) (len : ℕ) : Type 0 where
+  pub readable : Readable object order counts len
+  pub placements : placementCheck object order ≡ Nowhere
+  pub externals : externalCheck object order ≡ Nowhere
+
+-- checks 2 to 8
+pub record Placeable (object order : List ℕ) (counts : Counts) (len : ℕ) : Type 0 where
+  pub named : Named object order counts len
+  pub placing : placingCheck object (addresses order) (base order) len ≡ Nowhere
+
+-- checks 2 to 14
+pub record Fitting (object order : List ℕ) (counts : Counts) (len : ℕ) : Type 0 where
+  pub placeable : Placeable object order counts len
+  pub relocations : relocationCheck object order (addresses order) ≡ AllKept

@@ -1,0 +1,74 @@
+-- Document 01, "When the fitter says no": checks 2 to 14 in their order, and the plan of an install that passes them all. It is a function of
+-- object, order and image length alone. Assumes nothing: these are definitions.
+use Prim.Native.Nat.{ℕ, _-_}
+use mathlib.Core.Bool.{cond}
+use mathlib.Core.List.{List}
+use lib.ListN.{getD}
+use lib.Seq.{sets}
+use Rattle.order.specs.Orders.{base, wellFormed}
+use Rattle.order.specs.Windows.{windowAllowed}
+use Rattle.order.specs.Addresses.{addresses}
+use Rattle.elf.specs.declared.ObjectCheck.{ObjectCheck}
+use Rattle.elf.specs.declared.ObjectCheck.the-variants.{Passed, BadHeader, BadSection}
+use Rattle.elf.specs.Headers.{sectionCount}
+use Rattle.elf.specs.Sections.{sectionAt}
+use Rattle.elf.specs.Rules.{objectCheck}
+use Rattle.journal.specs.Plans.{Piece, Verdict, refused, plan, Judge}
+use Rattle.place.specs.declared.Fault.{Fault}
+use Rattle.place.specs.declared.Fault.the-variants.{Nowhere, At}
+use Rattle.place.specs.Placements.{placementCheck}
+use Rattle.place.specs.Externals.{externalCheck}
+use Rattle.relocate.specs.declared.search.RelocationCheck.{RelocationCheck}
+use Rattle.relocate.specs.declared.search.RelocationCheck.the-variants.{Passed as AllKept, Broken}
+use Rattle.relocate.specs.Search.{number, relocationCheck}
+use Rattle.patch.specs.Sections.{relocated}
+use Rattle.place.specs.Placing.{placingCheck, hasBytes}
+use Rattle.spans.specs.Pieces.{pieces}
+
+-- ---- a check that passes leaves the verdict to those after it; one that is broken gives its number and place
+
+-- 4 "header or file length"; 5 "row table (place 0) or row rule"
+abbrev pub afterObject : ObjectCheck → Verdict → Verdict
+afterObject Passed next = next
+afterObject BadHeader next = refused 4 0
+afterObject (BadSection i) next = refused 5 i
+
+-- 6, 7, 8
+abbrev pub afterFault : ℕ → Fault → Verdict → Verdict
+afterFault n Nowhere next = next
+afterFault n (At place) next = refused n place
+
+-- 9 to 14
+abbrev pub afterRelocations : RelocationCheck → Verdict → Verdict
+afterRelocations AllKept next = next
+afterRelocations (Broken finding k) next = refused (number finding) k
+
+-- ---- the plan: the bytes of each loaded section after its relocations, "each at its address less that order's base"
+
+unfoldable pub planOf : List ℕ → List ℕ → List Piece
+planOf object order = pieces (relocated object order (addresses order)) object (addresses order) (base order) (sectionCount object)
+
+-- an image with section t laid into it
+unfoldable pub withSection : List ℕ → List ℕ → ℕ → List ℕ → List ℕ
+withSection object order t image =
+    cond (hasBytes (sectionAt object t)) (sets image (getD (addresses order) t 0 - base order) (relocated object order (addresses order) t)) image
+
+-- ---- the judgement, document 01's table line by line
+
+unfoldable pub judgement : Judge
+judgement object order len =
+    -- 2 "order bytes malformed"
+    cond (wellFormed order)
+    -- 3 "window rule broken"
+    (cond (windowAllowed (base order) len)
+    (afterObject (objectCheck object)
+    -- 6 "placements differ from allocated rows"
+    (afterFault 6 (placementCheck object order)
+    -- 7 "outside value for a wrong symbol"
+    (afterFault 7 (externalCheck object order)
+    -- 8 "placing"
+    (afterFault 8 (placingCheck object (addresses order) (base order) len)
+    (afterRelocations (relocationCheck object order (addresses order))
+    (plan (planOf object order)))))))
+    (refused 3 0))
+    (refused 2 0)

@@ -1,0 +1,261 @@
+// The fitter: install and rollback over lent bytes of object, order, image and journal.
+ghost use mathlib.Core.Path.{_≡_};
+ghost use Prim.Native.Nat.{_+_, _≤_, _<_};
+ghost use lib.ListN.{length};
+ghost use mathlib.Core.Bool.{true};
+ghost use lib.Dec.{eqb};
+ghost use lib.Seq.{sets};
+ghost use Rattle.order.specs.Orders.{reading};
+ghost use Rattle.order.specs.Addresses.{addresses as «the-addresses»};
+ghost use Rattle.elf.specs.Headers.{sectionCount};
+ghost use Rattle.elf.specs.Sections.{sectionAt, loaded};
+ghost use Rattle.journal.specs.Journals.{sound};
+ghost use Rattle.journal.specs.Plans.{overwritten};
+ghost use Rattle.journal.specs.Calls.{install as «the-install», rollback as «the-rollback»};
+ghost use Rattle.place.specs.Placements.{placementCheck};
+ghost use Rattle.relocate.specs.Search.{number, isBroken};
+ghost use Rattle.patch.specs.Sections.{relocated};
+ghost use Rattle.fitter.specs.Judgement.{planOf, judgement, withSection};
+ghost use Rattle.fitter.specs.Answers.{answerOf, verdictOf};
+ghost use Rattle.fitter.specs.Facts.{Readable, Named, Placeable, Fitting};
+use elf::ObjectCheck;
+use journal::RolledBack;
+use order::Counts;
+use order::Reading;
+use place::Fault;
+use relocate::search::Finding;
+use relocate::search::RelocationCheck;
+use relocate::search::check_relocations;
+
+// What a call answers. A number is a section's, a symbol's, or a relocation's counted from 0 over all.
+pub enum Answer {
+    Done,
+    JournalUnsound,
+    OrderMalformed,
+    WindowBroken,
+    BadHeader,
+    BadSection(u32),
+    PlacementsDiffer(u32),
+    WrongExternal(u32),
+    Misplaced(u32),
+    RelocationShape(u32),
+    SymbolUnresolved(u32),
+    WrongInstruction(u32),
+    NotOnePair(u32),
+    OutOfReach(u32),
+    PaddingOffBoundary(u32),
+    JournalFull,
+    NothingStands,
+}
+
+// The answer for a relocation that breaks a rule.
+fn refusal(finding: Finding, k: u32) -> Answer
+    requires { ⌜ isBroken finding ≡ true ⌝ }
+    ensures { λ r. ⌜ answerOf r ≡ record { number = number finding; place = k } ⌝ }
+{
+    match finding {
+        Finding::Kept => Answer::Done,
+        Finding::BadShape => Answer::RelocationShape(k),
+        Finding::BadSymbol => Answer::SymbolUnresolved(k),
+        Finding::BadForm => Answer::WrongInstruction(k),
+        Finding::NoPair => Answer::NotOnePair(k),
+        Finding::OutOfReach => Answer::OutOfReach(k),
+        Finding::OffBoundary => Answer::PaddingOffBoundary(k),
+    }
+}
+
+// Checks 9 to 14.
+fn judge_relocations(object: &[u8], order: &[u8], counts: Counts, len: usize) -> Answer
+    requires { ⌜ Placeable (now object) (now order) counts len ⌝ }
+    ensures { λ r. ⌜ verdictOf (now (object .entry)) (now (order .entry)) r ≡ judgement (now (object .entry)) (now (order .entry)) len ⌝ }
+{
+    let addresses = order::address_array(order, counts);
+    match check_relocations(object, order, counts, addresses) {
+        RelocationCheck::Passed => Answer::Done,
+        RelocationCheck::Broken(finding, k) => refusal(finding, k),
+    }
+}
+
+// Check 8, and those after it.
+fn judge_placing(object: &[u8], order: &[u8], counts: Counts, len: usize) -> Answer
+    requires { ⌜ Named (now object) (now order) counts len ⌝ }
+    ensures { λ r. ⌜ verdictOf (now (object .entry)) (now (order .entry)) r ≡ judgement (now (object .entry)) (now (order .entry)) len ⌝ }
+{
+    let addresses = order::address_array(order, counts);
+    let placing = place::check_placing(object, addresses, counts.base, len);
+    let fault = placing.fault;
+    match fault {
+        Fault::Nowhere => judge_relocations(object, order, counts, len),
+        Fault::At(i) => Answer::Misplaced(i),
+    }
+}
+
+// Check 7, and those after it.
+fn judge_externals(object: &[u8], order: &[u8], counts: Counts, len: usize) -> Answer
+    requires { ⌜ Readable (now object) (now order) counts len × (placementCheck (now object) (now order) ≡ Fault.Nowhere) ⌝ }
+    ensures { λ r. ⌜ verdictOf (now (object .entry)) (now (order .entry)) r ≡ judgement (now (object .entry)) (now (order .entry)) len ⌝ }
+{
+    match place::check_externals(object, order, counts) {
+        Fault::Nowhere => judge_placing(object, order, counts, len),
+        Fault::At(k) => Answer::WrongExternal(k),
+    }
+}
+
+// Check 6, and those after it.
+fn judge_placements(object: &[u8], order: &[u8], counts: Counts, len: usize) -> Answer
+    requires { ⌜ Readable (now object) (now order) counts len ⌝ }
+    ensures { λ r. ⌜ verdictOf (now (object .entry)) (now (order .entry)) r ≡ judgement (now (object .entry)) (now (order .entry)) len ⌝ }
+{
+    match place::check_placements(object, order, counts) {
+        Fault::Nowhere => judge_externals(object, order, counts, len),
+        Fault::At(i) => Answer::PlacementsDiffer(i),
+    }
+}
+
+// Checks 3 to 5, and those after them.
+fn judge_object(object: &[u8], order: &[u8], counts: Counts, len: usize) -> Answer
+    requires { ⌜ reading (now order) ≡ Reading.WellFormed counts ⌝ }
+    ensures { λ r. ⌜ verdictOf (now (object .entry)) (now (order .entry)) r ≡ judgement (now (object .entry)) (now (order .entry)) len ⌝ }
+{
+    if !order::window_allowed(counts.base, len) {
+        return Answer::WindowBroken;
+    }
+    match elf::check_object(object) {
+        ObjectCheck::Passed => judge_placements(object, order, counts, len),
+        ObjectCheck::BadHeader => Answer::BadHeader,
+        ObjectCheck::BadSection(i) => Answer::BadSection(i),
+    }
+}
+
+// Checks 2 to 14, for an image of the length.
+pub fn judge(object: &[u8], order: &[u8], len: usize) -> Answer
+    ensures { λ r. ⌜ verdictOf (now (object .entry)) (now (order .entry)) r ≡ judgement (now (object .entry)) (now (order .entry)) len ⌝ }
+{
+    match order::read_order(order) {
+        Reading::Malformed => Answer::OrderMalformed,
+        Reading::WellFormed(counts) => judge_object(object, order, counts, len),
+    }
+}
+
+// Lays section t into the image from `at` on.
+fn lay_at(
+    object: &[u8],
+    order: &[u8],
+    counts: Counts,
+    addresses: [u32; 32],
+    t: usize,
+    at: usize,
+    image: &mut [u8],
+)
+    requires { ⌜ Fitting (now object) (now order) counts (length (now image)) × (addresses ≡ «the-addresses» (now order)) × (t < sectionCount (now object)) × (loaded (sectionAt (now object) t) ≡ true) × (at + sectionAt (now object) t .size ≤ length (now image)) ⌝ }
+    ensures { λ _. ⌜ now (image .exit) ≡ sets (now (image .entry)) at (relocated (now (object .entry)) (now (order .entry)) («the-addresses» (now (order .entry))) t) ⌝ }
+{
+    let h = elf::read_section(object, t);
+    let end = at + h.size as usize;
+    patch::lay_section(object, order, counts, addresses, t, &mut image[at..end]);
+}
+
+// Lays section t into the image, if it has bytes there.
+fn lay_one(
+    object: &[u8],
+    order: &[u8],
+    counts: Counts,
+    addresses: [u32; 32],
+    t: usize,
+    image: &mut [u8],
+)
+    requires { ⌜ Fitting (now object) (now order) counts (length (now image)) × (addresses ≡ «the-addresses» (now order)) × (t < sectionCount (now object)) ⌝ }
+    ensures { λ _. ⌜ now (image .exit) ≡ withSection (now (object .entry)) (now (order .entry)) t (now (image .entry)) ⌝ }
+{
+    let h = elf::read_section(object, t);
+    if !elf::is_loaded(h) | (h.size == 0) {
+        return;
+    }
+    let at = addresses[t] - counts.base;
+    lay_at(object, order, counts, addresses, t, at as usize, image);
+}
+
+// Lays the loaded sections into the image, each after its relocations.
+fn lay(object: &[u8], order: &[u8], counts: Counts, image: &mut [u8])
+    requires { ⌜ Fitting (now object) (now order) counts (length (now image)) ⌝ }
+    ensures { λ _. ⌜ now (image .exit) ≡ overwritten (now (image .entry)) (planOf (now (object .entry)) (now (order .entry))) ⌝ }
+{
+    let addresses = order::address_array(order, counts);
+    let n = elf::section_count(object);
+    let mut t: usize = 0;
+    while t < n {
+        lay_one(object, order, counts, addresses, t, image);
+        t += 1;
+    }
+}
+
+// Check 15, and then the writing: the span's old bytes are recorded, and the sections laid.
+fn fit(object: &[u8], order: &[u8], counts: Counts, image: &mut [u8], journal: &mut [u8]) -> Answer
+    requires { ⌜ Fitting (now object) (now order) counts (length (now image)) × (sound (now journal) (length (now image)) ≡ true) ⌝ }
+    ensures { λ r. ⌜ record { answer = answerOf r; after = record { image = now (image .exit); journal = now (journal .exit) } }
+        ≡ «the-install» judgement (now (object .entry)) (now (order .entry)) (record { image = now (image .entry); journal = now (journal .entry) }) ⌝ }
+{
+    let addresses = order::address_array(order, counts);
+    let span = spans::span_of(object, addresses, counts.base);
+    if !journal::has_room(journal, span.size) {
+        return Answer::JournalFull;
+    }
+    journal::save(image, journal, span);
+    lay(object, order, counts, image);
+    Answer::Done
+}
+
+fn is_done(answer: Answer) -> bool
+    ensures { λ r. ⌜ r ≡ eqb (answerOf answer .number) 0 ⌝ }
+{
+    match answer {
+        Answer::Done => true,
+        Answer::JournalUnsound => false,
+        Answer::OrderMalformed => false,
+        Answer::WindowBroken => false,
+        Answer::BadHeader => false,
+        Answer::BadSection(_) => false,
+        Answer::PlacementsDiffer(_) => false,
+        Answer::WrongExternal(_) => false,
+        Answer::Misplaced(_) => false,
+        Answer::RelocationShape(_) => false,
+        Answer::SymbolUnresolved(_) => false,
+        Answer::WrongInstruction(_) => false,
+        Answer::NotOnePair(_) => false,
+        Answer::OutOfReach(_) => false,
+        Answer::PaddingOffBoundary(_) => false,
+        Answer::JournalFull => false,
+        Answer::NothingStands => false,
+    }
+}
+
+// Installs an object by an order (document 01: a fit). Nothing is written before the last check has passed.
+pub fn install(object: &[u8], order: &[u8], image: &mut [u8], journal: &mut [u8]) -> Answer
+    ensures { λ r. ⌜ record { answer = answerOf r; after = record { image = now (image .exit); journal = now (journal .exit) } }
+        ≡ «the-install» judgement (now (object .entry)) (now (order .entry)) (record { image = now (image .entry); journal = now (journal .entry) }) ⌝ }
+{
+    if !journal::is_sound(journal, image.len()) {
+        return Answer::JournalUnsound;
+    }
+    let answer = judge(object, order, image.len());
+    if !is_done(answer) {
+        return answer;
+    }
+    match order::read_order(order) {
+        Reading::Malformed => answer,
+        Reading::WellFormed(counts) => fit(object, order, counts, image, journal),
+    }
+}
+
+// Undoes the newest standing install (document 01: a taking-back).
+pub fn rollback(image: &mut [u8], journal: &mut [u8]) -> Answer
+    ensures { λ r. ⌜ record { answer = answerOf r; after = record { image = now (image .exit); journal = now (journal .exit) } }
+        ≡ «the-rollback» (record { image = now (image .entry); journal = now (journal .entry) }) ⌝ }
+{
+    match journal::rollback(image, journal) {
+        RolledBack::Done => Answer::Done,
+        RolledBack::JournalUnsound => Answer::JournalUnsound,
+        RolledBack::ImageTooLong => Answer::WindowBroken,
+        RolledBack::NothingStands => Answer::NothingStands,
+    }
+}
