@@ -1,5 +1,5 @@
 -- Document 01's number and place for each answer. Assumes nothing: these are definitions.
-use Prim.Native.Nat.{ℕ}
+use Prim.Native.Nat.{ℕ, _+_, _*_}
 use mathlib.Core.Bool.{cond}
 use mathlib.Core.List.{List}
 use lib.Dec.{eqb}
@@ -34,3 +34,7 @@ answerOf NothingStands = says 16 0
 -- the verdict that an answer stands for: a plan where all is well, else the refusal with its number and place
 abbrev pub verdictOf : List ℕ → List ℕ → Answer → Verdict
 verdictOf object order a = cond (eqb (answerOf a .number) 0) (plan (planOf object order)) (refused (answerOf a .number) (answerOf a .place))
+
+-- an answer as one number, for callers in other languages: the number in the low eight bits, the place in the upper 32
+abbrev pub packed : Numbered → ℕ
+packed a = a .number + 4294967296 * a .place

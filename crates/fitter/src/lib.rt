@@ -16,7 +16,7 @@ ghost use Rattle.place.specs.Placements.{placementCheck};
 ghost use Rattle.relocate.specs.Search.{number, isBroken};
 ghost use Rattle.patch.specs.Sections.{relocated};
 ghost use Rattle.fitter.specs.Judgement.{planOf, judgement, withSection};
-ghost use Rattle.fitter.specs.Answers.{answerOf, verdictOf};
+ghost use Rattle.fitter.specs.Answers.{answerOf, verdictOf, packed};
 ghost use Rattle.fitter.specs.Facts.{Readable, Named, Placeable, Fitting};
 use elf::ObjectCheck;
 use journal::RolledBack;
@@ -258,4 +258,61 @@ pub fn rollback(image: &mut [u8], journal: &mut [u8]) -> Answer
         RolledBack::ImageTooLong => Answer::WindowBroken,
         RolledBack::NothingStands => Answer::NothingStands,
     }
+}
+
+// A number and a place as one number: the number in the low eight bits, the place in the upper 32.
+fn pack(number: u8, place: u32) -> u64
+    ensures { λ r. ⌜ r ≡ packed (record { number = number; place = place }) ⌝ }
+{
+    number as u64 + 4294967296 * place as u64
+}
+
+// Document 01's number and place of an answer, as one number.
+pub fn code_of(answer: Answer) -> u64
+    ensures { λ r. ⌜ r ≡ packed (answerOf answer) ⌝ }
+{
+    match answer {
+        Answer::Done => pack(0, 0),
+        Answer::JournalUnsound => pack(1, 0),
+        Answer::OrderMalformed => pack(2, 0),
+        Answer::WindowBroken => pack(3, 0),
+        Answer::BadHeader => pack(4, 0),
+        Answer::BadSection(section) => pack(5, section),
+        Answer::PlacementsDiffer(section) => pack(6, section),
+        Answer::WrongExternal(symbol) => pack(7, symbol),
+        Answer::Misplaced(section) => pack(8, section),
+        Answer::RelocationShape(relocation) => pack(9, relocation),
+        Answer::SymbolUnresolved(relocation) => pack(10, relocation),
+        Answer::WrongInstruction(relocation) => pack(11, relocation),
+        Answer::NotOnePair(relocation) => pack(12, relocation),
+        Answer::OutOfReach(relocation) => pack(13, relocation),
+        Answer::PaddingOffBoundary(relocation) => pack(14, relocation),
+        Answer::JournalFull => pack(15, 0),
+        Answer::NothingStands => pack(16, 0),
+    }
+}
+
+// `install` for callers in other languages. The four buffers do not overlap.
+#[no_mangle]
+pub extern "C" fn aktinoph_fit(
+    object: &[u8],
+    order: &[u8],
+    image: &mut [u8],
+    ledger: &mut [u8],
+) -> u64
+    ensures { λ r. ⌜ (r ≡ packed («the-install» judgement (now (object .entry)) (now (order .entry)) (record { image = now (image .entry); journal = now (ledger .entry) }) .answer))
+        × (record { image = now (image .exit); journal = now (ledger .exit) }
+        ≡ «the-install» judgement (now (object .entry)) (now (order .entry)) (record { image = now (image .entry); journal = now (ledger .entry) }) .after) ⌝ }
+{
+    code_of(install(object, order, image, ledger))
+}
+
+// `rollback` for callers in other languages. The two buffers do not overlap.
+#[no_mangle]
+pub extern "C" fn aktinoph_take_back(image: &mut [u8], ledger: &mut [u8]) -> u64
+    ensures { λ r. ⌜ (r ≡ packed («the-rollback» (record { image = now (image .entry); journal = now (ledger .entry) }) .answer))
+        × (record { image = now (image .exit); journal = now (ledger .exit) }
+        ≡ «the-rollback» (record { image = now (image .entry); journal = now (ledger .entry) }) .after) ⌝ }
+{
+    code_of(rollback(image, ledger))
 }
