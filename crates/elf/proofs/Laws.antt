@@ -1,5 +1,2 @@
 -- The laws of the definitions in specs/.
-pub mod Tables
 pub mod Entries
-pub mod Objects
-pub mod Bounds

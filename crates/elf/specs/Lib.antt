@@ -1,5 +1,4 @@
 pub mod Headers
 pub mod Sections
-pub mod Rules
 pub mod Entries
-pub mod Sound
+pub mod Facts

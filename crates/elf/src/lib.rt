@@ -1,14 +1,10 @@
 // An ELF32 object: its header, sections, symbols and relocations. Everything is read out of the caller's bytes.
 ghost use mathlib.Core.Path.{_≡_};
 ghost use Prim.Native.Nat.{_+_, _*_, _^_, _≤_, _<_};
-ghost use mathlib.Core.Bool.{not, _&&_};
-ghost use lib.Dec.{eqb};
-ghost use Rattle.word.specs.First.{everywhere};
 ghost use lib.ListN.{length};
-ghost use Rattle.elf.specs.Headers.{headerAllowed, tableAllowed, sectionTable, sectionCount};
-ghost use Rattle.elf.specs.Sections.{sectionAt, allocated, loaded, symbolTable, targets, countingRel, countingRela, relocationsIn, relocationsBelow};
-ghost use Rattle.elf.specs.Rules.{startsNull, insideFile, allocatedWell, symbolTableWell, noCountingRel, relaKept, relocationsKept, relaWell, relocationsWell, sectionWell, sectionCheck, objectCheck};
-ghost use Rattle.elf.specs.Sound.{HeaderInside, TableInside, Targeted, Inside};
+ghost use Rattle.elf.specs.Headers.{sectionCount};
+ghost use Rattle.elf.specs.Sections.{sectionAt, allocated, loaded, symbolTable, targets, countingRela, relocationsIn, relocationsBelow};
+ghost use Rattle.elf.specs.Facts.{HeaderInside, TableInside, Inside};
 ghost use Rattle.elf.specs.Entries.{bytesOf, symbolAt, symbolCount, relocationAt, locationOf};
 use word::FileOffset;
 use word::SectionOffset;
@@ -23,19 +19,6 @@ pub struct Section {
     pub info: u32,
     pub alignment: u32,
     pub entsize: u32,
-}
-
-// What check 5 finds: nothing, or the first section that breaks a rule, 0 for the table itself.
-pub enum SectionCheck {
-    Sound,
-    Broken(u32),
-}
-
-// What checks 4 and 5 find.
-pub enum ObjectCheck {
-    Passed,
-    BadHeader,
-    BadSection(u32),
 }
 
 // A symbol: its type and binding, and the section that it is defined in.
@@ -60,42 +43,12 @@ pub struct Location {
     pub entry: usize,
 }
 
-// Check 4.
-pub fn check_header(object: &[u8]) -> bool
-    ensures { λ r. ⌜ r ≡ headerAllowed (now (object .entry)) ⌝ }
-{
-    if 65536 < object.len() {
-        return false;
-    }
-    if object.len() < 52 {
-        return false;
-    }
-    (word::read32(object, 0) == 0x464c457f)
-        & (object[4] == 1)
-        & (object[5] == 1)
-        & (object[6] == 1)
-        & (word::read16(object, 16) == 1)
-        & (word::read16(object, 18) == 243)
-        & (word::read32(object, 20) == 1)
-        & (word::read16(object, 40) == 52)
-}
-
 // How many sections an object has.
 pub fn section_count(object: &[u8]) -> usize
     requires { ⌜ 52 ≤ length (now object) ⌝ }
     ensures { λ r. ⌜ r ≡ sectionCount (now (object .entry)) ⌝ }
 {
     word::read16(object, 48) as usize
-}
-
-// Check 5 at place 0: the section header table.
-fn check_table(object: &[u8]) -> bool
-    requires { ⌜ 52 ≤ length (now object) ⌝ }
-    ensures { λ r. ⌜ r ≡ tableAllowed (now (object .entry)) ⌝ }
-{
-    let n = word::read16(object, 48) as usize;
-    let start = word::read32(object, 32) as usize;
-    (word::read16(object, 46) == 40) & (1 <= n) & (n <= 32) & (start + 40 * n <= object.len())
 }
 
 // The header of section i.
@@ -148,7 +101,7 @@ pub fn symbol_table(object: &[u8]) -> usize
 }
 
 // Whether a section's info names an allocated section.
-fn has_target(object: &[u8], h: Section) -> bool
+pub fn has_target(object: &[u8], h: Section) -> bool
     requires { ⌜ TableInside (now object) ⌝ }
     ensures { λ r. ⌜ r ≡ targets (now (object .entry)) h ⌝ }
 {
@@ -192,120 +145,6 @@ pub fn relocations_below(object: &[u8], i: usize) -> usize
         j += 1;
     }
     total
-}
-
-// Whether no counting RELA below section i has the target.
-fn is_first_for(object: &[u8], i: usize, target: u32) -> bool
-    requires { ⌜ TableInside (now object) × (i < sectionCount (now object)) ⌝ }
-    ensures { λ r. ⌜ r ≡ everywhere (λ j. not (countingRela (now (object .entry)) j && eqb (sectionAt (now (object .entry)) j .info) target)) i ⌝ }
-{
-    let mut j: usize = 0;
-    while j < i {
-        let h = read_section(object, j);
-        if is_counting_rela(object, j) & (h.info == target) {
-            return false;
-        }
-        j += 1;
-    }
-    true
-}
-
-// The rules that look at section i alone.
-fn is_plain_well(object: &[u8], i: usize) -> bool
-    requires { ⌜ TableInside (now object) × (i < sectionCount (now object)) ⌝ }
-    ensures { λ r. ⌜ r ≡ (startsNull (now (object .entry)) i && insideFile (now (object .entry)) i && allocatedWell (now (object .entry)) i) ⌝ }
-{
-    let h = read_section(object, i);
-    let kind = h.kind;
-    let end = h.offset.0 as usize + h.size as usize;
-    let align = h.alignment;
-    let starts = (i != 0) | (kind == 0);
-    let inside = (kind == 0) | (kind == 8) | (end <= object.len());
-    let aligned = (align == 0) | word::one_bit(align);
-    let table = (kind == 2) | (kind == 4) | (kind == 9);
-    starts & inside & (!is_allocated(h) | (aligned & !table))
-}
-
-// The rule of the symbol table.
-fn is_symbol_table_well(object: &[u8], i: usize) -> bool
-    requires { ⌜ TableInside (now object) × (i < sectionCount (now object)) ⌝ }
-    ensures { λ r. ⌜ r ≡ symbolTableWell (now (object .entry)) i ⌝ }
-{
-    let h = read_section(object, i);
-    (h.kind != 2)
-        | ((i == symbol_table(object))
-            & (h.entsize == 16)
-            & (h.size % 16 == 0)
-            & (h.size / 16 <= 1024))
-}
-
-// The rules of a counting RELA.
-fn is_rela_kept(object: &[u8], i: usize) -> bool
-    requires { ⌜ Targeted (now object) i ⌝ }
-    ensures { λ r. ⌜ r ≡ (relaKept (now (object .entry)) i && relocationsKept (now (object .entry)) i) ⌝ }
-{
-    let h = read_section(object, i);
-    let table = symbol_table(object);
-    let target = read_section(object, h.info as usize);
-    let sized = (h.entsize == 12) & (h.size % 12 == 0);
-    let linked = (table < section_count(object)) & (h.link as usize == table);
-    sized
-        & linked
-        & is_loaded(target)
-        & is_first_for(object, i, h.info)
-        & (relocations_below(object, i + 1) <= 4096)
-}
-
-// The rules of RELA and REL sections.
-fn is_relocation_well(object: &[u8], i: usize) -> bool
-    requires { ⌜ TableInside (now object) × (i < sectionCount (now object)) ⌝ }
-    ensures { λ r. ⌜ r ≡ (noCountingRel (now (object .entry)) i && relaWell (now (object .entry)) i && relocationsWell (now (object .entry)) i) ⌝ }
-{
-    let h = read_section(object, i);
-    if !has_target(object, h) {
-        return true;
-    }
-    if h.kind == 9 {
-        return false;
-    }
-    if h.kind != 4 {
-        return true;
-    }
-    is_rela_kept(object, i)
-}
-
-// Check 5.
-fn check_sections(object: &[u8]) -> SectionCheck
-    requires { ⌜ 52 ≤ length (now object) ⌝ }
-    ensures { λ r. ⌜ r ≡ sectionCheck (now (object .entry)) ⌝ }
-{
-    if !check_table(object) {
-        return SectionCheck::Broken(0);
-    }
-    let n = section_count(object);
-    let mut i: usize = 0;
-    while i < n {
-        if !(is_plain_well(object, i)
-            & is_symbol_table_well(object, i)
-            & is_relocation_well(object, i)) {
-            return SectionCheck::Broken(i as u32);
-        }
-        i += 1;
-    }
-    SectionCheck::Sound
-}
-
-// Checks 4 and 5.
-pub fn check_object(object: &[u8]) -> ObjectCheck
-    ensures { λ r. ⌜ r ≡ objectCheck (now (object .entry)) ⌝ }
-{
-    if !check_header(object) {
-        return ObjectCheck::BadHeader;
-    }
-    match check_sections(object) {
-        SectionCheck::Sound => ObjectCheck::Passed,
-        SectionCheck::Broken(i) => ObjectCheck::BadSection(i),
-    }
 }
 
 // The bytes of a section, as a part of the object.

@@ -8,8 +8,8 @@ use Rattle.order.specs.declared.Reading.the-variants.{WellFormed}
 use Rattle.order.specs.Orders.{base, reading}
 use Rattle.order.specs.Windows.{windowAllowed}
 use Rattle.order.specs.Addresses.{addresses}
-use Rattle.elf.specs.declared.ObjectCheck.the-variants.{Passed}
-use Rattle.elf.specs.Rules.{objectCheck}
+use Rattle.validate.specs.declared.ObjectCheck.the-variants.{Passed}
+use Rattle.validate.specs.Rules.{objectCheck}
 use Rattle.place.specs.declared.Fault.the-variants.{Nowhere}
 use Rattle.place.specs.Placements.{placementCheck}
 use Rattle.place.specs.Externals.{externalCheck}

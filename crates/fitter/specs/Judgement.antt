@@ -8,11 +8,11 @@ use lib.Seq.{sets}
 use Rattle.order.specs.Orders.{base, wellFormed}
 use Rattle.order.specs.Windows.{windowAllowed}
 use Rattle.order.specs.Addresses.{addresses}
-use Rattle.elf.specs.declared.ObjectCheck.{ObjectCheck}
-use Rattle.elf.specs.declared.ObjectCheck.the-variants.{Passed, BadHeader, BadSection}
+use Rattle.validate.specs.declared.ObjectCheck.{ObjectCheck}
+use Rattle.validate.specs.declared.ObjectCheck.the-variants.{Passed, BadHeader, BadSection}
 use Rattle.elf.specs.Headers.{sectionCount}
 use Rattle.elf.specs.Sections.{sectionAt}
-use Rattle.elf.specs.Rules.{objectCheck}
+use Rattle.validate.specs.Rules.{objectCheck}
 use Rattle.journal.specs.Plans.{Piece, Verdict, refused, plan, Judge}
 use Rattle.place.specs.declared.Fault.{Fault}
 use Rattle.place.specs.declared.Fault.the-variants.{Nowhere, At}

@@ -18,7 +18,6 @@ ghost use Rattle.patch.specs.Sections.{relocated};
 ghost use Rattle.fitter.specs.Judgement.{planOf, judgement, withSection};
 ghost use Rattle.fitter.specs.Answers.{answerOf, verdictOf, packed};
 ghost use Rattle.fitter.specs.Facts.{Readable, Named, Placeable, Fitting};
-use elf::ObjectCheck;
 use journal::RolledBack;
 use order::Counts;
 use order::Reading;
@@ -26,6 +25,7 @@ use place::Fault;
 use relocate::search::Finding;
 use relocate::search::RelocationCheck;
 use relocate::search::check_relocations;
+use validate::ObjectCheck;
 
 // What a call answers. A number is a section's, a symbol's, or a relocation's counted from 0 over all.
 pub enum Answer {
@@ -120,7 +120,7 @@ fn judge_object(object: &[u8], order: &[u8], counts: Counts, len: usize) -> Answ
     if !order::window_allowed(counts.base, len) {
         return Answer::WindowBroken;
     }
-    match elf::check_object(object) {
+    match validate::check_object(object) {
         ObjectCheck::Passed => judge_placements(object, order, counts, len),
         ObjectCheck::BadHeader => Answer::BadHeader,
         ObjectCheck::BadSection(i) => Answer::BadSection(i),

@@ -6,7 +6,7 @@ ghost use lib.ListN.{length};
 ghost use Rattle.word.specs.First.{first, everywhere};
 ghost use Rattle.elf.specs.Headers.{sectionCount};
 ghost use Rattle.elf.specs.Sections.{sectionAt, allocated};
-ghost use Rattle.elf.specs.Sound.{SoundObject};
+ghost use Rattle.validate.specs.Sound.{SoundObject};
 ghost use Rattle.order.specs.Orders.{reading, placement, placementCount, external, externalCount};
 ghost use Rattle.order.specs.Addresses.{placedAt};
 ghost use Rattle.place.specs.Placements.{isGiven, isAllocated, placementCheck};

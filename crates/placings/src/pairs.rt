@@ -1,13 +1,13 @@
 // p: the first of checks 2 to 8 that an object and an order break; where they break none, the addresses and the values of the symbols.
 ghost use mathlib.Core.Path.{_≡_};
 ghost use Prim.Native.Nat.{_≤_};
-ghost use Rattle.elf.specs.Sound.{SoundObject};
+ghost use Rattle.validate.specs.Sound.{SoundObject};
 ghost use Rattle.order.specs.Orders.{reading};
 use super::lines;
-use elf::ObjectCheck;
 use order::Counts;
 use order::Reading;
 use place::Fault;
+use validate::ObjectCheck;
 
 pub fn line(object: &[u8], order: &[u8], len: usize) {
     match order::read_order(order) {
@@ -25,7 +25,7 @@ fn read(object: &[u8], order: &[u8], counts: Counts, len: usize)
         lines::answer(3, 0);
         return;
     }
-    match elf::check_object(object) {
+    match validate::check_object(object) {
         ObjectCheck::BadHeader => lines::answer(4, 0),
         ObjectCheck::BadSection(i) => lines::answer(5, i as u64),
         ObjectCheck::Passed => placements(object, order, counts, len),

@@ -3,14 +3,14 @@
 // What the checks say of offsets and counts is tested here again, so that no proof needs a law about them: such a `return` is never taken.
 ghost use Prim.Native.Nat.{_<_, _≤_};
 ghost use Rattle.elf.specs.Headers.{sectionCount};
-ghost use Rattle.elf.specs.Sound.{TableInside};
+ghost use Rattle.elf.specs.Facts.{TableInside};
 use super::digest;
 use super::lines;
-use elf::ObjectCheck;
 use elf::Section;
+use validate::ObjectCheck;
 
 pub fn line(s: &[u8]) {
-    match elf::check_object(s) {
+    match validate::check_object(s) {
         ObjectCheck::Passed => passed(s),
         ObjectCheck::BadHeader => lines::answer(b'o', 4, 0),
         ObjectCheck::BadSection(i) => lines::answer(b'o', 5, i as u64),

@@ -3,7 +3,7 @@ ghost use mathlib.Core.Path.{_≡_};
 ghost use mathlib.Core.Bool.{true};
 ghost use Prim.Native.Nat.{_+_, _^_, _≤_};
 ghost use Rattle.word.specs.Whole.{signed, plus};
-ghost use Rattle.elf.specs.Sound.{SoundObject};
+ghost use Rattle.validate.specs.Sound.{SoundObject};
 ghost use Rattle.order.specs.Orders.{reading};
 ghost use Rattle.place.specs.Values.{SymbolsOf};
 ghost use Rattle.relocate.specs.Values.{S, T};

@@ -5,19 +5,19 @@ ghost use Prim.Native.Nat.{_≤_, _<_};
 ghost use lib.ListN.{length};
 ghost use Rattle.elf.specs.Headers.{sectionCount};
 ghost use Rattle.elf.specs.Sections.{sectionAt, loaded};
-ghost use Rattle.elf.specs.Sound.{SoundObject};
+ghost use Rattle.validate.specs.Sound.{SoundObject};
 ghost use Rattle.order.specs.Orders.{reading};
 ghost use Rattle.relocate.specs.Search.{relocationCheck};
 ghost use Rattle.relocate.specs.Search.{number as «the-number»};
 ghost use Rattle.rela.specs.Facts.{Placed};
 use super::lines;
-use elf::ObjectCheck;
 use order::Counts;
 use order::Reading;
 use place::Fault;
 use relocate::search::Finding;
 use relocate::search::RelocationCheck;
 use relocate::search::check_relocations;
+use validate::ObjectCheck;
 
 pub fn line(object: &[u8], order: &[u8], len: usize) {
     match order::read_order(order) {
@@ -35,7 +35,7 @@ fn read(object: &[u8], order: &[u8], counts: Counts, len: usize)
         lines::answer(3, 0);
         return;
     }
-    match elf::check_object(object) {
+    match validate::check_object(object) {
         ObjectCheck::BadHeader => lines::answer(4, 0),
         ObjectCheck::BadSection(i) => lines::answer(5, i as u64),
         ObjectCheck::Passed => placements(object, order, counts, len),

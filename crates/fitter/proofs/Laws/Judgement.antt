@@ -14,9 +14,9 @@ use Rattle.order.specs.Orders.{base, wellFormed, reading}
 use Rattle.order.specs.Windows.{windowAllowed}
 use Rattle.order.specs.Addresses.{addresses}
 use Rattle.order.proofs.Laws.Sound.{Sound, countsOf, wellFormed-sound, reading-sound, sound-reading, sound-counts, sound-wellFormed}
-use Rattle.elf.specs.declared.ObjectCheck.{ObjectCheck}
-use Rattle.elf.specs.declared.ObjectCheck.the-variants.{Passed, BadHeader, BadSection}
-use Rattle.elf.specs.Rules.{objectCheck}
+use Rattle.validate.specs.declared.ObjectCheck.{ObjectCheck}
+use Rattle.validate.specs.declared.ObjectCheck.the-variants.{Passed, BadHeader, BadSection}
+use Rattle.validate.specs.Rules.{objectCheck}
 use Rattle.elf.specs.Entries.{relocationCount}
 use Rattle.journal.specs.Plans.{Piece, refused, plan}
 use Rattle.place.specs.declared.Fault.{Fault}

@@ -19,9 +19,9 @@ use Rattle.order.specs.Addresses.{addresses}
 use Rattle.elf.specs.Headers.{sectionCount}
 use Rattle.elf.specs.Sections.{sectionAt, loaded}
 use Rattle.elf.specs.Entries.{bytesOf}
-use Rattle.elf.specs.Sound.{SoundObject}
-use Rattle.elf.proofs.Laws.Bounds.{loaded-inside}
-use Rattle.elf.proofs.Laws.Objects.{sound-object}
+use Rattle.validate.specs.Sound.{SoundObject}
+use Rattle.validate.proofs.Laws.Bounds.{loaded-inside}
+use Rattle.validate.proofs.Laws.Objects.{sound-object}
 use Rattle.journal.specs.Plans.{Piece, piece, plan, Inside, LaysInside, overwritten, spanOf as spanOfPieces}
 use Rattle.place.specs.Placing.{hasBytes}
 use Rattle.place.proofs.Laws.Theorems.{inside-image}

@@ -1,6 +1,6 @@
 -- `fitter::judge_placements` meets its contract. Assumes nothing.
 use mathlib.Core.Path.{_≡_, sym, ap, _∙_}
-use Rattle.elf.proofs.Laws.Objects.{sound-object}
+use Rattle.validate.proofs.Laws.Objects.{sound-object}
 use Rattle.fitter.proofs.Laws.Judgement.{gives-6}
 use borrow.Author.Needs.{needs}
 use Rattle.fitter.proofs.judge_placements.Statement.{statement}

@@ -2,7 +2,7 @@
 use mathlib.Core.Path.{_≡_, sym, ap, _∙_, subst}
 use Rattle.order.specs.Orders.{base}
 use Rattle.order.specs.Addresses.{addresses}
-use Rattle.elf.proofs.Laws.Objects.{sound-object}
+use Rattle.validate.proofs.Laws.Objects.{sound-object}
 use Rattle.rela.specs.Facts.{Placed}
 use Rattle.relocate.specs.Search.{relocationCheck}
 use Rattle.relocate.proofs.Laws.Sites.{placed}

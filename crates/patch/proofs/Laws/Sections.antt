@@ -22,7 +22,7 @@ use Rattle.elf.specs.declared.Relocation.{Relocation}
 use Rattle.elf.specs.Headers.{sectionCount}
 use Rattle.elf.specs.Sections.{sectionAt, symbolTable, countingRela, relocationsIn}
 use Rattle.elf.specs.Entries.{bytesOf, symbolAt}
-use Rattle.elf.specs.Sound.{SoundObject}
+use Rattle.validate.specs.Sound.{SoundObject}
 use Rattle.fields.specs.declared.Field.{Field}
 use Rattle.riscv.specs.declared.forms.Form.{Form}
 use Rattle.riscv.specs.declared.types.Calculation.{Calculation}

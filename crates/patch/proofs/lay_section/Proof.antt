@@ -8,7 +8,7 @@ use Rattle.word.proofs.Laws.Lists.{length-part}
 use Rattle.elf.specs.Headers.{sectionCount}
 use Rattle.elf.specs.Sections.{sectionAt, countingRela}
 use Rattle.elf.specs.Entries.{bytesOf}
-use Rattle.elf.proofs.Laws.Bounds.{loaded-inside}
+use Rattle.validate.proofs.Laws.Bounds.{loaded-inside}
 use Rattle.rela.specs.Sites.{siteAt, count, found}
 use Rattle.patch.specs.Sections.{after, relaOf}
 use Rattle.patch.specs.Facts.{Checked}

@@ -3,7 +3,7 @@ use mathlib.Core.Path.{sym, ap, _∙_}
 use Prim.Native.Nat.{_<_}
 use native.Mathlib.Omega.{arith}
 use Rattle.elf.specs.Entries.{symbolCount}
-use Rattle.elf.proofs.Laws.Bounds.{symbol-inside}
+use Rattle.validate.proofs.Laws.Bounds.{symbol-inside}
 use Rattle.rela.specs.Sites.{entry}
 use Rattle.relocate.specs.Pairs.{pairOf}
 use Rattle.relocate.proofs.Laws.Pairs.{pair-there}

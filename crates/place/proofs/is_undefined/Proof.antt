@@ -5,7 +5,7 @@ use borrow.Author.Tests.{lt-ltb, le-ltb}
 use Rattle.word.proofs.Laws.Tests.{and-true, and-false}
 use Rattle.elf.specs.Sections.{sectionAt, symbolTable}
 use Rattle.elf.specs.Entries.{symbolAt, symbolCount}
-use Rattle.elf.proofs.Laws.Bounds.{some-symbol, symbol-inside}
+use Rattle.validate.proofs.Laws.Bounds.{some-symbol, symbol-inside}
 use native.Mathlib.Omega.{arith}
 use Rattle.place.specs.Externals.{isUndefined}
 use borrow.Author.Needs.{needs}

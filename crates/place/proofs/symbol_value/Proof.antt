@@ -7,7 +7,7 @@ use lib.Dec.{eqb}
 use borrow.Author.Tests.{eq-eqb, ne-eqb, lt-ltb, le-ltb}
 use Rattle.elf.specs.Sections.{sectionAt, symbolTable}
 use Rattle.elf.specs.Entries.{symbolAt, symbolCount}
-use Rattle.elf.proofs.Laws.Bounds.{symbol-inside}
+use Rattle.validate.proofs.Laws.Bounds.{symbol-inside}
 use Rattle.place.specs.Values.{symbolValue}
 use borrow.Author.Needs.{needs}
 use Rattle.place.proofs.symbol_value.Statement.{statement}

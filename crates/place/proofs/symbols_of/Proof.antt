@@ -2,7 +2,7 @@
 use mathlib.Core.Path.{ap, _∙_}
 use native.Mathlib.Omega.{arith}
 use Rattle.elf.specs.Sections.{sectionAt}
-use Rattle.elf.proofs.Laws.Bounds.{some-symbol}
+use Rattle.validate.proofs.Laws.Bounds.{some-symbol}
 use borrow.Author.Needs.{needs}
 use Rattle.place.proofs.symbols_of.Statement.{statement}
 use Rattle.place.proofs.symbols_of.Tie as tie

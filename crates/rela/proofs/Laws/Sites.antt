@@ -13,8 +13,8 @@ use Rattle.word.proofs.Laws.Lists.{length-part}
 use Rattle.elf.specs.Headers.{sectionCount}
 use Rattle.elf.specs.Sections.{RELA, NULL, NOBITS, sectionAt, allocated, loaded, targets, countingRela, relocationsIn}
 use Rattle.elf.specs.Entries.{bytesOf}
-use Rattle.elf.specs.Sound.{SoundObject}
-use Rattle.elf.proofs.Laws.Bounds.{loaded-inside}
+use Rattle.validate.specs.Sound.{SoundObject}
+use Rattle.validate.proofs.Laws.Bounds.{loaded-inside}
 use Rattle.riscv.specs.declared.types.Decision.{Decision}
 use Rattle.riscv.specs.declared.types.Decision.the-variants.{Store}
 use Rattle.riscv.specs.Types.{decision}

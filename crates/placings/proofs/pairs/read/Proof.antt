@@ -3,9 +3,9 @@ use mathlib.Core.Path.{_≡_, sym, _∙_}
 use mathlib.Core.Bool.{true}
 use borrow.Author.Tests.{leb-true, not-false}
 use Rattle.word.proofs.Laws.Tests.{and-left}
-use Rattle.elf.specs.declared.ObjectCheck.the-variants.{Passed}
-use Rattle.elf.specs.Rules.{objectCheck}
-use Rattle.elf.proofs.Laws.Objects.{sound-object}
+use Rattle.validate.specs.declared.ObjectCheck.the-variants.{Passed}
+use Rattle.validate.specs.Rules.{objectCheck}
+use Rattle.validate.proofs.Laws.Objects.{sound-object}
 use Rattle.order.specs.Windows.{lengthAllowed, windowAllowed}
 use borrow.Author.Needs.{needs}
 use Rattle.placings.proofs.pairs.read.Statement.{statement}

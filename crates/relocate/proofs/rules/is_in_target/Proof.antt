@@ -4,7 +4,7 @@ use Prim.Native.Nat.{_<_}
 use native.Mathlib.Omega.{arith}
 use borrow.Author.Tests.{lt-ltb}
 use Rattle.elf.specs.Entries.{symbolCount}
-use Rattle.elf.proofs.Laws.Bounds.{symbol-inside}
+use Rattle.validate.proofs.Laws.Bounds.{symbol-inside}
 use Rattle.rela.specs.Sites.{entry}
 use Rattle.relocate.specs.Rules.{inTarget}
 use borrow.Author.Needs.{needs}

@@ -5,7 +5,7 @@ use Prim.Native.Nat.{_<_}
 use native.Mathlib.Omega.{arith}
 use borrow.Author.Tests.{not-true, not-false}
 use Rattle.elf.specs.Entries.{symbolCount}
-use Rattle.elf.proofs.Laws.Bounds.{symbol-inside}
+use Rattle.validate.proofs.Laws.Bounds.{symbol-inside}
 use Rattle.rela.specs.Effects.{needsPair}
 use Rattle.rela.specs.Sites.{effect}
 use Rattle.relocate.specs.Rules.{pairWell}

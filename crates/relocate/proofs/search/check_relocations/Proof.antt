@@ -10,7 +10,7 @@ use Rattle.word.specs.Sums.{sum}
 use Rattle.elf.specs.Headers.{sectionCount}
 use Rattle.elf.specs.Sections.{countingRela, relocationsIn, relocationsBelow}
 use Rattle.elf.specs.Entries.{relocationCount}
-use Rattle.elf.proofs.Laws.Bounds.{relocations-few}
+use Rattle.validate.proofs.Laws.Bounds.{relocations-few}
 use Rattle.relocate.specs.declared.search.RelocationCheck.the-variants.{Passed, Broken}
 use Rattle.rela.specs.Sites.{siteAt}
 use Rattle.rela.specs.Shape.{previous as the-previous}

@@ -8,9 +8,10 @@ use lib.Seq.{length-take-le}
 use Rattle.word.proofs.Laws.Tests.{and-left}
 use Rattle.elf.specs.Headers.{sectionCount}
 use Rattle.elf.specs.Sections.{sectionAt, loaded}
-use Rattle.elf.specs.Sound.{Inside, SoundObject}
-use Rattle.elf.proofs.Laws.Tables.{header-short}
-use Rattle.elf.proofs.Laws.Bounds.{loaded-inside}
+use Rattle.elf.specs.Facts.{Inside}
+use Rattle.validate.specs.Sound.{SoundObject}
+use Rattle.validate.proofs.Laws.Tables.{header-short}
+use Rattle.validate.proofs.Laws.Bounds.{loaded-inside}
 use borrow.Author.Needs.{needs}
 use Rattle.relocations.proofs.pairs.section.Statement.{statement}
 use Rattle.relocations.proofs.pairs.section.Tie as tie

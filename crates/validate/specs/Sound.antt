@@ -4,34 +4,21 @@ use mathlib.Core.Logic.{_⊎_}
 use mathlib.Core.Path.{_≡_}
 use mathlib.Core.Bool.{true, false}
 use mathlib.Core.List.{List}
-use Prim.Native.Nat.{ℕ, suc, _+_, _*_, _/_, _%_, _≤_, _<_}
+use Prim.Native.Nat.{ℕ, suc, _+_, _/_, _%_, _≤_, _<_}
 use lib.ListN.{length}
 use Rattle.word.specs.Bytes.{leAt}
 use Rattle.word.specs.Powers.{oneBit}
-use Rattle.elf.specs.Headers.{headerAllowed, sectionTable, sectionCount}
+use Rattle.elf.specs.Headers.{sectionCount}
 use Rattle.elf.specs.Sections.{NULL, SYMTAB, RELA, NOBITS, REL, sectionAt, allocated, loaded, symbolTable, countingRel, countingRela, relocationsBelow}
-use Rattle.elf.specs.Rules.{maxSymbols, maxRelocations}
-
--- the header of section i lies in the file
-pub record HeaderInside (s : List ℕ) (i : ℕ) : Type 0 where
-  pub header : 52 ≤ length s
-  pub inside : sectionTable s + 40 * i + 40 ≤ length s
-
--- all headers do, and they are few
-pub record TableInside (s : List ℕ) : Type 0 where
-  pub header : 52 ≤ length s
-  pub few : sectionCount s ≤ 32
-  pub inside : sectionTable s + 40 * sectionCount s ≤ length s
+use Rattle.elf.specs.Facts.{TableInside}
+use Rattle.validate.specs.Headers.{headerAllowed}
+use Rattle.validate.specs.Rules.{maxSymbols, maxRelocations}
 
 -- section i is in the table, and its info names a section of it
 pub record Targeted (s : List ℕ) (i : ℕ) : Type 0 where
   pub table : TableInside s
   pub there : i < sectionCount s
   pub target : sectionAt s i .info < sectionCount s
-
--- a part of the file of so many bytes
-pub record Inside (s : List ℕ) (at size : ℕ) : Type 0 where
-  pub inside : at + size ≤ length s
 
 -- what checks 4 and 5 let pass, as later crates use it: a record of facts instead of tests
 

@@ -1,8 +1,8 @@
--- `elf::is_symbol_table_well` meets its contract. Assumes nothing.
-use Rattle.elf.specs.Rules.{symbolTableWell}
+-- `validate::is_symbol_table_well` meets its contract. Assumes nothing.
+use Rattle.validate.specs.Rules.{symbolTableWell}
 use borrow.Author.Needs.{needs}
-use Rattle.elf.proofs.is_symbol_table_well.Statement.{statement}
-use Rattle.elf.proofs.is_symbol_table_well.Tie as tie
+use Rattle.validate.proofs.is_symbol_table_well.Statement.{statement}
+use Rattle.validate.proofs.is_symbol_table_well.Tie as tie
 
 read-section-requires : tie.Need-read-section-requires
 read-section-requires c κs = search needs

@@ -1,16 +1,16 @@
--- `elf::check_sections` meets its contract. Assumes nothing.
+-- `validate::check_sections` meets its contract. Assumes nothing.
 use mathlib.Core.Path.{_≡_, sym, ap, _∙_}
 use Prim.Native.Nat.{ℕ, _-_, _≤_, _<_}
 use mathlib.Core.Bool.{true, false, not}
 use native.Mathlib.Omega.{arith}
 use borrow.Author.Count.{below-more}
 use borrow.Author.Tests.{not-true, not-false}
-use Rattle.elf.specs.Headers.{tableAllowed}
-use Rattle.elf.specs.Rules.{sectionWell}
-use Rattle.elf.proofs.Laws.Tables.{table-inside, section-well, check-table-broken, check-broken, check-sound}
+use Rattle.validate.specs.Headers.{tableAllowed}
+use Rattle.validate.specs.Rules.{sectionWell}
+use Rattle.validate.proofs.Laws.Tables.{table-inside, section-well, check-table-broken, check-broken, check-sound}
 use borrow.Author.Needs.{needs}
-use Rattle.elf.proofs.check_sections.Statement.{statement}
-use Rattle.elf.proofs.check_sections.Tie as tie
+use Rattle.validate.proofs.check_sections.Statement.{statement}
+use Rattle.validate.proofs.check_sections.Tie as tie
 
 abbrev Inv-loop : tie.InvT-loop
 Inv-loop object n i₀ i = (i ≤ n) × ((j : ℕ) → j < i → not (sectionWell object j) ≡ false)

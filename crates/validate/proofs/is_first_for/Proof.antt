@@ -1,4 +1,4 @@
--- `elf::is_first_for` meets its contract. Assumes nothing.
+-- `validate::is_first_for` meets its contract. Assumes nothing.
 use mathlib.Core.Path.{_≡_, sym, ap}
 use Prim.Native.Nat.{ℕ, _-_, _≤_, _<_}
 use mathlib.Core.Bool.{true, false, not, _&&_}
@@ -6,10 +6,10 @@ use native.Mathlib.Omega.{arith}
 use lib.Dec.{eqb}
 use borrow.Author.Count.{below-more}
 use Rattle.word.proofs.Laws.First.{everywhere-is, everywhere-not}
 use Rattle.elf.specs.Sections.{sectionAt, countingRela}
 use borrow.Author.Needs.{needs}
-use Rattle.elf.proofs.is_first_for.Statement.{statement}
-use Rattle.elf.proofs.is_first_for.Tie as tie
+use Rattle.validate.proofs.is_first_for.Statement.{statement}
+use Rattle.validate.proofs.is_first_for.Tie as tie
 
 abbrev Inv-loop : tie.InvT-loop
 Inv-loop object i target j₀ j = (j ≤ i) × ((k : ℕ) → k < j → not (countingRela object k && eqb (sectionAt object k .info) target) ≡ true)

@@ -11,12 +11,13 @@ use Rattle.word.proofs.Laws.Tests.{and-left, and-right, and-false}
 use Rattle.word.specs.Bytes.{leAt}
 use Rattle.word.specs.First.{first}
 use Rattle.word.proofs.Laws.First.{first-is}
 use Rattle.elf.specs.declared.Section.{Section}
-use Rattle.elf.specs.declared.SectionCheck.the-variants.{Sound, Broken}
-use Rattle.elf.specs.Headers.{headerAllowed, sectionTable, sectionCount, tableAllowed}
+use Rattle.elf.specs.Headers.{sectionTable, sectionCount}
 use Rattle.elf.specs.Sections.{sectionAt, targets, countingRel, countingRela}
-use Rattle.elf.specs.Rules.{startsNull, insideFile, allocatedWell, symbolTableWell, noCountingRel, relaKept, relocationsKept, relaWell, relocationsWell, sectionWell, sectionCheck}
-use Rattle.elf.specs.Sound.{TableInside}
+use Rattle.elf.specs.Facts.{TableInside}
+use Rattle.validate.specs.declared.SectionCheck.the-variants.{Sound, Broken}
+use Rattle.validate.specs.Headers.{headerAllowed, tableAllowed}
+use Rattle.validate.specs.Rules.{startsNull, insideFile, allocatedWell, symbolTableWell, noCountingRel, relaKept, relocationsKept, relaWell, relocationsWell, sectionWell, sectionCheck}
 
 -- ---- the header
 

@@ -1,10 +1,10 @@
--- `elf::check_header` meets its contract. Assumes nothing.
+-- `validate::check_header` meets its contract. Assumes nothing.
 use Rattle.word.proofs.Laws.Bytes.{leAt-one}
 use borrow.Author.Tests.{le-leb, lt-leb}
-use Rattle.elf.specs.Headers.{headerAllowed}
+use Rattle.validate.specs.Headers.{headerAllowed}
 use borrow.Author.Needs.{needs}
-use Rattle.elf.proofs.check_header.Statement.{statement}
-use Rattle.elf.proofs.check_header.Tie as tie
+use Rattle.validate.proofs.check_header.Statement.{statement}
+use Rattle.validate.proofs.check_header.Tie as tie
 
 returns : tie.Need-returns
 unfolding headerAllowed

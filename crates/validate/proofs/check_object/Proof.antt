@@ -1,14 +1,14 @@
--- `elf::check_object` meets its contract. Assumes nothing.
+-- `validate::check_object` meets its contract. Assumes nothing.
 use mathlib.Core.Path.{_≡_, sym, ap, _∙_}
 use mathlib.Core.Bool.{true, false}
 use borrow.Author.Tests.{not-true, not-false}
-use Rattle.elf.specs.declared.SectionCheck.the-variants.{Sound}
-use Rattle.elf.specs.Headers.{headerAllowed}
-use Rattle.elf.specs.Rules.{sectionCheck, afterHeader, objectCheck}
-use Rattle.elf.proofs.Laws.Tables.{header-long}
+use Rattle.validate.specs.declared.SectionCheck.the-variants.{Sound}
+use Rattle.validate.specs.Headers.{headerAllowed}
+use Rattle.validate.specs.Rules.{sectionCheck, afterHeader, objectCheck}
+use Rattle.validate.proofs.Laws.Tables.{header-long}
 use borrow.Author.Needs.{needs}
-use Rattle.elf.proofs.check_object.Statement.{statement}
-use Rattle.elf.proofs.check_object.Tie as tie
+use Rattle.validate.proofs.check_object.Statement.{statement}
+use Rattle.validate.proofs.check_object.Tie as tie
 
 check-header-requires : tie.Need-check-header-requires
 check-header-requires c κs = search needs

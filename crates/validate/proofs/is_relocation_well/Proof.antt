@@ -1,12 +1,12 @@
--- `elf::is_relocation_well` meets its contract. Assumes nothing.
+-- `validate::is_relocation_well` meets its contract. Assumes nothing.
 use mathlib.Core.Path.{_≡_, sym, ap, _∙_}
 use mathlib.Core.Bool.{true, false}
 use borrow.Author.Tests.{not-true, not-false}
 use Rattle.elf.specs.Sections.{sectionAt, targets}
-use Rattle.elf.proofs.Laws.Tables.{target-inside, well-untargeted, broken-rel, well-other, well-rela}
+use Rattle.validate.proofs.Laws.Tables.{target-inside, well-untargeted, broken-rel, well-other, well-rela}
 use borrow.Author.Needs.{needs}
-use Rattle.elf.proofs.is_relocation_well.Statement.{statement}
-use Rattle.elf.proofs.is_relocation_well.Tie as tie
+use Rattle.validate.proofs.is_relocation_well.Statement.{statement}
+use Rattle.validate.proofs.is_relocation_well.Tie as tie
 
 read-section-requires : tie.Need-read-section-requires
 read-section-requires c κs = search needs

@@ -6,12 +6,13 @@ use lib.ListN.{length}
 use lib.Dec.{leb, ltb, eqb}
 use Rattle.word.specs.First.{first, everywhere}
 use Rattle.word.specs.Powers.{oneBit}
-use Rattle.elf.specs.declared.SectionCheck.{SectionCheck}
-use Rattle.elf.specs.declared.SectionCheck.the-variants.{Sound, Broken}
-use Rattle.elf.specs.declared.ObjectCheck.{ObjectCheck}
-use Rattle.elf.specs.declared.ObjectCheck.the-variants.{Passed, BadHeader, BadSection}
-use Rattle.elf.specs.Headers.{headerAllowed, sectionCount, tableAllowed}
+use Rattle.elf.specs.Headers.{sectionCount}
 use Rattle.elf.specs.Sections.{NULL, SYMTAB, RELA, NOBITS, REL, sectionAt, allocated, loaded, symbolTable, countingRel, countingRela, relocationsBelow}
+use Rattle.validate.specs.declared.SectionCheck.{SectionCheck}
+use Rattle.validate.specs.declared.SectionCheck.the-variants.{Sound, Broken}
+use Rattle.validate.specs.declared.ObjectCheck.{ObjectCheck}
+use Rattle.validate.specs.declared.ObjectCheck.the-variants.{Passed, BadHeader, BadSection}
+use Rattle.validate.specs.Headers.{headerAllowed, tableAllowed}
 
 abbrev pub maxSymbols : ℕ
 maxSymbols = 1024

@@ -13,12 +13,13 @@ use Rattle.word.proofs.Laws.Tests.{and-left, and-right}
 use Rattle.word.proofs.Laws.First.{first-at}
 use Rattle.word.proofs.Laws.Sums.{sum-locate}
 use Rattle.word.proofs.Laws.Powers.{power-one-bit}
 use Rattle.elf.specs.declared.Section.{Section}
 use Rattle.elf.specs.Headers.{sectionCount}
 use Rattle.elf.specs.Sections.{NULL, SYMTAB, RELA, NOBITS, sectionAt, allocated, loaded, symbolTable, targets, countingRela, relocationsIn, relocationsBelow}
-use Rattle.elf.specs.Rules.{maxSymbols, maxRelocations}
 use Rattle.elf.specs.Entries.{symbolCount, relocationCount, locationOf}
-use Rattle.elf.specs.Sound.{Inside, SoundObject}
+use Rattle.elf.specs.Facts.{Inside}
+use Rattle.validate.specs.Rules.{maxSymbols, maxRelocations}
+use Rattle.validate.specs.Sound.{SoundObject}
 
 -- ---- what a test on a header says of its type
 

@@ -1,12 +1,12 @@
--- `elf::is_rela_kept` meets its contract. Assumes nothing.
+-- `validate::is_rela_kept` meets its contract. Assumes nothing.
 use Prim.Native.Nat.{_<_}
 use native.Mathlib.Omega.{arith}
 use Rattle.elf.specs.Headers.{sectionCount}
 use native.Mathlib.Numerals.{add-one}
-use Rattle.elf.specs.Rules.{relaKept, relocationsKept}
+use Rattle.validate.specs.Rules.{relaKept, relocationsKept}
 use borrow.Author.Needs.{needs}
-use Rattle.elf.proofs.is_rela_kept.Statement.{statement}
-use Rattle.elf.proofs.is_rela_kept.Tie as tie
+use Rattle.validate.proofs.is_rela_kept.Statement.{statement}
+use Rattle.validate.proofs.is_rela_kept.Tie as tie
 
 read-section-requires : tie.Need-read-section-requires
 read-section-requires c κs = search needs

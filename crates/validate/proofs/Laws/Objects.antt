@@ -12,14 +12,15 @@ use Rattle.word.specs.First.{first, everywhere}
 use Rattle.word.specs.Powers.{oneBit}
 use Rattle.word.proofs.Laws.Tests.{and-left, and-right}
 use Rattle.word.proofs.Laws.First.{first-below, everywhere-at, everywhere-is}
-use Rattle.elf.specs.declared.SectionCheck.{SectionCheck}
-use Rattle.elf.specs.declared.SectionCheck.the-variants.{Sound, Broken}
-use Rattle.elf.specs.declared.ObjectCheck.the-variants.{Passed, BadHeader}
-use Rattle.elf.specs.Headers.{headerAllowed, sectionCount, tableAllowed}
+use Rattle.elf.specs.Headers.{sectionCount}
 use Rattle.elf.specs.Sections.{NULL, SYMTAB, RELA, NOBITS, REL, sectionAt, allocated, loaded, symbolTable, targets, countingRel, countingRela}
-use Rattle.elf.specs.Rules.{startsNull, insideFile, allocatedWell, symbolTableWell, noCountingRel, relaKept, relocationsKept, relaWell, relocationsWell, sectionWell, sectionCheck, afterHeader, objectCheck}
-use Rattle.elf.specs.Sound.{SoundSymbols, SoundRela, SoundSection, SoundObject}
-use Rattle.elf.proofs.Laws.Tables.{header-long, table-inside, target-inside, table-entries, table-some, allowed-table, check-sound}
+use Rattle.validate.specs.declared.SectionCheck.{SectionCheck}
+use Rattle.validate.specs.declared.SectionCheck.the-variants.{Sound, Broken}
+use Rattle.validate.specs.declared.ObjectCheck.the-variants.{Passed, BadHeader}
+use Rattle.validate.specs.Headers.{headerAllowed, tableAllowed}
+use Rattle.validate.specs.Rules.{startsNull, insideFile, allocatedWell, symbolTableWell, noCountingRel, relaKept, relocationsKept, relaWell, relocationsWell, sectionWell, sectionCheck, afterHeader, objectCheck}
+use Rattle.validate.specs.Sound.{SoundSymbols, SoundRela, SoundSection, SoundObject}
+use Rattle.validate.proofs.Laws.Tables.{header-long, table-inside, target-inside, table-entries, table-some, allowed-table, check-sound}
 
 -- ---- tests that are an implication: not a || b
 

@@ -1,0 +1,20 @@
+-- What functions ask of their callers. Assumes nothing: these are definitions.
+use mathlib.Core.List.{List}
+use Prim.Native.Nat.{ℕ, _+_, _*_, _≤_}
+use lib.ListN.{length}
+use Rattle.elf.specs.Headers.{sectionTable, sectionCount}
+
+-- the header of section i lies in the file
+pub record HeaderInside (s : List ℕ) (i : ℕ) : Type 0 where
+  pub header : 52 ≤ length s
+  pub inside : sectionTable s + 40 * i + 40 ≤ length s
+
+-- all headers do, and they are few
+pub record TableInside (s : List ℕ) : Type 0 where
+  pub header : 52 ≤ length s
+  pub few : sectionCount s ≤ 32
+  pub inside : sectionTable s + 40 * sectionCount s ≤ length s
+
+-- a part of the file of so many bytes
+pub record Inside (s : List ℕ) (at size : ℕ) : Type 0 where
+  pub inside : at + size ≤ length s

@@ -1,0 +1,4 @@
+-- The laws of the definitions in specs/.
+pub mod Tables
+pub mod Objects
+pub mod Bounds

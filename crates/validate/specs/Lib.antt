@@ -1,0 +1,3 @@
+pub mod Headers
+pub mod Rules
+pub mod Sound
