@@ -1,19 +1,23 @@
--- What inner functions ask of their callers: the checks that have passed. Assumes nothing: these are definitions.
+-- What inner functions ask of their callers, the checks that have passed, and what one of them leaves. Assumes nothing: these are definitions.
 use mathlib.Core.Path.{_≡_}
-use mathlib.Core.Bool.{true}
+use mathlib.Core.Bool.{true, cond}
 use mathlib.Core.List.{List}
-use Prim.Native.Nat.{ℕ}
+use Prim.Native.Nat.{ℕ, _-_}
+use lib.ListN.{getD}
+use lib.Seq.{sets}
 use Rattle.order.specs.declared.Counts.{Counts}
 use Rattle.order.specs.declared.Reading.the-variants.{WellFormed}
 use Rattle.order.specs.Orders.{base, reading}
 use Rattle.order.specs.Windows.{windowAllowed}
 use Rattle.order.specs.Addresses.{addresses}
+use Rattle.elf.specs.Sections.{sectionAt}
 use Rattle.validate.specs.declared.ObjectCheck.the-variants.{Passed}
 use Rattle.validate.specs.Rules.{objectCheck}
 use Rattle.place.specs.declared.Fault.the-variants.{Nowhere}
 use Rattle.place.specs.Placements.{placementCheck}
 use Rattle.place.specs.Externals.{externalCheck}
-use Rattle.place.specs.Placing.{placingCheck}
+use Rattle.place.specs.Placing.{placingCheck, hasBytes}
+use Rattle.patch.specs.Sections.{relocated}
 use Rattle.relocate.specs.declared.search.RelocationCheck.the-variants.{Passed as AllKept}
 use Rattle.relocate.specs.Search.{relocationCheck}
 
@@ -38,3 +42,8 @@ pub record Placeable (object order : List ℕ) (counts : Counts) (len : ℕ) : T
 pub record Fitting (object order : List ℕ) (counts : Counts) (len : ℕ) : Type 0 where
   pub placeable : Placeable object order counts len
   pub relocations : relocationCheck object order (addresses order) ≡ AllKept
+
+-- an image with section t laid into it
+unfoldable pub withSection : List ℕ → List ℕ → ℕ → List ℕ → List ℕ
+withSection object order t image =
+    cond (hasBytes (sectionAt object t)) (sets image (getD (addresses order) t 0 - base order) (relocated object order (addresses order) t)) image

@@ -1,28 +1,25 @@
 -- Document 01, "When the fitter says no": checks 2 to 14 in their order, and the plan of an install that passes them all. It is a function of
 -- object, order and image length alone. Assumes nothing: these are definitions.
-use Prim.Native.Nat.{ℕ, _-_}
+use Prim.Native.Nat.{ℕ}
 use mathlib.Core.Bool.{cond}
 use mathlib.Core.List.{List}
-use lib.ListN.{getD}
-use lib.Seq.{sets}
 use Rattle.order.specs.Orders.{base, wellFormed}
 use Rattle.order.specs.Windows.{windowAllowed}
 use Rattle.order.specs.Addresses.{addresses}
 use Rattle.validate.specs.declared.ObjectCheck.{ObjectCheck}
 use Rattle.validate.specs.declared.ObjectCheck.the-variants.{Passed, BadHeader, BadSection}
 use Rattle.elf.specs.Headers.{sectionCount}
-use Rattle.elf.specs.Sections.{sectionAt}
 use Rattle.validate.specs.Rules.{objectCheck}
 use Rattle.journal.specs.Plans.{Piece, Verdict, refused, plan, Judge}
 use Rattle.place.specs.declared.Fault.{Fault}
 use Rattle.place.specs.declared.Fault.the-variants.{Nowhere, At}
 use Rattle.place.specs.Placements.{placementCheck}
 use Rattle.place.specs.Externals.{externalCheck}
+use Rattle.place.specs.Placing.{placingCheck}
 use Rattle.relocate.specs.declared.search.RelocationCheck.{RelocationCheck}
 use Rattle.relocate.specs.declared.search.RelocationCheck.the-variants.{Passed as AllKept, Broken}
 use Rattle.relocate.specs.Search.{number, relocationCheck}
 use Rattle.patch.specs.Sections.{relocated}
-use Rattle.place.specs.Placing.{placingCheck, hasBytes}
 use Rattle.spans.specs.Pieces.{pieces}
 
 -- ---- a check that passes leaves the verdict to those after it; one that is broken gives its number and place
@@ -47,11 +44,6 @@ afterRelocations (Broken finding k) next = refused (number finding) k
 
 unfoldable pub planOf : List ℕ → List ℕ → List Piece
 planOf object order = pieces (relocated object order (addresses order)) object (addresses order) (base order) (sectionCount object)
-
--- an image with section t laid into it
-unfoldable pub withSection : List ℕ → List ℕ → ℕ → List ℕ → List ℕ
-withSection object order t image =
-    cond (hasBytes (sectionAt object t)) (sets image (getD (addresses order) t 0 - base order) (relocated object order (addresses order) t)) image
 
 -- ---- the judgement, document 01's table line by line
 

@@ -15,9 +15,9 @@ ghost use Rattle.journal.specs.Calls.{install as «the-install», rollback as �
 ghost use Rattle.place.specs.Placements.{placementCheck};
 ghost use Rattle.relocate.specs.Search.{number, isBroken};
 ghost use Rattle.patch.specs.Sections.{relocated};
-ghost use Rattle.fitter.specs.Judgement.{planOf, judgement, withSection};
+ghost use Rattle.fitter.specs.Judgement.{planOf, judgement};
 ghost use Rattle.fitter.specs.Answers.{answerOf, verdictOf, packed};
-ghost use Rattle.fitter.specs.Facts.{Readable, Named, Placeable, Fitting};
+ghost use Rattle.fitter.specs.Facts.{Readable, Named, Placeable, Fitting, withSection};
 use journal::RolledBack;
 use order::Counts;
 use order::Reading;

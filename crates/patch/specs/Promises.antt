@@ -1,6 +1,6 @@
 -- What the final bytes of a section say when they are read by the manual's fields. Assumes nothing: these are definitions.
 use mathlib.Core.Path.{_≡_}
-use mathlib.Core.Bool.{Bool, true, false, not, cond, _&&_}
+use mathlib.Core.Bool.{Bool, not, cond, _&&_}
 use mathlib.Core.List.{List}
 use Prim.Native.Nat.{ℕ, zero, suc, _/_, _^_, _<_}
 use lib.Dec.{leb, ltb, eqb}

@@ -1,6 +1,6 @@
 // The bytes of sections after their relocations, laid in place. Everything was checked before; nothing here can fail.
 ghost use mathlib.Core.Path.{_≡_};
-ghost use mathlib.Core.Bool.{true};
+ghost use mathlib.Core.Bool.{true, cond};
 ghost use Prim.Native.Nat.{_+_, _^_, _≤_, _<_};
 ghost use lib.ListN.{length};
 ghost use lib.Seq.{sets};
@@ -246,7 +246,7 @@ fn distance_for(
     j: usize,
 ) -> u32
     requires { ⌜ SoundObject (now object) × (reading (now order) ≡ Reading.WellFormed counts) × SymbolsOf (now object) symbols × There (now object) site j × (takesPair calculation ≡ true → (0 < entry (now object) site j .symbol) × InTable (now object) site j) ⌝ }
-    ensures { λ r. ⌜ (takesPair calculation ≡ true → r ≡ pairDistance (now (object .entry)) (now (order .entry)) addresses site j) ⌝ }
+    ensures { λ r. ⌜ r ≡ cond (takesPair calculation) (pairDistance (now (object .entry)) (now (order .entry)) addresses site j) 0 ⌝ }
 {
     if takes_pair(calculation) {
         return pair_distance(object, order, counts, symbols, addresses, site, j);

@@ -3,14 +3,14 @@ use Prim.Native.Nat.{ℕ, zero, suc, _+_}
 use mathlib.Core.Bool.{Bool, true, not, cond, _&&_, _||_}
 use mathlib.Core.List.{List}
 use lib.Dec.{leb, ltb, eqb}
-use lib.IntN.{ℤ, pos, natAbs}
+use lib.IntN.{ℤ, natAbs}
 use Rattle.word.specs.Whole.{within, even}
 use Rattle.riscv.specs.declared.types.Decision.{Decision}
 use Rattle.riscv.specs.declared.types.Decision.the-variants.{Marker, Align, Store, Refused}
 use Rattle.rela.specs.declared.sites.Site.{Site}
 use Rattle.rela.specs.declared.shape.Previous.{Previous}
 use Rattle.rela.specs.declared.shape.Previous.the-variants.{Nothing, Entry}
-use Rattle.rela.specs.Sites.{entry, offset, effect, A}
+use Rattle.rela.specs.Sites.{offset, effect, A}
 use Rattle.rela.specs.Effects.{isStore, isRefused, touched, stackWidth, takesPair}
 
 -- "Record offsets never fall."

@@ -25,7 +25,7 @@ use Rattle.rela.specs.declared.sites.Site.{Site}
 use Rattle.relocate.specs.declared.pairs.Pair.{Pair}
 use Rattle.relocate.specs.declared.pairs.Pair.the-variants.{At, NotOne}
 use Rattle.rela.specs.Sites.{entry, offset, effect, P, found}
-use Rattle.rela.specs.Effects.{isStore, touched, needsPair}
+use Rattle.rela.specs.Effects.{isStore, needsPair}
 use Rattle.relocate.specs.Pairs.{pairOf}
 
 -- ---- check 10

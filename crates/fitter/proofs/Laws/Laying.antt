@@ -6,11 +6,11 @@ use Prim.Native.Nat.{ℕ, zero, suc, _+_, _-_, _≤_, _<_}
 use native.Mathlib.Omega.{arith}
 use native.Mathlib.Decide.{decLt}
 use lib.ListN.{length, getD, take, drop}
-use lib.Dec.{leb, ltb, eqb}
+use lib.Dec.{ltb, eqb}
 use lib.Seq.{sets, sets-eq}
 use borrow.Rule.Slice.PartMut.{putMid, post-is}
 use borrow.Author.Tests.{leb-true, eqb-true, eqb-false, lt-ltb}
-use Rattle.word.proofs.Laws.Tests.{and-left, and-right}
+use Rattle.word.proofs.Laws.Tests.{and-left}
 use Rattle.word.proofs.Laws.Lists.{length-part}
 use Rattle.order.specs.declared.Counts.{Counts}
 use Rattle.order.specs.Orders.{base}
@@ -22,7 +22,7 @@ use Rattle.elf.specs.Entries.{bytesOf}
 use Rattle.validate.specs.Sound.{SoundObject}
 use Rattle.validate.proofs.Laws.Bounds.{loaded-inside}
 use Rattle.validate.proofs.Laws.Objects.{sound-object}
-use Rattle.journal.specs.Plans.{Piece, piece, plan, Inside, LaysInside, overwritten, spanOf as spanOfPieces}
+use Rattle.journal.specs.Plans.{Piece, piece, Inside, LaysInside, overwritten, spanOf as spanOfPieces}
 use Rattle.place.specs.Placing.{hasBytes}
 use Rattle.place.proofs.Laws.Theorems.{inside-image}
 use Rattle.spans.specs.Spans.{highest, spanOf}
@@ -33,12 +33,12 @@ use Rattle.rela.specs.Sites.{siteAt, count}
 use Rattle.rela.specs.Facts.{Placed}
 use Rattle.rela.proofs.Laws.Widths.{never}
 use Rattle.relocate.proofs.Laws.Sites.{placed}
-use Rattle.patch.specs.Sections.{after, relaOf, relocated}
+use Rattle.patch.specs.Sections.{relaOf, relocated}
 use Rattle.patch.proofs.Laws.Sections.{relocated-some, relocated-none, found-target}
 use Rattle.patch.proofs.Laws.After.{length-after}
-use Rattle.fitter.specs.Judgement.{planOf, judgement, withSection}
-use Rattle.fitter.specs.Facts.{Fitting}
-use Rattle.fitter.proofs.Laws.Judgement.{Fits, plan-fits}
+use Rattle.fitter.specs.Judgement.{planOf, judgement}
+use Rattle.fitter.specs.Facts.{Fitting, withSection}
+use Rattle.fitter.proofs.Laws.Judgement.{plan-fits}
 
 -- ---- what the checks that passed give
 

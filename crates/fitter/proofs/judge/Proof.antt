@@ -1,5 +1,5 @@
 -- `fitter::judge` meets its contract. Assumes nothing.
-use mathlib.Core.Path.{_≡_, sym, ap, _∙_}
+use mathlib.Core.Path.{sym, _∙_}
 use Rattle.fitter.proofs.Laws.Judgement.{gives-2}
 use borrow.Author.Needs.{needs}
 use Rattle.fitter.proofs.judge.Statement.{statement}

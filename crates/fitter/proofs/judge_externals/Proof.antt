@@ -1,5 +1,5 @@
 -- `fitter::judge_externals` meets its contract. Assumes nothing.
-use mathlib.Core.Path.{_≡_, sym, ap, _∙_}
+use mathlib.Core.Path.{sym, _∙_}
 use Rattle.validate.proofs.Laws.Objects.{sound-object}
 use Rattle.fitter.proofs.Laws.Judgement.{gives-7}
 use borrow.Author.Needs.{needs}

@@ -1,7 +1,5 @@
 -- `fitter::judge_placing` meets its contract. Assumes nothing.
 use mathlib.Core.Path.{_≡_, sym, ap, _∙_}
-use native.Mathlib.Omega.{arith}
-use mathlib.Core.Bool.{true}
 use borrow.Author.Tests.{leb-true}
 use Rattle.word.proofs.Laws.Tests.{and-left}
 use Rattle.order.specs.Orders.{base}

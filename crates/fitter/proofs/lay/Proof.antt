@@ -1,12 +1,11 @@
 -- `fitter::lay` meets its contract. The invariant: the sections below `t` are laid. Assumes nothing.
 use mathlib.Core.Path.{_≡_, refl, sym, ap, _∙_, subst}
-use Prim.Native.Nat.{_-_, _≤_, _<_}
+use Prim.Native.Nat.{_-_, _≤_}
 use native.Mathlib.Numerals.{add-one}
 use native.Mathlib.Omega.{arith}
 use lib.ListN.{length}
 use Rattle.elf.specs.Headers.{sectionCount}
-use Rattle.fitter.specs.Judgement.{withSection}
-use Rattle.fitter.specs.Facts.{Fitting}
+use Rattle.fitter.specs.Facts.{Fitting, withSection}
 use Rattle.fitter.proofs.Laws.Laying.{is-sound, laidBelow, laid-none, laid-more, laid-all}
 use borrow.Author.Needs.{needs}
 use Rattle.fitter.proofs.lay.Statement.{statement}

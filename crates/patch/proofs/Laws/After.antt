@@ -7,10 +7,9 @@ use Prim.Native.Nat.{ℕ, zero, suc, _+_, _≤_, _<_}
 use native.Mathlib.Omega.{arith}
 use lib.ListN.{length, getD}
 use lib.Dec.{leb, ltb}
-use lib.Seq.{sets, length-sets}
+use lib.Seq.{length-sets}
 use borrow.Author.Tests.{leb-false, ltb-false, not-true}
 use Rattle.word.specs.Bytes.{leAt, bytes}
-use Rattle.word.specs.First.{everywhere}
 use Rattle.word.proofs.Laws.First.{everywhere-at}
 use Rattle.word.proofs.Laws.Bytes.{leAt-one, leAt-sets-other, length-bytes}
 use Rattle.riscv.specs.declared.types.Decision.{Decision}

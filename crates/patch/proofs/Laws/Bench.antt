@@ -2,11 +2,11 @@
 use mathlib.Core.Path.{_≡_, refl}
 use mathlib.Core.Bool.{cond}
 use mathlib.Core.List.{List, [], _∷_, map}
-use Prim.Native.Nat.{ℕ, _+_}
+use Prim.Native.Nat.{ℕ}
 use lib.IntN.{ℤ, pos, negsuc}
 use Rattle.word.specs.First.{first}
 use Rattle.word.specs.Powers.{ceilPower, ceilLog}
-use Rattle.word.specs.Whole.{residue, signed, within, even, plus, minus}
+use Rattle.word.specs.Whole.{residue, signed, within, even, minus}
 use Rattle.fields.specs.Layouts.{read, put}
 use Rattle.riscv.specs.declared.types.Decision.{Decision}
 use Rattle.riscv.specs.declared.types.Decision.the-variants.{Marker, Align, Store, Refused}

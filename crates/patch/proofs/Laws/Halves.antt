@@ -1,8 +1,8 @@
 -- The high half and the low half of one address or distance add up to it. Assumes nothing.
 use mathlib.Core.Path.{_≡_, refl, sym, ap, _∙_, subst}
-use mathlib.Core.Bool.{Bool, true, false, not, _&&_, _||_}
+use mathlib.Core.Bool.{true, not, _||_}
 use mathlib.Core.List.{List}
-use Prim.Native.Nat.{ℕ, _%_, _^_, _<_}
+use Prim.Native.Nat.{ℕ, _^_, _<_}
 use native.Mathlib.Nat.{mod-eq-of-lt}
 use lib.Dec.{eqb}
 use lib.IntN.{pos, _+ℤ_}
@@ -15,7 +15,6 @@ use Rattle.fields.specs.declared.Field.{Field}
 use Rattle.fields.specs.declared.Field.the-variants.{U}
 use Rattle.fields.specs.Layouts.{read}
 use Rattle.fields.specs.Fields.{layout}
-use Rattle.riscv.specs.declared.forms.Form.{Form}
 use Rattle.riscv.specs.declared.forms.Form.the-variants.{Auipc}
 use Rattle.riscv.specs.declared.types.Calculation.the-variants.{HighPcRelative, HighAbsolute, LowAbsolute, LowOfPair}
 use Rattle.riscv.specs.declared.types.Decision.{Decision}

@@ -3,7 +3,7 @@ use mathlib.Core.Logic.{_⊎_, inl, inr, ⊎-elim}
 use mathlib.Core.Path.{_≡_, refl, sym, ap, _∙_}
 use mathlib.Core.Bool.{Bool, true, false, not, cond, _&&_, _||_}
 use mathlib.Core.List.{List}
-use Prim.Native.Nat.{ℕ, zero, suc, _+_, _≤_, _<_}
+use Prim.Native.Nat.{ℕ, zero, suc, _≤_, _<_}
 use native.Mathlib.Omega.{arith}
 use native.Mathlib.Decide.{decLt}
 use lib.Dec.{leb, ltb, eqb}
@@ -20,12 +20,11 @@ use Rattle.riscv.specs.declared.types.Decision.{Decision}
 use Rattle.riscv.specs.declared.types.Decision.the-variants.{Marker, Align, Store, Refused}
 use Rattle.riscv.specs.Types.{decision}
 use Rattle.rela.specs.declared.sites.Site.{Site}
-use Rattle.rela.specs.declared.shape.Previous.{Previous}
-use Rattle.rela.specs.declared.shape.Previous.the-variants.{Nothing, Entry}
-use Rattle.rela.specs.Sites.{count, entry, offset, effect}
+use Rattle.rela.specs.declared.shape.Previous.the-variants.{Entry}
+use Rattle.rela.specs.Sites.{offset, effect}
 use Rattle.rela.specs.Effects.{isStore, touched, stacks, stackWidth}
 use Rattle.rela.specs.Shape.{end, neverFalls, previous, sharesPlace, clears, noOverlap, shapeWell}
-use Rattle.rela.specs.Facts.{isDataField, onData}
+use Rattle.rela.specs.Facts.{isDataField}
 use Rattle.rela.proofs.Laws.Widths.{never}
 use Rattle.rela.proofs.Laws.Decisions.{fieldBytes, store-bytes, store-data}
 use Rattle.rela.proofs.Laws.Shape.{shape-rises, shape-clear}

@@ -1,9 +1,9 @@
 -- Each relocation can be read out of the final bytes, whatever the others store: rule 9 suffices. Assumes nothing.
 use mathlib.Core.Logic.{_⊎_, inl, inr, ⊎-elim}
 use mathlib.Core.Path.{_≡_, refl, sym, ap, _∙_, subst}
-use mathlib.Core.Bool.{Bool, true, false, not, cond, _&&_, _||_}
+use mathlib.Core.Bool.{Bool, true, false, not, _||_}
 use mathlib.Core.List.{List}
-use Prim.Native.Nat.{ℕ, zero, suc, _+_, _*_, _%_, _^_, _≤_, _<_}
+use Prim.Native.Nat.{ℕ, zero, suc, _+_, _^_, _≤_, _<_}
 use native.Mathlib.Nat.{mod-eq-of-lt}
 use native.Mathlib.Omega.{arith}
 use native.Mathlib.Decide.{decLt}
@@ -17,7 +17,7 @@ use Rattle.word.proofs.Laws.Bytes.{leAt-sets}
 use Rattle.fields.specs.declared.Width.the-variants.{W6, W8, W16, W32, W64}
 use Rattle.fields.specs.declared.Field.{Field}
 use Rattle.fields.specs.declared.Field.the-variants.{U, I, S, B, J, Cb, Cj, Call, Data}
-use Rattle.fields.specs.Layouts.{read, put, outside}
+use Rattle.fields.specs.Layouts.{read, outside}
 use Rattle.fields.specs.Fields.{layout, valueBits}
 use Rattle.fields.proofs.Laws.Layouts.{total, put-lt, outside-put}
 use Rattle.riscv.specs.declared.forms.Form.{Form}
@@ -39,7 +39,7 @@ use Rattle.rela.proofs.Laws.Sites.{store-inside}
 use Rattle.rela.proofs.Laws.Shape.{shape-inside}
 use Rattle.relocate.proofs.Laws.Search.{kept-rules}
 use Rattle.patch.specs.Patches.{patched}
-use Rattle.patch.specs.Sections.{sumAt, pairDistance, applied, after}
+use Rattle.patch.specs.Sections.{sumAt, pairDistance, after}
 use Rattle.patch.specs.Promises.{stackStep, stackOn, stackAt, Said, Stored, ReadsBack}
 use Rattle.patch.specs.Facts.{Checked}
 use Rattle.patch.proofs.Laws.Sections.{applied-store, applied-marker}

@@ -1,7 +1,6 @@
 -- What a relocation stored is what document 01's table says, read by the manual's fields. Assumes nothing.
 use mathlib.Core.Path.{_≡_, refl, sym, ap, _∙_}
-use mathlib.Core.Bool.{Bool, true, false, not, _&&_}
-use mathlib.Core.List.{List, [], _∷_}
+use mathlib.Core.Bool.{Bool, true, false, _&&_}
 use Prim.Native.Nat.{ℕ, _+_, _*_, _/_, _%_, _^_, _<_}
 use native.Mathlib.Nat.{mod-eq-of-lt, mod-lt, mod-one}
 use native.Mathlib.Omega.{arith}
@@ -9,10 +8,9 @@ use lib.Dec.{eqb}
 use lib.Pow.{pow-pos}
 use lib.IntN.{ℤ, pos, _+ℤ_}
 use borrow.Author.Tests.{eqb-true}
-use Rattle.word.specs.Whole.{residue, signed, even, minus}
+use Rattle.word.specs.Whole.{residue, signed, minus}
 use Rattle.word.proofs.Laws.Tests.{and-left, and-right}
 use Rattle.word.proofs.Laws.Whole.{residue-lt, signed-residue}
-use Rattle.fields.specs.declared.Width.{Width}
 use Rattle.fields.specs.declared.Field.{Field}
 use Rattle.fields.specs.declared.Field.the-variants.{U, I, S, B, J, Cb, Cj, Call, Data}
 use Rattle.fields.specs.Layouts.{formatU, formatI, read, put}
@@ -34,7 +32,7 @@ use Rattle.relocate.specs.Rules.{reachesWell}
 use Rattle.rela.specs.Facts.{isDataField}
 use Rattle.rela.proofs.Laws.Widths.{never}
 use Rattle.rela.proofs.Laws.Decisions.{holds, decided}
-use Rattle.patch.specs.Patches.{highPart, lowPart, calculated, patched}
+use Rattle.patch.specs.Patches.{highPart, lowPart, patched}
 use Rattle.patch.specs.Promises.{Said}
 
 -- ---- which fields the table has for a calculation

@@ -2,11 +2,10 @@
 use mathlib.Core.Path.{_≡_, refl, sym, ap, _∙_}
 use mathlib.Core.Bool.{Bool, true, false, _&&_}
 use mathlib.Core.List.{List}
-use Prim.Native.Nat.{ℕ, zero, suc, _+_, _%_, _^_, _≤_, _<_}
+use Prim.Native.Nat.{ℕ, _+_, _^_, _≤_, _<_}
 use native.Mathlib.Nat.{mod-eq-of-lt}
 use native.Mathlib.Omega.{arith}
-use lib.ListN.{length}
-use lib.Dec.{eqb, ltb}
+use lib.Dec.{eqb}
 use lib.IntN.{ℤ, pos, _+ℤ_, _-ℤ_}
 use lib.Seq.{sets}
 use borrow.Author.Tests.{eqb-true, lt-ltb, le-ltb}
@@ -32,7 +31,7 @@ use Rattle.place.specs.declared.SymbolValue.{SymbolValue}
 use Rattle.place.specs.Values.{symbolValue}
 use Rattle.rela.specs.declared.sites.Site.{Site}
 use Rattle.relocate.specs.declared.search.RelocationCheck.the-variants.{Passed}
-use Rattle.rela.specs.Sites.{siteAt, count, entry, effect, offset, A, P, found}
+use Rattle.rela.specs.Sites.{siteAt, count, entry, effect, offset, P, found}
 use Rattle.relocate.specs.Values.{S, T}
 use Rattle.rela.specs.Effects.{takesPair, isStore}
 use Rattle.rela.specs.Shape.{end}

@@ -1,9 +1,8 @@
 -- ADD, SUB and SET on a field, as one whole number. Assumes nothing.
 use mathlib.Core.Path.{_≡_, refl, sym, ap, _∙_}
-use mathlib.Core.Bool.{Bool, true, false}
+use mathlib.Core.Bool.{true}
 use Prim.Native.Nat.{ℕ, _+_, _%_, _^_, _<_}
-use native.Mathlib.Nat.{mod-eq-of-lt, mod-lt, mod-one, mod-mod}
-use native.Mathlib.Omega.{arith}
+use native.Mathlib.Nat.{mod-eq-of-lt, mod-lt, mod-one}
 use lib.Pow.{pow-pos}
 use lib.IntN.{ℤ, pos, _+ℤ_, _-ℤ_}
 use Rattle.word.specs.Whole.{residue}
@@ -13,7 +12,7 @@ use Rattle.fields.specs.declared.Width.{Width}
 use Rattle.fields.specs.declared.Width.the-variants.{W6, W8, W16, W32, W64}
 use Rattle.fields.specs.declared.Field.{Field}
 use Rattle.fields.specs.declared.Field.the-variants.{U, I, S, B, J, Cb, Cj, Call, Data}
-use Rattle.fields.specs.Layouts.{read, put, outside}
+use Rattle.fields.specs.Layouts.{read, put}
 use Rattle.fields.specs.Fields.{layout, valueBits, bits, dataLayout}
 use Rattle.fields.proofs.Laws.Fields.{reads-back, read-whole, read-six}
 use Rattle.riscv.specs.declared.types.Calculation.{Calculation}

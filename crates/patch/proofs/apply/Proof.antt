@@ -1,9 +1,8 @@
 -- `patch::apply` meets its contract. Assumes nothing.
-use mathlib.Core.Path.{_≡_, sym, ap, _∙_}
-use Prim.Native.Nat.{_+_, _≤_}
+use mathlib.Core.Path.{sym, ap, _∙_}
 use native.Mathlib.Omega.{arith}
 use Rattle.riscv.specs.Types.{decision}
-use Rattle.rela.specs.Sites.{entry, offset, effect}
+use Rattle.rela.specs.Sites.{entry, offset}
 use Rattle.rela.specs.Effects.{isStore, touched, needsPair}
 use Rattle.rela.proofs.Laws.Decisions.{store-width, store-data}
 use Rattle.rela.proofs.Laws.Sites.{found-length, store-inside}
@@ -111,7 +110,7 @@ returns c =
     let kept = kept-rules s o (a .addresses) (a .site) (a .j) (f .3 .kept (a .j) (f .4)) in
     let place = place-read s (a .site) (a .j) _ _ r (c .before .before .before .before .before .place-of .ensures) (f .3 .site) (shape-inside s (a .site) (a .j) (kept .shape)) (ap isStore told) in
     c .before .before .write-bytes .ensures
-    ∙ applied-read s o (a .addresses) (a .site) (a .j) _ _ _ _ (a .part .now) _ _ _ _ _ _ told (ap (λ r. r .offset .0) r) (c .before .before .before .before .before .before .read-bytes .ensures) (omega arith) (c .before .before .before .before .before .before .before .before .before .sum-at .ensures) place (c .before .before .before .before .before .before .before .before .distance-for .ensures) (c .before .before .before .patch .ensures)
+    ∙ applied-read s o (a .addresses) (a .site) (a .j) _ _ _ _ (a .part .now) _ _ _ _ _ _ told (ap (λ r. r .offset .0) r) (c .before .before .before .before .before .before .read-bytes .ensures) (omega arith) (c .before .before .before .before .before .before .before .before .before .sum-at .ensures) place (λ e. c .before .before .before .before .before .before .before .before .distance-for .ensures ∙ rw e) (c .before .before .before .patch .ensures)
 
 returns-2 : tie.Need-returns-2
 returns-2 c =

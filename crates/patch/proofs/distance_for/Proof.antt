@@ -1,8 +1,5 @@
 -- `patch::distance_for` meets its contract. Assumes nothing.
-use mathlib.Core.Path.{_≡_, sym, _∙_}
-use mathlib.Core.Bool.{true}
-use Rattle.rela.specs.Effects.{takesPair}
-use Rattle.rela.proofs.Laws.Widths.{never}
+use mathlib.Core.Path.{sym, _∙_}
 use borrow.Author.Needs.{needs}
 use Rattle.patch.proofs.distance_for.Statement.{statement}
 use Rattle.patch.proofs.distance_for.Tie as tie
@@ -17,10 +14,10 @@ pair-distance-requires c κs =
     (f .0, f .1, f .2, f .3, known .0, known .1)
 
 returns : tie.Need-returns
-returns c = λ _. c .pair-distance .ensures
+returns c = rw (← (c .before .before .takes-pair .ensures), c .before .if1 .taken) (c .pair-distance .ensures)
 
 returns-2 : tie.Need-returns-2
-returns-2 c = λ e. never (sym (c .if1 .left) ∙ c .before .takes-pair .ensures ∙ e)
+returns-2 c = rw (← (c .before .takes-pair .ensures), c .if1 .left)
 
 pub distance-for-spec : {M : Type 1} → statement M
 distance-for-spec =

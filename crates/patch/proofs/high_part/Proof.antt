@@ -1,6 +1,6 @@
 -- `patch::high_part` meets its contract. Assumes nothing.
-use mathlib.Core.Path.{_≡_, ap}
-use Prim.Native.Nat.{_*_, _-_, _^_, _<_}
+use mathlib.Core.Path.{ap}
+use Prim.Native.Nat.{_*_, _^_, _<_}
 use native.Mathlib.Nat.{mod-lt}
 use native.Mathlib.Omega.{arith}
 use lib.Pow.{pow-pos}

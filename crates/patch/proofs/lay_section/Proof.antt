@@ -1,12 +1,11 @@
 -- `patch::lay_section` meets its contract. Assumes nothing.
 use mathlib.Core.Path.{_≡_, sym, ap, _∙_, subst}
-use mathlib.Core.Bool.{true}
 use Prim.Native.Nat.{_≤_, _<_}
 use native.Mathlib.Omega.{arith}
 use lib.ListN.{length}
 use Rattle.word.proofs.Laws.Lists.{length-part}
 use Rattle.elf.specs.Headers.{sectionCount}
-use Rattle.elf.specs.Sections.{sectionAt, countingRela}
+use Rattle.elf.specs.Sections.{sectionAt}
 use Rattle.elf.specs.Entries.{bytesOf}
 use Rattle.validate.proofs.Laws.Bounds.{loaded-inside}
 use Rattle.rela.specs.Sites.{siteAt, count, found}

@@ -1,6 +1,6 @@
 -- Laws of check 9. Assumes nothing.
 use mathlib.Core.Path.{_≡_, refl, sym, ap, _∙_}
-use mathlib.Core.Bool.{Bool, true, false, not, cond, _&&_}
+use mathlib.Core.Bool.{Bool, true, false, not, cond}
 use mathlib.Core.List.{List}
 use Prim.Native.Nat.{ℕ, zero, suc, _-_, _^_, _≤_, _<_}
 use native.Mathlib.Omega.{arith}
@@ -10,8 +10,7 @@ use borrow.Author.Tests.{leb-true, not-true}
 use Rattle.word.proofs.Laws.Tests.{and-left, and-right}
 use Rattle.riscv.specs.declared.types.Decision.the-variants.{Align}
 use Rattle.rela.specs.declared.sites.Site.{Site}
-use Rattle.rela.specs.declared.shape.Previous.{Previous}
-use Rattle.rela.specs.declared.shape.Previous.the-variants.{Nothing, Entry}
+use Rattle.rela.specs.declared.shape.Previous.the-variants.{Entry}
 use Rattle.rela.specs.Sites.{entry, offset, effect, A}
 use Rattle.rela.specs.Effects.{isStore, isRefused}
 use Rattle.rela.specs.Shape.{end, neverFalls, staysInside, previous, noOverlap, addendWell, shapeWell}

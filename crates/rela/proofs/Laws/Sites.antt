@@ -1,28 +1,23 @@
 -- Sites of a sound object. Assumes nothing.
-use mathlib.Core.Path.{_≡_, refl, sym, ap, _∙_}
-use mathlib.Core.Bool.{Bool, true, false, not, cond, _&&_, _||_}
+use mathlib.Core.Path.{_≡_}
+use mathlib.Core.Bool.{true, not}
 use mathlib.Core.List.{List}
-use Prim.Native.Nat.{ℕ, _+_, _/_, _^_, _≤_, _<_}
+use Prim.Native.Nat.{ℕ, _+_, _≤_, _<_}
 use native.Mathlib.Omega.{arith}
-use lib.ListN.{length, getD}
-use lib.Dec.{leb, eqb}
-use borrow.Author.Tests.{leb-true, eqb-true}
-use Rattle.word.specs.Bytes.{part}
-use Rattle.word.proofs.Laws.Tests.{and-left, and-right}
+use lib.ListN.{length}
+use lib.Dec.{eqb}
+use borrow.Author.Tests.{eqb-true}
+use Rattle.word.proofs.Laws.Tests.{and-left}
 use Rattle.word.proofs.Laws.Lists.{length-part}
 use Rattle.elf.specs.Headers.{sectionCount}
-use Rattle.elf.specs.Sections.{RELA, NULL, NOBITS, sectionAt, allocated, loaded, targets, countingRela, relocationsIn}
+use Rattle.elf.specs.Sections.{RELA, NOBITS, sectionAt, allocated, loaded, targets, countingRela, relocationsIn}
 use Rattle.elf.specs.Entries.{bytesOf}
 use Rattle.validate.specs.Sound.{SoundObject}
 use Rattle.validate.proofs.Laws.Bounds.{loaded-inside}
-use Rattle.riscv.specs.declared.types.Decision.{Decision}
-use Rattle.riscv.specs.declared.types.Decision.the-variants.{Store}
-use Rattle.riscv.specs.Types.{decision}
 use Rattle.rela.specs.declared.sites.Site.{Site}
-use Rattle.rela.specs.Sites.{siteAt, count, entry, offset, effect, found}
+use Rattle.rela.specs.Sites.{siteAt, count, offset, effect, found}
 use Rattle.rela.specs.Effects.{touched}
-use Rattle.rela.specs.Facts.{SoundSite, There, Placed, isWidth}
-use Rattle.rela.proofs.Laws.Decisions.{store-width}
+use Rattle.rela.specs.Facts.{SoundSite, Placed}
 
 -- ---- the bytes of the target
 

@@ -14,7 +14,7 @@ use Rattle.word.proofs.Laws.Tests.{and-left}
 use Rattle.elf.specs.declared.Relocation.{Relocation}
 use Rattle.elf.specs.Entries.{symbolCount}
 use Rattle.place.specs.declared.SymbolValue.{SymbolValue}
-use Rattle.place.specs.declared.SymbolValue.the-variants.{Resolved, Unresolved}
+use Rattle.place.specs.declared.SymbolValue.the-variants.{Unresolved}
 use Rattle.place.specs.Values.{symbolValue}
 use Rattle.fields.specs.declared.Field.{Field}
 use Rattle.riscv.specs.declared.forms.Form.{Form}

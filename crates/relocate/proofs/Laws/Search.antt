@@ -2,14 +2,13 @@
 use mathlib.Core.Path.{_≡_, refl, sym, ap, _∙_}
 use mathlib.Core.Bool.{Bool, true, false, cond}
 use mathlib.Core.List.{List}
-use Prim.Native.Nat.{ℕ, zero, suc, _+_, _-_, _≤_, _<_}
-use native.Mathlib.Nat.{add-sub-cancel-left}
+use Prim.Native.Nat.{ℕ, suc, _+_, _-_, _<_}
 use native.Mathlib.Omega.{arith}
 use lib.Dec.{ltb}
 use borrow.Author.Tests.{lt-ltb, le-ltb, ltb-false}
 use Rattle.word.specs.First.{first}
 use Rattle.word.specs.Sums.{sum}
-use Rattle.word.proofs.Laws.First.{first-is, first-below, first-le}
+use Rattle.word.proofs.Laws.First.{first-is, first-below}
 use Rattle.word.proofs.Laws.Sums.{sum-mono}
 use Rattle.elf.specs.declared.Location.{Location}
 use Rattle.elf.specs.Headers.{sectionCount}

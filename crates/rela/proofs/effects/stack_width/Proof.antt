@@ -1,6 +1,4 @@
 -- `rela::effects::stack_width` meets its contract. Assumes nothing.
-use mathlib.Core.Path.{sym, ap, _∙_}
-use Rattle.rela.specs.Effects.{stackWidth}
 use borrow.Author.Needs.{needs}
 use Rattle.rela.proofs.effects.stack_width.Statement.{statement}
 use Rattle.rela.proofs.effects.stack_width.Tie as tie

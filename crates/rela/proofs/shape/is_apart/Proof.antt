@@ -1,9 +1,6 @@
 -- `rela::shape::is_apart` meets its contract. Assumes nothing.
 use native.Mathlib.Omega.{arith}
-use mathlib.Core.Path.{_≡_, ap, _∙_}
 use Prim.Native.Nat.{_≤_}
-use Rattle.riscv.specs.Types.{decision}
-use Rattle.rela.specs.Effects.{touched}
 use Rattle.rela.specs.Shape.{sharesPlace}
 use Rattle.rela.proofs.Laws.Decisions.{touched-small}
 use borrow.Author.Needs.{needs}

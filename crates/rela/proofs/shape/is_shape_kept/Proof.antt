@@ -1,5 +1,4 @@
 -- `rela::shape::is_shape_kept` meets its contract. Assumes nothing.
-use mathlib.Core.Path.{_≡_}
 use Prim.Native.Nat.{_≤_}
 use native.Mathlib.Omega.{arith}
 use Rattle.rela.specs.Shape.{staysInside, noOverlap, shapeWell}

@@ -1,10 +1,5 @@
 -- `rela::shape::never_falls` meets its contract. Assumes nothing.
-use mathlib.Core.Path.{_≡_, refl, sym}
-use mathlib.Core.Bool.{Bool}
-use Prim.Native.Nat.{ℕ, suc, _-_}
-use native.Mathlib.Omega.{arith}
-use lib.Dec.{leb}
-use Rattle.rela.specs.Sites.{offset}
+use mathlib.Core.Path.{sym}
 use Rattle.rela.specs.Shape.{neverFalls}
 use Rattle.rela.proofs.Laws.Shape.{never-falls-after}
 use borrow.Author.Needs.{needs}

@@ -1,5 +1,4 @@
 -- `rela::sites::site_at` meets its contract. Assumes nothing.
-use mathlib.Core.Path.{_≡_}
 use Prim.Native.Nat.{_<_}
 use native.Mathlib.Omega.{arith}
 use Rattle.elf.specs.Headers.{sectionCount}

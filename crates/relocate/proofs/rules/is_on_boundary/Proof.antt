@@ -1,11 +1,8 @@
 -- `relocate::rules::is_on_boundary` meets its contract. Assumes nothing.
-use mathlib.Core.Path.{_≡_, sym, ap, _∙_}
-use Prim.Native.Nat.{_+_, _^_, _≤_, _<_}
+use Prim.Native.Nat.{_≤_}
 use native.Mathlib.Omega.{arith}
 use lib.Pow.{pow-pos}
-use Rattle.word.specs.Whole.{signed}
 use Rattle.word.specs.Powers.{ceilPower, ceilLog}
-use Rattle.relocate.specs.Rules.{boundaryWell}
 use Rattle.relocate.proofs.Laws.Rules.{boundary-is}
 use borrow.Author.Needs.{needs}
 use Rattle.relocate.proofs.rules.is_on_boundary.Statement.{statement}

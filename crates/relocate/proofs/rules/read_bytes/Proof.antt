@@ -1,8 +1,6 @@
 -- `relocate::rules::read_bytes` meets its contract. Assumes nothing.
-use mathlib.Core.Path.{_≡_, ap, _∙_}
-use Prim.Native.Nat.{ℕ}
+use mathlib.Core.Path.{_≡_}
 use native.Mathlib.Omega.{arith}
-use Rattle.word.specs.Bytes.{leAt}
 use Rattle.rela.proofs.Laws.Widths.{last-width}
 use borrow.Author.Needs.{needs}
 use Rattle.relocate.proofs.rules.read_bytes.Statement.{statement}
