@@ -1,4 +1,3 @@
 -- The laws of the definitions in specs/.
 pub mod Judgement
 pub mod Laying
-pub mod Demands

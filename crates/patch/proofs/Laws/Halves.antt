@@ -41,17 +41,15 @@ use Rattle.patch.specs.Facts.{Checked}
 use Rattle.patch.proofs.Laws.ReadBack.{read-back}
 
 -- what is read of each, added up
-add-up : (f g : Field) (w v d : ℕ) → d < 2 ^ 32 → read (layout f) w ≡ highPart d → signed 12 (read (layout g) v) ≡ low 32 d → AddUp f w g v d
+pub add-up : (f g : Field) (w v d : ℕ) → d < 2 ^ 32 → read (layout f) w ≡ highPart d → signed 12 (read (layout g) v) ≡ low 32 d → AddUp f w g v d
 add-up f g w v d h p q =
     ap (λ n. residue 32 (pos n +ℤ signed 12 (read (layout g) v))) p
     ∙ ap (λ z. residue 32 (pos (highPart d) +ℤ z)) q
     ∙ halves-sum 32 d
     ∙ mod-eq-of-lt h
 
-module _ (object order addresses : List ℕ) (x : Site) (k : Checked object order addresses x) where
-  abbrev final : List ℕ
-  final = after object order addresses x (count x)
-
+-- a section of which every relocation is read back
+module _ (object order addresses : List ℕ) (x : Site) (final : List ℕ) (back : (j : ℕ) → j < count x → ReadsBack object order addresses x final j) where
   abbrev t : ℕ → ℕ
   t j = T (S (valueAt object order addresses x j)) (A object x j)
 
@@ -61,8 +59,8 @@ module _ (object order addresses : List ℕ) (x : Site) (k : Checked object orde
       Stored d (found object x) final (offset object x j) (t j) (P object x j) (pairDistance object order addresses x j)
       (λ v. stackAt object order addresses x (offset object x j) v (count x))
 
-  says : (j : ℕ) → j < count x → (d : Decision) → effect object x j ≡ d → Says j d
-  says j h d e = subst (Says j) e (unfold ReadsBack in read-back object order addresses x k j h)
+  pub says : (j : ℕ) → j < count x → (d : Decision) → effect object x j ≡ d → Says j d
+  says j h d e = subst (Says j) e (unfold ReadsBack in back j h)
 
   -- a pair is a PCREL_HI20
   hi20 : (j : ℕ) (value : ℕ) → isPair object x value j ≡ true → effect object x j ≡ Store HighPcRelative U Auipc 4
@@ -70,9 +68,9 @@ module _ (object order addresses : List ℕ) (x : Site) (k : Checked object orde
   hi20 j value e = ap decision (eqb-true (entry object x j .kind) PCREL_HI20 (and-left (eqb (entry object x j .kind) PCREL_HI20) (eqb (offset object x j) value) e))
 
   -- a PCREL_LO12 has one
-  has-pair : (j : ℕ) → j < count x → needsPair (effect object x j) ≡ true → (i : ℕ) × (pairOf object x (symbol object x j .value) ≡ At i)
+  has-pair : Checked object order addresses x → (j : ℕ) → j < count x → needsPair (effect object x j) ≡ true → (i : ℕ) × (pairOf object x (symbol object x j .value) ≡ At i)
   unfolding pairWell
-  has-pair j h n = go (pairOf object x (symbol object x j .value)) refl (one n (kept-rules object order addresses x j (k .kept j h) .pair))
+  has-pair k j h n = go (pairOf object x (symbol object x j .value)) refl (one n (kept-rules object order addresses x j (k .kept j h) .pair))
     where
       one : needsPair (effect object x j) ≡ true → (not (needsPair (effect object x j)) || isOne (pairOf object x (symbol object x j .value))) ≡ true
           → isOne (pairOf object x (symbol object x j .value)) ≡ true
@@ -87,16 +85,16 @@ module _ (object order addresses : List ℕ) (x : Site) (k : Checked object orde
   unfolding distanceAt minus
   distance-lt i = residue-lt 32 _
 
-  pub halves : Halves object order addresses x final
+  pub halves-of : Checked object order addresses x → Halves object order addresses x final
   unfolding distanceAt
-  halves =
+  halves-of k =
       record {
         address = λ i j hi hj f g a b m n p q same.
             let high = says i hi (Store HighAbsolute f a m) p in
             let low-half = says j hj (Store LowAbsolute g b n) q in
             add-up f g (leAt m final (offset object x i)) (leAt n final (offset object x j)) (t i) (residue-lt 32 _) (high .0) (low-half .0 ∙ ap (low 32) (sym same));
         distance = λ j hj g b n q.
-            let pair = has-pair j hj (ap needsPair q) in
+            let pair = has-pair k j hj (ap needsPair q) in
             let i : ℕ = pair .0 in
             let there = pair-there object x (symbol object x j .value) i (pair .1) in
             let high = says i (there .0) (Store HighPcRelative U Auipc 4) (hi20 i (symbol object x j .value) (there .1)) in
@@ -108,3 +106,6 @@ module _ (object order addresses : List ℕ) (x : Site) (k : Checked object orde
               add-up U g (leAt 4 final (offset object x i)) (leAt n final (offset object x j)) (distanceAt object order addresses x i) (distance-lt i) (high .0) (low-half .0 ∙ ap (low 32) same),
             );
       }
+
+pub halves : (object order addresses : List ℕ) (x : Site) → Checked object order addresses x → Halves object order addresses x (after object order addresses x (count x))
+halves object order addresses x k = halves-of object order addresses x (after object order addresses x (count x)) (read-back object order addresses x k) k

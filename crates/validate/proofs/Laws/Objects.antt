@@ -152,7 +152,7 @@ section-no-rel : (s : List ℕ) (i : ℕ) → noCountingRel s i ≡ true → cou
 unfolding noCountingRel
 section-no-rel s i e = not-true (countingRel s i) e
 
-section-sound : (s : List ℕ) (i : ℕ) → sectionWell s i ≡ true → SoundSection s i
+pub section-sound : (s : List ℕ) (i : ℕ) → sectionWell s i ≡ true → SoundSection s i
 unfolding sectionWell
 section-sound s i e =
     let h = sectionAt s i in
@@ -201,7 +201,7 @@ relocations-well : (s : List ℕ) (i : ℕ) → (countingRela s i ≡ true → S
 unfolding relocationsWell relocationsKept
 relocations-well s i f = implied _ _ (λ k. le-leb _ _ (f k .few))
 
-well-section : (s : List ℕ) (i : ℕ) → SoundSection s i → sectionWell s i ≡ true
+pub well-section : (s : List ℕ) (i : ℕ) → SoundSection s i → sectionWell s i ≡ true
 unfolding sectionWell startsNull insideFile allocatedWell noCountingRel
 well-section s i f =
     both _ _

@@ -1,0 +1,315 @@
+-- The demands at document 01's judgement. Assumes nothing.
+use mathlib.Core.Logic.{inl, inr}
+use mathlib.Core.Path.{_≡_, refl, sym, ap, subst}
+use mathlib.Core.Bool.{Bool, true, false, not, cond}
+use mathlib.Core.List.{List}
+use Prim.Native.Nat.{ℕ, _≤_, _<_}
+use native.Mathlib.Omega.{arith}
+use lib.ListN.{length}
+use lib.Dec.{leb, eqb}
+use borrow.Author.Tests.{leb-true, le-leb, eqb-true, eqb-false}
+use Rattle.order.specs.Orders.{base, wellFormed}
+use Rattle.order.specs.Windows.{lengthAllowed, windowAllowed}
+use Rattle.order.specs.Addresses.{addresses}
+use Rattle.validate.specs.declared.ObjectCheck.{ObjectCheck}
+use Rattle.validate.specs.declared.ObjectCheck.the-variants.{Passed, BadHeader, BadSection}
+use Rattle.validate.specs.Rules.{objectCheck}
+use Rattle.journal.specs.Journals.{count, held, Sound, sound, noRoom}
+use Rattle.journal.specs.Plans.{Piece, Verdict, refused, plan, spanOf}
+use Rattle.journal.specs.Calls.{Answer, done, journalUnsound, windowBroken, noneStands, journalFull, Files, refuse, succeed, installed, settle, install, rolledBack, rollback, Call, Install, Rollback, call}
+use Rattle.journal.specs.Histories.{Start, Holds}
+use Rattle.journal.proofs.Laws.Sound.{test-sound, sound-test}
+use Rattle.journal.proofs.Laws.Corollaries.{refusal-keeps}
+use Rattle.journal.proofs.Laws.History.{history-holds}
+use Rattle.place.specs.declared.Fault.{Fault}
+use Rattle.place.specs.declared.Fault.the-variants.{Nowhere, At}
+use Rattle.place.specs.Placements.{placementCheck}
+use Rattle.place.specs.Externals.{externalCheck}
+use Rattle.place.specs.Placing.{placingCheck}
+use Rattle.relocate.specs.declared.search.RelocationCheck.{RelocationCheck}
+use Rattle.relocate.specs.declared.search.RelocationCheck.the-variants.{Passed as AllKept, Broken}
+use Rattle.relocate.specs.Search.{number, relocationCheck}
+use Rattle.place.proofs.Laws.Theorems.{nothing-to-place as «none-placed»}
+use Rattle.fitter.specs.Judgement.{afterObject, afterFault, afterRelocations, planOf, judgement}
+use Rattle.fitter.proofs.Laws.Judgement.{broken-is, some-number, Fits, plan-fits}
+use Rattle.fitter.proofs.Laws.Laying.{lays-inside}
+use Rattle.demands.specs.Rules.{Rules}
+use Rattle.demands.specs.First.{nil, rule, Checks, none, one, HoldBelow, AllHold, FirstBroken, table}
+use Rattle.demands.specs.Laid.{Laid}
+use Rattle.demands.specs.Demands.{Fit, TakeBack, backTable, Demand1, Demand2}
+use Rattle.demands.proofs.Laws.First.{none-broken, one-first, AllAbove, above, Told, later, at-once, broken-once}
+use Rattle.demands.proofs.Laws.Rules.{clash}
+use Rattle.demands.proofs.Laws.Told.{told}
+use Rattle.demands.proofs.Laws.Laid.{laid-well}
+
+-- the two calls that the fitter's contracts name
+abbrev pub ours : Fit
+ours = install judgement
+
+abbrev pub back : TakeBack
+back = rollback
+
+-- ---- every rule, from the table and back
+
+holds-once : {R : Type 0} (n : ℕ) → HoldBelow (rule n (λ _. R) nil) 1 → R
+holds-once n h = h 0 (omega arith) .0
+
+rules-hold : (object order : List ℕ) (f : Files) → AllHold (table object order f) → Rules object order f
+unfolding table
+rules-hold object order f h1 =
+    let h2 = h1 .1 in
+    let h3 = h2 .1 in
+    let h4 = h3 .1 in
+    let h5 = h4 .1 in
+    let hs = h5 .1 in
+    let h6 = hs .1 in
+    let h7 = h6 .1 in
+    let h8 = h7 .1 in
+    let h9 = h8 .1 in
+    let h15 = h9 .1 in
+    record {
+      journal-sound = holds-once 1 (h1 .0);
+      order-well = holds-once 2 (h2 .0);
+      window-well = holds-once 3 (h3 .0);
+      header-well = holds-once 4 (h4 .0);
+      table-well = holds-once 5 (h5 .0);
+      sections-well = λ i l. hs .0 i l .0;
+      placements-match = λ i l. h6 .0 i l .0;
+      externals-match = λ k l. h7 .0 k l .0;
+      placed-well = λ i l. h8 .0 i l .0;
+      shapes = λ k l. h9 .0 k l .0;
+      symbols-resolve = λ k l. h9 .0 k l .1 .0;
+      forms-are = λ k l. h9 .0 k l .1 .1 .0;
+      one-pair-each = λ k l. h9 .0 k l .1 .1 .1 .0;
+      all-reach = λ k l. h9 .0 k l .1 .1 .1 .1 .0;
+      on-boundaries = λ k l. h9 .0 k l .1 .1 .1 .1 .1 .0;
+      room = holds-once 15 (h15 .0);
+    }
+
+hold-rules : (object order : List ℕ) (f : Files) → Rules object order f → AllHold (table object order f)
+unfolding table
+hold-rules object order f r = (
+  at-once 1 (r .journal-sound),
+  (
+    at-once 2 (r .order-well),
+    (
+      at-once 3 (r .window-well),
+      (
+        at-once 4 (r .header-well),
+        (
+          at-once 5 (r .table-well),
+          (
+            (λ i l. (r .sections-well i l, tt)),
+            (
+              (λ i l. (r .placements-match i l, tt)),
+              (
+                (λ k l. (r .externals-match k l, tt)),
+                (
+                  (λ i l. (r .placed-well i l, tt)),
+                  (
+                    (λ k l. (r .shapes k l, (r .symbols-resolve k l, (r .forms-are k l, (r .one-pair-each k l, (r .all-reach k l, (r .on-boundaries k l, tt))))))),
+                    (at-once 15 (r .room), tt),
+                  ),
+                ),
+              ),
+            ),
+          ),
+        ),
+      ),
+    ),
+  ),
+)
+
+-- ---- an answer by its number and place
+
+numbers-above : (object order : List ℕ) (f : Files) → AllAbove (table object order f)
+unfolding table
+numbers-above object order f = (
+  (omega arith, tt),
+  (
+    (omega arith, tt),
+    (
+      (omega arith, tt),
+      (
+        (omega arith, tt),
+        (
+          (omega arith, tt),
+          (
+            (omega arith, tt),
+            (
+              (omega arith, tt),
+              (
+                (omega arith, tt),
+                (
+                  (omega arith, tt),
+                  ((omega arith, (omega arith, (omega arith, (omega arith, (omega arith, (omega arith, tt)))))), ((omega arith, tt), tt)),
+                ),
+              ),
+            ),
+          ),
+        ),
+      ),
+    ),
+  ),
+)
+
+same-answer : (a : Answer) (n p : ℕ) → a .number ≡ n → a .place ≡ p → a ≡ record { number = n; place = p }
+same-answer a n p e d = λ i. record { number = e i; place = d i }
+
+-- by what is told, an answer that is not done has a number above 0
+not-zero : (c : Checks) (a : Answer) → AllAbove c → Told c a → (a ≡ done → ⊥) → a .number ≡ 0 → ⊥
+not-zero c a up (inl t) not-done e = not-done (t .0)
+not-zero c a up (inr b) not-done e = omega (arith, above c (a .number) (a .place) up b)
+
+first-of : (c : Checks) (a : Answer) → Told c a → (a ≡ done → ⊥) → FirstBroken c (a .number) (a .place)
+first-of c a (inl t) not-done = absurd (not-done (t .0))
+first-of c a (inr b) not-done = b
+
+done-all : (c : Checks) (a : Answer) → AllAbove c → Told c a → a ≡ done → AllHold c
+done-all c a up (inl t) e = t .1
+done-all c a up (inr b) e = absurd (omega (arith, above c (a .number) (a .place) up b, ap (λ x. x .number) e))
+
+all-done : (c : Checks) (a : Answer) → Told c a → AllHold c → a ≡ done
+all-done c a (inl t) h = t .0
+all-done c a (inr b) h = absurd (none-broken c (a .number) (a .place) h b)
+
+named : (c : Checks) (a : Answer) → Told c a → (n p : ℕ) → FirstBroken c n p → a ≡ record { number = n; place = p }
+named c a (inl t) n p b = absurd (none-broken c n p (t .1) b)
+named c a (inr d) n p b = let same = one-first c (a .number) n (a .place) p d b in same-answer a n p (same .0) (same .1)
+
+-- ---- what a done install leaves
+
+-- the judgement refuses with a number above 0
+refused-above : (object order : List ℕ) (len n p : ℕ) → judgement object order len ≡ refused n p → 0 < n
+unfolding judgement
+refused-above object order len n p h =
+    go (wellFormed order) (windowAllowed (base order) len) (objectCheck object) (placementCheck object order) (externalCheck object order)
+    (placingCheck object (addresses order) (base order) len) (relocationCheck object order (addresses order)) refl h
+  where
+    by : (m q : ℕ) → 0 < m → refused m q ≡ refused n p → 0 < n
+    by m q l e = let same : m ≡ n = cc in omega arith
+
+    go : (a b : Bool) (c : ObjectCheck) (d e f : Fault) (g : RelocationCheck) → relocationCheck object order (addresses order) ≡ g
+        → cond a (cond b (afterObject c (afterFault 6 d (afterFault 7 e (afterFault 8 f (afterRelocations g (plan (planOf object order))))))) (refused 3 0)) (refused 2 0) ≡ refused n p
+        → 0 < n
+    go false b c d e f g q h = by 2 0 (omega arith) h
+    go true false c d e f g q h = by 3 0 (omega arith) h
+    go true true BadHeader d e f g q h = by 4 0 (omega arith) h
+    go true true (BadSection i) d e f g q h = by 5 i (omega arith) h
+    go true true Passed (At i) e f g q h = by 6 i (omega arith) h
+    go true true Passed Nowhere (At i) f g q h = by 7 i (omega arith) h
+    go true true Passed Nowhere Nowhere (At i) g q h = by 8 i (omega arith) h
+    go true true Passed Nowhere Nowhere Nowhere (Broken x k) q h =
+        let some : number x ≡ 0 → ⊥ = eqb-false (number x) 0 (some-number x (broken-is object order (addresses order) x k q)) in
+        by (number x) k (omega arith) h
+    go true true Passed Nowhere Nowhere Nowhere AllKept q h =
+        let z : _≡_ {A = ℕ} 0 1 = cc in
+        absurd (omega arith)
+
+record Done (object order : List ℕ) (f : Files) : Type 0 where
+  fits : Fits object order (length (f .image)) (planOf object order)
+  after-is : install judgement object order f .after ≡ installed (planOf object order) f
+
+wrong-number : {A : Type 0} (n p : ℕ) → 0 < n → _≡_ {A = Answer} (record { number = n; place = p }) done → A
+wrong-number n p l e = absurd (omega (arith, ap (λ x. x .number) e))
+
+done-leaves : (object order : List ℕ) (f : Files) → install judgement object order f .answer ≡ done → Done object order f
+unfolding install settle
+done-leaves object order f e = go (sound (f .journal) (length (f .image))) refl (judgement object order (length (f .image))) refl e
+  where
+    len : ℕ
+    len = length (f .image)
+
+    room : List Piece → Bool
+    room ps = noRoom (count (f .journal)) (held (f .journal)) (spanOf ps .size) (length (f .journal))
+
+    -- what is left is the plan's
+    left : (ps : List Piece) → Fits object order len ps → sound (f .journal) len ≡ true → judgement object order len ≡ plan ps → room ps ≡ false → Done object order f
+    left ps fits s v r =
+        let same : ps ≡ planOf object order = sym (fits .plan-is) in
+        record { fits = subst (Fits object order len) same fits; after-is = rw (s, v, r, same) }
+
+    go : (b : Bool) → sound (f .journal) len ≡ b → (v : Verdict) → judgement object order len ≡ v
+        → cond (not b) (refuse journalUnsound f) (settle f v) .answer ≡ done → Done object order f
+    go false s v q h = wrong-number 1 0 (omega arith) h
+    go true s (refused n p) q h = wrong-number n p (refused-above object order len n p q) h
+    go true s (plan ps) q h = within (room ps) refl h
+      where
+        within : (r : Bool) → room ps ≡ r → cond r (refuse journalFull f) (succeed (installed ps f)) .answer ≡ done → Done object order f
+        within true r h = wrong-number 15 0 (omega arith) h
+        within false r h = left ps (plan-fits object order len ps q) s q r
+
+-- ---- a rollback
+
+back-told : (f : Files) → Told (backTable f) (rollback f .answer)
+unfolding backTable rollback lengthAllowed
+back-told f = go (sound (f .journal) len) refl (leb len 65536) refl (eqb (count (f .journal)) 0) refl
+  where
+    len : ℕ
+    len = length (f .image)
+
+    last : Checks
+    last = one 16 (0 < count (f .journal)) none
+
+    rest : Checks
+    rest = one 3 (len ≤ 65536) last
+
+    go : (a : Bool) → sound (f .journal) len ≡ a → (b : Bool) → leb len 65536 ≡ b → (c : Bool) → eqb (count (f .journal)) 0 ≡ c
+        → Told (one 1 (Sound (f .journal) len) rest)
+        (cond (not a) (refuse journalUnsound f) (cond (not b) (refuse windowBroken f) (cond c (refuse noneStands f) (succeed (rolledBack f)))) .answer)
+    go false p b q c r = broken-once 1 rest (λ s. clash (sound (f .journal) len) p (sound-test (f .journal) len s))
+    go true p false q c r =
+        later 1 (rule 1 (λ _. Sound (f .journal) len) nil) rest windowBroken (at-once 1 (test-sound (f .journal) len p))
+        (broken-once 3 last (λ s. clash (leb len 65536) q (le-leb len 65536 s)))
+    go true p true q true r =
+        later 1 (rule 1 (λ _. Sound (f .journal) len) nil) rest noneStands (at-once 1 (test-sound (f .journal) len p))
+        (later 1 (rule 3 (λ _. len ≤ 65536) nil) last noneStands (at-once 3 (leb-true len 65536 q))
+        (broken-once 16 none (λ s. absurd (omega (arith, eqb-true (count (f .journal)) 0 r)))))
+    go true p true q false r =
+        let some : count (f .journal) ≡ 0 → ⊥ = eqb-false (count (f .journal)) 0 r in
+        inl (refl, (at-once 1 (test-sound (f .journal) len p), (at-once 3 (leb-true len 65536 q), (at-once 16 (omega arith), tt))))
+
+back-above : (f : Files) → AllAbove (backTable f)
+unfolding backTable
+back-above f = ((omega arith, tt), ((omega arith, tt), ((omega arith, tt), tt)))
+
+-- ---- demand 1
+
+pub demand-1 : Demand1 ours back
+unfolding call
+demand-1 =
+    record {
+      fit-refused = λ object order f r. first-of (table object order f) (ours object order f .answer) (told object order f) r;
+      back-refused = λ f r. first-of (backTable f) (back f .answer) (back-told f) r;
+      fit-kept = λ object order f r.
+          refusal-keeps judgement f (Install object order)
+          (not-zero (table object order f) (ours object order f .answer) (numbers-above object order f) (told object order f) r);
+      back-kept = λ f r. refusal-keeps judgement f Rollback (not-zero (backTable f) (back f .answer) (back-above f) (back-told f) r);
+    }
+
+-- ---- demand 2
+
+rules-of : (object order : List ℕ) (f : Files) → ours object order f .answer ≡ done → Rules object order f
+rules-of object order f e = rules-hold object order f (done-all (table object order f) (ours object order f .answer) (numbers-above object order f) (told object order f) e)
+
+laid-of : (object order : List ℕ) (f : Files) → Done object order f → Laid object order (f .image) (ours object order f .after .image)
+unfolding installed
+laid-of object order f d =
+    subst (Laid object order (f .image)) (sym (ap (λ g. g .image) (d .after-is))) (laid-well object order (d .fits .counts) (f .image) (d .fits .fitting))
+
+pub demand-2 : Demand2 ours
+demand-2 =
+    record {
+      done-holds = rules-of;
+      holds-done = λ object order f r. all-done (table object order f) (ours object order f .answer) (told object order f) (hold-rules object order f r);
+      refused-first = λ object order f r. first-of (table object order f) (ours object order f .answer) (told object order f) r;
+      first-refused = λ object order f n p b. named (table object order f) (ours object order f .answer) (told object order f) n p b;
+      laid = λ object order f e. laid-of object order f (done-leaves object order f e);
+      nothing-to-place = λ object order f e z t h.
+          «none-placed» object order (done-leaves object order f e .fits .fitting .placeable .named .placements) z (omega (arith, rules-of object order f e .table-well .few)) t h;
+    }
+
+-- ---- demand 3, whole: every start, every list of calls
+
+pub demand-3 : (begin : Files) → Start begin → (calls : List Call) → Holds judgement begin calls
+demand-3 begin s calls = history-holds judgement lays-inside begin s calls

@@ -1,0 +1,50 @@
+-- Demands 1 and 2, of any fit and any taking-back. Demand 3 is `Holds` of the journal. Assumes nothing: these are definitions.
+use mathlib.Core.Path.{_≡_}
+use mathlib.Core.Bool.{false}
+use mathlib.Core.List.{List}
+use Prim.Native.Nat.{ℕ, _≤_, _<_}
+use lib.ListN.{length}
+use Rattle.elf.specs.Headers.{sectionCount}
+use Rattle.elf.specs.Sections.{sectionAt, allocated}
+use Rattle.order.specs.Orders.{placementCount}
+use Rattle.order.specs.Windows.{maxImage}
+use Rattle.journal.specs.Journals.{count, Sound}
+use Rattle.journal.specs.Calls.{Files, Outcome, done}
+use Rattle.demands.specs.Rules.{Rules}
+use Rattle.demands.specs.First.{Checks, none, one, FirstBroken, table}
+use Rattle.demands.specs.Laid.{Laid}
+
+-- an install of an object by an order, and a rollback: each gives an answer, and leaves an image and a journal
+abbrev pub Fit : Type 0
+Fit = List ℕ → List ℕ → Files → Outcome Files
+
+abbrev pub TakeBack : Type 0
+TakeBack = Files → Outcome Files
+
+-- "A taking-back checks 1, 3 (length only), 16."
+unfoldable pub backTable : Files → Checks
+backTable f = one 1 (Sound (f .journal) (length (f .image))) (one 3 (length (f .image) ≤ maxImage) (one 16 (0 < count (f .journal)) none))
+
+-- "Any object, order, slot image and ledger, of any bytes and any length, gets an answer in the end": both are functions on all lists.
+pub record Demand1 (fit : Fit) (takeBack : TakeBack) : Type 0 where
+  -- "A refusal gives its number and place from document 01,"
+  pub fit-refused : (object order : List ℕ) (f : Files) → (fit object order f .answer ≡ done → ⊥)
+      → FirstBroken (table object order f) (fit object order f .answer .number) (fit object order f .answer .place)
+  pub back-refused : (f : Files) → (takeBack f .answer ≡ done → ⊥) → FirstBroken (backTable f) (takeBack f .answer .number) (takeBack f .answer .place)
+  -- "and image and ledger then hold exactly the bytes they held."
+  pub fit-kept : (object order : List ℕ) (f : Files) → (fit object order f .answer ≡ done → ⊥) → fit object order f .after ≡ f
+  pub back-kept : (f : Files) → (takeBack f .answer ≡ done → ⊥) → takeBack f .after ≡ f
+
+pub record Demand2 (fit : Fit) : Type 0 where
+  -- "A fit is done exactly when every rule of document 01 holds;"
+  pub done-holds : (object order : List ℕ) (f : Files) → fit object order f .answer ≡ done → Rules object order f
+  pub holds-done : (object order : List ℕ) (f : Files) → Rules object order f → fit object order f .answer ≡ done
+  -- "otherwise the first broken rule is named."
+  pub refused-first : (object order : List ℕ) (f : Files) → (fit object order f .answer ≡ done → ⊥)
+      → FirstBroken (table object order f) (fit object order f .answer .number) (fit object order f .answer .place)
+  pub first-refused : (object order : List ℕ) (f : Files) (n p : ℕ) → FirstBroken (table object order f) n p → fit object order f .answer ≡ record { number = n; place = p }
+  -- "Once done, each laid byte is the object's own or the field that the RISC-V ELF psABI 1.0 asks for. .. No other image byte changes."
+  pub laid : (object order : List ℕ) (f : Files) → fit object order f .answer ≡ done → Laid object order (f .image) (fit object order f .after .image)
+  -- "An order without placements fits only an object with nothing to place."
+  pub nothing-to-place : (object order : List ℕ) (f : Files) → fit object order f .answer ≡ done → placementCount order ≡ 0
+      → (t : ℕ) → t < sectionCount object → allocated (sectionAt object t) ≡ false

@@ -1,0 +1,4 @@
+pub mod Rules
+pub mod First
+pub mod Laid
+pub mod Demands

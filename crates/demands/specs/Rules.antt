@@ -1,0 +1,182 @@
+-- Every rule of document 01 as a proposition, in the order of the numbers of "When the fitter says no". Assumes nothing: these are
+-- definitions.
+use mathlib.Core.Logic.{_⊎_}
+use mathlib.Core.Path.{_≡_}
+use mathlib.Core.Bool.{true, false}
+use mathlib.Core.List.{List}
+use Prim.Native.Nat.{ℕ, suc, _+_, _*_, _%_, _^_, _≤_, _<_}
+use lib.ListN.{length, getD}
+use Rattle.word.specs.Bytes.{leAt}
+use Rattle.elf.specs.Headers.{sectionTable, sectionCount}
+use Rattle.elf.specs.Sections.{sectionAt, allocated, symbolTable}
+use Rattle.elf.specs.Entries.{symbolAt, symbolCount, relocationCount, locationOf}
+use Rattle.validate.specs.Headers.{maxObject, maxSections}
+use Rattle.validate.specs.Sound.{SoundSection}
+use Rattle.order.specs.Orders.{maxPlacements, maxExternals, base, placementCount, placement, externalsStart, externalCount, external, externalValue}
+use Rattle.order.specs.Windows.{maxImage}
+use Rattle.order.specs.Addresses.{addresses, placedAt}
+use Rattle.journal.specs.Journals.{maxEntries, oldAt, count, held, Sound}
+use Rattle.journal.specs.Plans.{spanOf}
+use Rattle.journal.specs.Calls.{Files}
+use Rattle.place.specs.Placements.{isGiven, isAllocated}
+use Rattle.place.specs.Placing.{endOf, unit, hasBytes}
+use Rattle.rela.specs.declared.sites.Site.{Site}
+use Rattle.rela.specs.Sites.{siteAt, effect, offset, A, P}
+use Rattle.rela.specs.Effects.{isRefused}
+use Rattle.rela.specs.Shape.{neverFalls, staysInside, noOverlap, addendWell}
+use Rattle.relocate.specs.Values.{valueAt, S, T}
+use Rattle.relocate.specs.Rules.{symbolWell, formWell, pairWell, distanceWell, boundaryWell}
+use Rattle.fitter.specs.Judgement.{planOf}
+
+-- ---- 1 "ledger unsound": `Sound` of the journal
+
+-- ---- 2 "order bytes malformed": "sections in a fixed order, each after its u32 count"
+
+pub record OrderWell (order : List ℕ) : Type 0 where
+  -- "window base (count 1; one u32)"
+  pub long : 16 ≤ length order
+  pub one-base : leAt 4 order 0 ≡ 1
+  -- "placements (count at most 32; row u32, address u32)"
+  pub few-placements : placementCount order ≤ maxPlacements
+  pub placements-inside : externalsStart order ≤ length order
+  -- "outside values (count at most 1,024; symbol u32, value u32)"
+  pub few-externals : externalCount order ≤ maxExternals
+  -- "no byte left over"
+  pub whole : length order ≡ externalsStart order + 8 * externalCount order
+  -- "Both lists strictly ascending by index"
+  pub placements-ascend : (i : ℕ) → suc i < placementCount order → placement order i .index < placement order (suc i) .index
+  pub externals-ascend : (i : ℕ) → suc i < externalCount order → external order i .index < external order (suc i) .index
+
+-- ---- 3 "window rule broken": "the image covers base up to base + its length; length 0 to 65,536, end at most 2^32"
+
+pub record WindowWell (start len : ℕ) : Type 0 where
+  pub short : len ≤ maxImage
+  pub ends : start + len ≤ 2 ^ 32
+
+-- ---- 4 "header or file length"
+
+pub record HeaderWell (object : List ℕ) : Type 0 where
+  -- "at most 65,536 bytes", "at least 52 bytes"
+  pub short : length object ≤ maxObject
+  pub long : 52 ≤ length object
+  -- "magic 7F 45 4C 46, class 1, data 1, ident version 1, e_type 1, e_machine 243, e_version 1, e_ehsize 52"
+  pub magic : leAt 4 object 0 ≡ 0x464C457F
+  pub class-32 : leAt 1 object 4 ≡ 1
+  pub little-endian : leAt 1 object 5 ≡ 1
+  pub ident-version : leAt 1 object 6 ≡ 1
+  pub relocatable : leAt 2 object 16 ≡ 1
+  pub risc-v : leAt 2 object 18 ≡ 243
+  pub version : leAt 4 object 20 ≡ 1
+  pub header-size : leAt 2 object 40 ≡ 52
+
+-- ---- 5 "row table (place 0) or row rule"
+
+-- "e_shentsize 40, 1 to 32 rows of 40 bytes, wholly inside the file"
+pub record TableWell (object : List ℕ) : Type 0 where
+  pub entry-size : leAt 2 object 46 ≡ 40
+  pub some : 1 ≤ sectionCount object
+  pub few : sectionCount object ≤ maxSections
+  pub inside : sectionTable object + 40 * sectionCount object ≤ length object
+
+-- of section i: `SoundSection` of `validate`, a field for each sentence
+
+-- ---- 6 "placements differ from allocated rows": a number is placed exactly when it is that of an allocated section
+
+abbrev pub PlacedAsAllocated : List ℕ → List ℕ → ℕ → Type 0
+PlacedAsAllocated object order i = isGiven (placedAt order i) ≡ isAllocated object i
+
+-- ---- 7 "outside value for a wrong symbol": "only undefined symbols (section 0, index above 0)"
+
+pub record Undefined (object : List ℕ) (k : ℕ) : Type 0 where
+  pub above : 0 < k
+  pub there : k < symbolCount object
+  pub no-section : symbolAt object (sectionAt object (symbolTable object)) k .section ≡ 0
+
+abbrev pub ValuedIfUndefined : List ℕ → List ℕ → ℕ → Type 0
+ValuedIfUndefined object order k = isGiven (externalValue order k) ≡ true → Undefined object k
+
+-- ---- 8 "placing", of an allocated section i
+
+pub record PlacedWell (object a : List ℕ) (start len i : ℕ) : Type 0 where
+  -- "an address is a multiple of the row's alignment (0 counts as 1)"
+  pub aligned : getD a i 0 % unit (sectionAt object i .alignment) ≡ 0
+  -- "the row ends at or below 2^32"
+  pub ends : endOf object a i ≤ 2 ^ 32
+  -- "a laid row of size above 0 lies in the window"
+  pub in-window : hasBytes (sectionAt object i) ≡ true → (start ≤ getD a i 0) × (endOf object a i ≤ start + len)
+  -- "two rows of size above 0 share no address, the higher row being at fault"
+  pub apart : (j : ℕ) → j < i → allocated (sectionAt object j) ≡ true → 0 < sectionAt object i .size → 0 < sectionAt object j .size
+      → (endOf object a j ≤ getD a i 0) ⊎ (endOf object a i ≤ getD a j 0)
+
+abbrev pub PlacedIfAllocated : List ℕ → List ℕ → ℕ → ℕ → Type 0
+PlacedIfAllocated object order len i = allocated (sectionAt object i) ≡ true → PlacedWell object (addresses order) (base order) len i
+
+-- ---- 9 to 14, of relocation j of a site; each test is a sentence of document 01
+
+-- 9 "type, offset, overlap, addend rule"
+pub record ShapeWell (object : List ℕ) (x : Site) (j : ℕ) : Type 0 where
+  pub known : isRefused (effect object x j) ≡ false
+  pub rising : neverFalls object x j ≡ true
+  pub inside : staysInside object x j ≡ true
+  pub clear : noOverlap object x j ≡ true
+  pub addend : addendWell (effect object x j) (offset object x j) (x .target .size) (A object x j) ≡ true
+
+module _ (object order : List ℕ) where
+  -- relocation k, "counted from 0 over all": its site, and its number there
+  abbrev pub site : ℕ → Site
+  site k = siteAt object (addresses order) (locationOf object k .section)
+
+  abbrev pub entryOf : ℕ → ℕ
+  entryOf k = locationOf object k .entry
+
+  abbrev pub Shape : ℕ → Type 0
+  Shape k = ShapeWell object (site k) (entryOf k)
+
+  -- 10 "symbol does not resolve (24, 25: or is not in the target row)"
+  abbrev pub SymbolResolves : ℕ → Type 0
+  SymbolResolves k = symbolWell object (site k) (entryOf k) (valueAt object order (addresses order) (site k) (entryOf k)) ≡ true
+
+  -- 11 "instruction form"
+  abbrev pub FormIs : ℕ → Type 0
+  FormIs k = formWell object (site k) (entryOf k) ≡ true
+
+  -- 12 "not exactly one partner"
+  abbrev pub OnePair : ℕ → Type 0
+  OnePair k = pairWell object (site k) (entryOf k) ≡ true
+
+  -- 13 "distance odd or too far"
+  abbrev pub Reaches : ℕ → Type 0
+  Reaches k =
+      distanceWell (effect object (site k) (entryOf k)) (T (S (valueAt object order (addresses order) (site k) (entryOf k))) (A object (site k) (entryOf k)))
+      (P object (site k) (entryOf k))
+      ≡ true
+
+  -- 14 "padding not on its boundary"
+  abbrev pub OnBoundary : ℕ → Type 0
+  OnBoundary k = boundaryWell (effect object (site k) (entryOf k)) (P object (site k) (entryOf k)) (A object (site k) (entryOf k)) ≡ true
+
+-- ---- 15 "n is 16, or 136 + k + span above ledger length"
+
+pub record Room (object order journal : List ℕ) : Type 0 where
+  pub entry-free : count journal ≡ maxEntries → ⊥
+  pub bytes-free : oldAt + held journal + spanOf (planOf object order) .size ≤ length journal
+
+-- ---- all of them
+
+pub record Rules (object order : List ℕ) (f : Files) : Type 0 where
+  pub journal-sound : Sound (f .journal) (length (f .image))
+  pub order-well : OrderWell order
+  pub window-well : WindowWell (base order) (length (f .image))
+  pub header-well : HeaderWell object
+  pub table-well : TableWell object
+  pub sections-well : (i : ℕ) → i < sectionCount object → SoundSection object i
+  pub placements-match : (i : ℕ) → i < 2 ^ 32 → PlacedAsAllocated object order i
+  pub externals-match : (k : ℕ) → k < 2 ^ 32 → ValuedIfUndefined object order k
+  pub placed-well : (i : ℕ) → i < sectionCount object → PlacedIfAllocated object order (length (f .image)) i
+  pub shapes : (k : ℕ) → k < relocationCount object → Shape object order k
+  pub symbols-resolve : (k : ℕ) → k < relocationCount object → SymbolResolves object order k
+  pub forms-are : (k : ℕ) → k < relocationCount object → FormIs object order k
+  pub one-pair-each : (k : ℕ) → k < relocationCount object → OnePair object order k
+  pub all-reach : (k : ℕ) → k < relocationCount object → Reaches object order k
+  pub on-boundaries : (k : ℕ) → k < relocationCount object → OnBoundary object order k
+  pub room : Room object order (f .journal)
