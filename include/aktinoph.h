@@ -1,0 +1,76 @@
+/*
+ * Aktinoph: lays RV32 ELF objects into memory images, and takes installs back, byte for byte.
+ *
+ * The static library is target/staticlib/libfitter.a, which `rt staticlib fitter` writes, for x86-64 Linux.
+ * It keeps no state, allocates nothing, and needs only memset of the C library.
+ *
+ * What a caller owes; all else is answered:
+ *   - No pointer is null, that of an empty buffer neither. An empty buffer is never read or written.
+ *   - Each buffer has its whole length, and its bytes can be read: of image and ledger also written.
+ *   - The buffers of one call do not overlap.
+ *   - No other thread uses image or ledger, or writes object or order, during the call.
+ *
+ * Lengths: any length is answered. A call can be done with an object of at most 65,536 bytes, an image of 0 to
+ * 65,536 bytes, and a ledger of at least AKTINOPH_LEDGER_HEAD bytes and the old bytes of every standing fit.
+ * A ledger of zero bytes is one in which no fit stands.
+ *
+ * Every answer but AKTINOPH_DONE leaves image and ledger as they were, byte for byte. Object and order never change.
+ */
+#ifndef AKTINOPH_H
+#define AKTINOPH_H
+
+#include <stddef.h>
+#include <stdint.h>
+
+#ifdef __cplusplus
+extern "C" {
+#endif
+
+/* The ledger's bytes before the old bytes: count, 16 entries, count. */
+#define AKTINOPH_LEDGER_HEAD 136
+
+/*
+ * The numbers, in the order of the checks: an answer is the first check that fails. The place is 0 where none is
+ * named below. Relocations are counted from 0 over all RELA sections that count, by section and then file order.
+ */
+enum aktinoph_answer {
+    AKTINOPH_DONE = 0,                   /* done */
+    AKTINOPH_JOURNAL_UNSOUND = 1,        /* the ledger is not sound */
+    AKTINOPH_ORDER_MALFORMED = 2,        /* the order's bytes are malformed */
+    AKTINOPH_WINDOW_BROKEN = 3,          /* the image is too long, or (fit) the window ends above 2^32 */
+    AKTINOPH_BAD_HEADER = 4,             /* the ELF header or the object's length is not allowed */
+    AKTINOPH_BAD_SECTION = 5,            /* a section header breaks a rule; place: section, or 0 for the whole table */
+    AKTINOPH_PLACEMENTS_DIFFER = 6,      /* placed are not exactly the allocated sections; place: lowest section in one only */
+    AKTINOPH_WRONG_EXTERNAL = 7,         /* a value for a symbol that is not undefined; place: lowest such symbol */
+    AKTINOPH_MISPLACED = 8,              /* misaligned, outside the window, or overlapping; place: section */
+    AKTINOPH_RELOCATION_SHAPE = 9,       /* type, offset, overlap or addend is not allowed; place: relocation */
+    AKTINOPH_SYMBOL_UNRESOLVED = 10,     /* the symbol does not resolve; place: relocation */
+    AKTINOPH_WRONG_INSTRUCTION = 11,     /* not an instruction that the type is for; place: relocation */
+    AKTINOPH_NOT_ONE_PAIR = 12,          /* a PCREL_LO12 without exactly one PCREL_HI20; place: relocation */
+    AKTINOPH_OUT_OF_REACH = 13,          /* the distance is odd or too far; place: relocation */
+    AKTINOPH_PADDING_OFF_BOUNDARY = 14,  /* ALIGN's padding does not end on its boundary; place: relocation */
+    AKTINOPH_JOURNAL_FULL = 15,          /* the ledger has 16 fits, or no room for the old bytes */
+    AKTINOPH_NOTHING_STANDS = 16         /* no fit stands (take-back only) */
+};
+
+/*
+ * Lays the object's sections into the image as the order says, with relocations applied, and records the old bytes
+ * in the ledger. Answers 0 to 15.
+ */
+uint64_t aktinoph_fit(const uint8_t *object, size_t object_len, const uint8_t *order, size_t order_len,
+                      uint8_t *image, size_t image_len, uint8_t *ledger, size_t ledger_len);
+
+/* Takes the newest standing fit back: writes its old bytes into the image. Answers 0, 1, 3 or 16. */
+uint64_t aktinoph_take_back(uint8_t *image, size_t image_len, uint8_t *ledger, size_t ledger_len);
+
+/* The number of an answer: its low eight bits. */
+static inline unsigned aktinoph_number(uint64_t answer) { return (unsigned)(answer & 0xFF); }
+
+/* The place of an answer: its upper 32 bits. */
+static inline uint32_t aktinoph_place(uint64_t answer) { return (uint32_t)(answer >> 32); }
+
+#ifdef __cplusplus
+}
+#endif
+
+#endif
