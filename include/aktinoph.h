@@ -40,7 +40,7 @@ enum aktinoph_answer {
     AKTINOPH_WINDOW_BROKEN = 3,          /* the image is too long, or (fit) the window ends above 2^32 */
     AKTINOPH_BAD_HEADER = 4,             /* the ELF header or the object's length is not allowed */
     AKTINOPH_BAD_SECTION = 5,            /* a section header breaks a rule; place: section, or 0 for the whole table */
-    AKTINOPH_PLACEMENTS_DIFFER = 6,      /* placed are not exactly the allocated sections; place: lowest section in one only */
+    AKTINOPH_PLACEMENTS_DIFFER = 6,      /* only placed, or only allocated; place: the lowest such section */
     AKTINOPH_WRONG_EXTERNAL = 7,         /* a value for a symbol that is not undefined; place: lowest such symbol */
     AKTINOPH_MISPLACED = 8,              /* misaligned, outside the window, or overlapping; place: section */
     AKTINOPH_RELOCATION_SHAPE = 9,       /* type, offset, overlap or addend is not allowed; place: relocation */

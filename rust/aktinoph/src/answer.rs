@@ -1,0 +1,267 @@
+//! What a call answers.
+
+use std::error::Error;
+use std::fmt::{self, Display, Formatter};
+
+/// The answer of a call. The cases stand in the order of the checks, and an
+/// answer is the first check that fails.
+///
+/// A section's number counts section headers, a symbol's number counts entries
+/// of the symbol table, and a relocation's number counts from 0 over all RELA
+/// sections whose target is allocated, by section and then in file order.
+#[derive(Clone, Copy, PartialEq, Eq, Hash, Debug)]
+pub enum Answer {
+    /// 0: done.
+    Done,
+    /// 1: the ledger is not sound.
+    JournalUnsound,
+    /// 2: the order's bytes are malformed.
+    OrderMalformed,
+    /// 3: the image is too long, or the window ends above 2^32.
+    WindowBroken,
+    /// 4: the ELF header or the object's length is not allowed.
+    BadHeader,
+    /// 5: the header of this section breaks a rule, or, at 0, the whole table.
+    BadSection(u32),
+    /// 6: this section is the lowest that is only placed or only allocated.
+    PlacementsDiffer(u32),
+    /// 7: this symbol is the lowest that has a value in the order and is not
+    /// undefined.
+    WrongExternal(u32),
+    /// 8: this section is misaligned, outside the window, or overlaps a lower
+    /// one.
+    Misplaced(u32),
+    /// 9: this relocation's type, offset, overlap or addend is not allowed.
+    RelocationShape(u32),
+    /// 10: this relocation's symbol does not resolve.
+    SymbolUnresolved(u32),
+    /// 11: this relocation stands at an instruction that its type is not for.
+    WrongInstruction(u32),
+    /// 12: this PCREL_LO12 relocation has not exactly one PCREL_HI20.
+    NotOnePair(u32),
+    /// 13: this relocation's distance is odd or too far.
+    OutOfReach(u32),
+    /// 14: this ALIGN relocation's padding does not end on its boundary.
+    PaddingOffBoundary(u32),
+    /// 15: the ledger has 16 fits, or no room for the old bytes.
+    JournalFull,
+    /// 16: no fit stands. Only a taking-back answers this.
+    NothingStands,
+}
+
+impl Answer {
+    /// The answer behind what an exported function returns: the number in the
+    /// low eight bits, the place in the upper 32. The functions' contracts
+    /// allow no other codes than those of the cases, so that another one means
+    /// a library that is not this one, and panics.
+    pub(crate) fn from_code(code: u64) -> Answer {
+        let place = (code >> 32) as u32;
+        let answer = match code as u32 {
+            0 => Answer::Done,
+            1 => Answer::JournalUnsound,
+            2 => Answer::OrderMalformed,
+            3 => Answer::WindowBroken,
+            4 => Answer::BadHeader,
+            5 => Answer::BadSection(place),
+            6 => Answer::PlacementsDiffer(place),
+            7 => Answer::WrongExternal(place),
+            8 => Answer::Misplaced(place),
+            9 => Answer::RelocationShape(place),
+            10 => Answer::SymbolUnresolved(place),
+            11 => Answer::WrongInstruction(place),
+            12 => Answer::NotOnePair(place),
+            13 => Answer::OutOfReach(place),
+            14 => Answer::PaddingOffBoundary(place),
+            15 => Answer::JournalFull,
+            16 => Answer::NothingStands,
+            _ => panic!("the library answered {code:#x}, which its contract rules out"),
+        };
+        assert_eq!(answer.place(), place, "{answer:?} has no place");
+        answer
+    }
+
+    /// The answer's number, 0 to 16.
+    pub fn number(self) -> u32 {
+        match self {
+            Answer::Done => 0,
+            Answer::JournalUnsound => 1,
+            Answer::OrderMalformed => 2,
+            Answer::WindowBroken => 3,
+            Answer::BadHeader => 4,
+            Answer::BadSection(_) => 5,
+            Answer::PlacementsDiffer(_) => 6,
+            Answer::WrongExternal(_) => 7,
+            Answer::Misplaced(_) => 8,
+            Answer::RelocationShape(_) => 9,
+            Answer::SymbolUnresolved(_) => 10,
+            Answer::WrongInstruction(_) => 11,
+            Answer::NotOnePair(_) => 12,
+            Answer::OutOfReach(_) => 13,
+            Answer::PaddingOffBoundary(_) => 14,
+            Answer::JournalFull => 15,
+            Answer::NothingStands => 16,
+        }
+    }
+
+    /// The answer's place: the number of a section, a symbol or a relocation,
+    /// and 0 for answers that have none.
+    pub fn place(self) -> u32 {
+        match self {
+            Answer::BadSection(place)
+            | Answer::PlacementsDiffer(place)
+            | Answer::WrongExternal(place)
+            | Answer::Misplaced(place)
+            | Answer::RelocationShape(place)
+            | Answer::SymbolUnresolved(place)
+            | Answer::WrongInstruction(place)
+            | Answer::NotOnePair(place)
+            | Answer::OutOfReach(place)
+            | Answer::PaddingOffBoundary(place) => place,
+            _ => 0,
+        }
+    }
+
+    /// Whether the call was done.
+    pub fn is_done(self) -> bool {
+        self == Answer::Done
+    }
+
+    /// The answer as a result, for `?`.
+    pub fn check(self) -> Result<(), Refusal> {
+        match self {
+            Answer::Done => Ok(()),
+            refused => Err(Refusal(refused)),
+        }
+    }
+
+    /// What is wrong, without the place.
+    fn words(self) -> &'static str {
+        match self {
+            Answer::Done => "done",
+            Answer::JournalUnsound => "the ledger is not sound",
+            Answer::OrderMalformed => "the order's bytes are malformed",
+            Answer::WindowBroken => "the image is too long, or the window ends above 2^32",
+            Answer::BadHeader => "the ELF header or the object's length is not allowed",
+            Answer::BadSection(0) => "the section header table, or section 0, breaks a rule",
+            Answer::BadSection(_) => "the section header breaks a rule",
+            Answer::PlacementsDiffer(_) => "only placed, or only allocated",
+            Answer::WrongExternal(_) => "a value for a symbol that is not undefined",
+            Answer::Misplaced(_) => "misaligned, outside the window, or overlapping",
+            Answer::RelocationShape(_) => "type, offset, overlap or addend is not allowed",
+            Answer::SymbolUnresolved(_) => "the symbol does not resolve",
+            Answer::WrongInstruction(_) => "not an instruction that the type is for",
+            Answer::NotOnePair(_) => "not exactly one PCREL_HI20 for this PCREL_LO12",
+            Answer::OutOfReach(_) => "the distance is odd or too far",
+            Answer::PaddingOffBoundary(_) => "the padding does not end on its boundary",
+            Answer::JournalFull => "the ledger has 16 fits, or no room for the old bytes",
+            Answer::NothingStands => "no fit stands",
+        }
+    }
+}
+
+impl Display for Answer {
+    fn fmt(&self, f: &mut Formatter<'_>) -> fmt::Result {
+        let place = self.place();
+        match self {
+            Answer::BadSection(0) => {}
+            Answer::BadSection(_) | Answer::PlacementsDiffer(_) | Answer::Misplaced(_) => {
+                write!(f, "section {place}: ")?
+            }
+            Answer::WrongExternal(_) => write!(f, "symbol {place}: ")?,
+            _ if matches!(self.number(), 9..=14) => write!(f, "relocation {place}: ")?,
+            _ => {}
+        }
+        f.write_str(self.words())
+    }
+}
+
+/// An answer that is not [`Answer::Done`], as an error.
+#[derive(Clone, Copy, PartialEq, Eq, Hash, Debug)]
+pub struct Refusal(Answer);
+
+impl Refusal {
+    /// Why the call was refused.
+    pub fn answer(self) -> Answer {
+        self.0
+    }
+}
+
+impl Display for Refusal {
+    fn fmt(&self, f: &mut Formatter<'_>) -> fmt::Result {
+        self.0.fmt(f)
+    }
+}
+
+impl Error for Refusal {}
+
+#[cfg(test)]
+mod tests {
+    use super::*;
+
+    const RELOCATION_7: u64 = 7 << 32;
+
+    /// Numbers 5 to 14 have a place; all others have 0.
+    fn code(number: u64) -> u64 {
+        match number {
+            5..=14 => RELOCATION_7 + number,
+            _ => number,
+        }
+    }
+
+    #[test]
+    fn every_number() {
+        for number in 0..=16 {
+            let answer = Answer::from_code(code(number));
+            assert_eq!(u64::from(answer.number()), number);
+            assert_eq!(u64::from(answer.place()), code(number) >> 32);
+            assert_eq!(answer.is_done(), number == 0);
+            assert_eq!(answer.check().is_ok(), number == 0);
+            assert_eq!(answer.to_string().contains(" 7: "), answer.place() == 7);
+        }
+    }
+
+    #[test]
+    fn places_keep_all_bits() {
+        let answer = Answer::from_code(0xFFFF_FFFF_0000_0006);
+        assert_eq!(answer, Answer::PlacementsDiffer(u32::MAX));
+    }
+
+    #[test]
+    fn words() {
+        let words = |number| Answer::from_code(code(number)).to_string();
+        assert_eq!(words(13), "relocation 7: the distance is odd or too far");
+        assert_eq!(
+            words(8),
+            "section 7: misaligned, outside the window, or overlapping"
+        );
+        assert_eq!(
+            words(7),
+            "symbol 7: a value for a symbol that is not undefined"
+        );
+        assert_eq!(words(16), "no fit stands");
+        let table = Answer::BadSection(0).check().expect_err("refused");
+        assert_eq!(
+            table.to_string(),
+            "the section header table, or section 0, breaks a rule"
+        );
+        assert_eq!(table.answer(), Answer::BadSection(0));
+    }
+
+    #[test]
+    #[should_panic(expected = "which its contract rules out")]
+    fn a_number_that_is_none() {
+        Answer::from_code(17);
+    }
+
+    #[test]
+    #[should_panic(expected = "which its contract rules out")]
+    fn bits_between_number_and_place() {
+        Answer::from_code(0x100);
+    }
+
+    #[test]
+    #[should_panic(expected = "has no place")]
+    fn a_place_where_there_is_none() {
+        Answer::from_code(RELOCATION_7);
+    }
+}
