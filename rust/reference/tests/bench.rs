@@ -1,13 +1,11 @@
 //! Document 01's "Bench numbers" and "Errors we have met": each number through
 //! the field functions, and each that is about a fit through `install` too.
 
-mod common;
-
-use common::build::{journal, object, order, Fit, Relocation, Section, Symbol};
 use reference::fields::{high_half, insert, low_half, Field, B, CB, CJ, I, J, U};
 use reference::numbers::number_from;
 use reference::order::{Order, Placement};
 use reference::{install, numbers::Address, Answer};
+use testing::build::{journal, object, order, Fit, Relocation, Section, Symbol};
 
 const HI20: u8 = 26;
 const LO12_I: u8 = 27;
@@ -188,8 +186,8 @@ fn error_unnamed_strong_symbol() {
         let list = [Relocation::new(0, 1, 1, 0)];
         Fit::code(0x1000, &[0; 4], &[Symbol::new(info, 0, 0)], &list)
     };
-    assert_eq!(undefined(common::build::GLOBAL).answer(), (10, 0));
-    assert_eq!(undefined(common::build::WEAK).answer(), (0, 0));
+    assert_eq!(undefined(testing::build::GLOBAL).answer(), (10, 0));
+    assert_eq!(undefined(testing::build::WEAK).answer(), (0, 0));
 }
 
 /// "ADD32 and SUB32 at one offset both started from the object's V."

@@ -1,32 +1,16 @@
 //! Three million damaged and random inputs: each is answered, a refusal changes no
 //! byte, and a done call changes only what it may.
 
-mod common;
-
 use std::panic::{catch_unwind, AssertUnwindSafe};
 
-use common::damage::{damage, right_input, Input};
-use common::random::Random;
-use common::vectors::{bytes, lines};
 use reference::journal::Standing;
 use reference::{install, judge, rollback, Answer};
+use testing::damage::{damage, right_input, vector_inputs, Input};
+use testing::random::Random;
 
 const INPUTS: u64 = 3_000_000;
 /// Right inputs that are damaged, besides those of the vectors.
 const RIGHT_INPUTS: u64 = 6_000;
-
-/// The fits of the vectors.
-fn vector_inputs() -> Vec<Input> {
-    let fit = |(_, words): (usize, Vec<String>)| {
-        (words[0] == "fit").then(|| Input {
-            object: bytes(&words[1]),
-            order: bytes(&words[2]),
-            image: bytes(&words[3]),
-            journal: bytes(&words[4]),
-        })
-    };
-    lines("calls.txt").into_iter().filter_map(fit).collect()
-}
 
 /// The ledger of a done fit: one entry and the span's old bytes are new, and
 /// all else stays.

@@ -1,14 +1,11 @@
 //! Long lists of fits and takings-back against the model in `history`, and all
 //! that document 01 says holds after such a list.
 
-mod common;
-
-use common::build::journal;
-use common::random::Random;
-use common::sample::{call, Call};
 use reference::history::History;
 use reference::journal::Standing;
 use reference::{install, rollback, Answer};
+use testing::random::Random;
+use testing::sample::{some_call, start, Call};
 
 const HISTORIES: u64 = 4_000;
 
@@ -44,37 +41,6 @@ impl Slot {
 struct Counts {
     answers: [u64; 17],
     deepest: usize,
-}
-
-/// An image and a ledger in which no fit stands; often with little room, and
-/// with any bytes past 136.
-fn start(random: &mut Random) -> Slot {
-    let length = random.pick(&[0, 1, 40, 120, 300, 300, 700]);
-    let most_room = random.pick(&[1, 60, 400, 4_000]);
-    let room = random.below(most_room);
-    let mut journal = journal(0);
-    journal.extend(random.bytes(room));
-    Slot {
-        image: random.bytes(length),
-        journal,
-    }
-}
-
-/// A random call, now and then damaged, or one for an image of another length.
-fn some_call(random: &mut Random, image_length: usize) -> Call {
-    let mut call = match random.below(12) {
-        0 => call(random, image_length + 50),
-        _ => call(random, image_length),
-    };
-    if random.one_in(12) {
-        let at = random.below(call.object.len());
-        call.object[at] ^= 1 << random.below(8);
-    }
-    if random.one_in(12) {
-        let at = random.below(call.order.len());
-        call.order[at] ^= 1 << random.below(8);
-    }
-    call
 }
 
 /// Plays one list on the program and on the history, and gives the standing
@@ -146,7 +112,8 @@ fn long_histories() {
     let mut counts = Counts::default();
     for seed in 0..HISTORIES {
         let random = &mut Random::new(seed);
-        let first = start(random);
+        let (image, journal) = start(random);
+        let first = Slot { image, journal };
         let mut slot = first.clone();
         let mut model = History::start(&first.image, first.journal.len());
         let standing = play(random, &mut slot, &mut model, &mut counts);

@@ -1,12 +1,10 @@
 //! The program on files: what it writes, what it leaves alone, and how it ends.
 
-mod common;
-
 use std::fs;
 use std::path::{Path, PathBuf};
 use std::process::{Command, Output};
 
-use common::build::{journal, Fit, Relocation, Symbol};
+use testing::build::{journal, Fit, Relocation, Symbol};
 
 /// A directory with the four files of a fit. It goes when the test ends.
 struct Bench(PathBuf);

@@ -3,14 +3,12 @@
 //! shared vectors, on journals that are unsound in one way alone, and at the
 //! ends of what lengths may be.
 
-mod common;
-
 use std::fs;
 use std::path::{Path, PathBuf};
 
-use common::vectors::{bytes, bytes_after, lines};
 use reference::journal::Standing;
 use reference::{install, judge, rollback, Span, MAX_BYTES};
+use testing::vectors::{bytes, bytes_after, lines};
 
 const SPACE: usize = 131_072;
 

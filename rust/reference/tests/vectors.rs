@@ -1,11 +1,9 @@
 //! Every line of the shared vectors: number, place, image after and ledger
 //! after.
 
-mod common;
-
-use common::answer;
-use common::vectors::{bytes, bytes_after, lines, number};
 use reference::{install, rollback};
+use testing::answer;
+use testing::vectors::{bytes, bytes_after, lines, number};
 
 /// What is wrong with one line of calls.txt, if anything.
 fn wrong_call(words: &[String]) -> Option<String> {

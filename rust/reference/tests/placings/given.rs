@@ -1,7 +1,7 @@
 //! The pairs of the repository: of the vectors, and real objects.
 
-use crate::common::given::{objects, vectors, Given};
 use crate::Case;
+use testing::given::{objects, vectors, Given};
 
 /// A broken ledger hides the other checks.
 fn case(given: Given) -> Case {

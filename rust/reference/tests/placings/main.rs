@@ -2,9 +2,6 @@
 //! and an order, right ones and wrong ones, and how this fitter places them.
 //! The program `placings` writes the same lines from the proved functions.
 
-#[path = "../common/mod.rs"]
-mod common;
-
 mod given;
 mod lines;
 mod placements;
@@ -16,9 +13,9 @@ use std::collections::BTreeMap;
 use std::fs;
 use std::path::{Path, PathBuf};
 
-use common::build::Fit;
-use common::commands::Commands;
 use lines::{answer, line, place};
+use testing::build::Fit;
+use testing::commands::Commands;
 
 /// Where the order is in the program's space, and the space's end.
 const ORDER: usize = 65_600;

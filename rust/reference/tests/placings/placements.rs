@@ -1,8 +1,8 @@
 //! Placements against sections and external values against symbols: checks 6
 //! and 7, each sentence just kept and just broken, with the answer.
 
-use crate::common::build::*;
 use crate::Case;
+use testing::build::*;
 
 const BASE: u32 = 0x1000;
 const DONE: (u32, u32) = (0, 0);

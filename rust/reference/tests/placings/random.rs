@@ -2,11 +2,11 @@
 
 use reference::order::Order;
 
-use crate::common::build;
-use crate::common::damage::{get, put};
-use crate::common::random::Random;
-use crate::common::sample::call;
 use crate::Case;
+use testing::build;
+use testing::damage::{get, put};
+use testing::random::Random;
+use testing::sample::call;
 
 /// Right pairs, and how often each is edited.
 const PAIRS: u64 = 50;

@@ -1,7 +1,7 @@
 //! S of symbols of every kind, with the values.
 
-use crate::common::build::*;
 use crate::Case;
+use testing::build::*;
 
 const BASE: u32 = 0x8000_0000;
 const NOBITS_AT: u32 = 0xFFFF_FFF0;

@@ -1,8 +1,8 @@
 //! The commands that ask the program these questions; `readings` says what
 //! they are.
 
-use crate::common::commands::Commands;
 use crate::{Case, Question};
+use testing::commands::Commands;
 
 /// The program's space, in bytes.
 pub const SPACE: usize = 65_600;

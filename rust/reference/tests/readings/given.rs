@@ -6,8 +6,8 @@ use std::path::Path;
 
 use reference::order::Order;
 
-use crate::common::given::{objects, vectors, Given};
 use crate::{Case, Question};
+use testing::given::{objects, vectors, Given};
 
 /// What checks 2 to 5 say of a fit whose answer is known. A broken check hides
 /// the later ones, and a broken ledger all of them.

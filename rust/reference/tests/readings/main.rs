@@ -2,9 +2,6 @@
 //! right ones and wrong ones, and what this fitter reads in them. The program
 //! `readings` writes the same lines from the proved functions.
 
-#[path = "../common/mod.rs"]
-mod common;
-
 mod commands;
 mod given;
 mod lines;

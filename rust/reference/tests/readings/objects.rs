@@ -1,8 +1,8 @@
 //! A sound object, and a table of its changes: each sentence of checks 4 and 5
 //! just kept and just broken, with the answer.
 
-use crate::common::build::*;
 use crate::{Case, Question};
+use testing::build::*;
 
 /// Where the sound object has what.
 const CODE: usize = 1;

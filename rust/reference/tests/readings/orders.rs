@@ -1,7 +1,7 @@
 //! Orders and windows, right ones and slightly wrong ones, with the answers.
 
-use crate::common::build::order;
 use crate::{Case, Question};
+use testing::build::order;
 
 const DONE: (u32, u32) = (0, 0);
 const MALFORMED: (u32, u32) = (2, 0);

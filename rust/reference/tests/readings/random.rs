@@ -2,10 +2,10 @@
 //! headers, orders of random lists, and random bytes.
 
 use crate::commands::SPACE;
-use crate::common::build::*;
-use crate::common::damage::{damage, right_input};
-use crate::common::random::Random;
 use crate::{Case, Question};
+use testing::build::*;
+use testing::damage::{damage, right_input};
+use testing::random::Random;
 
 /// Right inputs, and how often each is damaged.
 const RIGHT_INPUTS: u64 = 40;

@@ -1,8 +1,8 @@
 //! Words, and ADD, SUB and SET at the ends of their widths, with the bytes.
 
-use crate::common::build::*;
 use crate::fits::*;
 use crate::Case;
+use testing::build::*;
 
 const ONES: u64 = u64::MAX;
 /// The largest S.

@@ -1,9 +1,9 @@
 //! Check 13: distances of jumps, branches and calls at both ends, beyond them
 //! and around the end of memory, with the bytes.
 
-use crate::common::build::*;
 use crate::fits::*;
 use crate::{Answer, Case, DONE};
+use testing::build::*;
 
 const MIDDLE: u32 = 0x2000_0000;
 

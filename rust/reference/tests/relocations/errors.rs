@@ -1,9 +1,9 @@
 //! Document 01's "Errors we have met" and its bench numbers, each stated by
 //! hand.
 
-use crate::common::build::*;
 use crate::fits::*;
 use crate::{Case, DONE};
+use testing::build::*;
 
 fn word(name: &str, kind: u8, before: u32, target: u32, after: u32) -> Case {
     let fit = one(kind, &words(&[before]), PLACE, target);

@@ -1,9 +1,9 @@
 //! Which fault is named: the lowest number of the first relocation, counted
 //! over all RELA sections.
 
-use crate::common::build::*;
 use crate::fits::*;
 use crate::{Answer, Case, DONE};
+use testing::build::*;
 
 /// jal, branch, jal, branch.
 const CODE: [u32; 4] = [0x6F, 0x63, 0x6F, 0x63];

@@ -1,6 +1,6 @@
 //! Relocation types by name, and fits of one section.
 
-use crate::common::build::*;
+use testing::build::*;
 
 pub const NONE: u8 = 0;
 pub const WORD: u8 = 1;

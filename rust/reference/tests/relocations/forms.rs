@@ -1,8 +1,8 @@
 //! Check 11: each instruction form with one thing wrong, and odd addresses.
 
-use crate::common::build::*;
 use crate::fits::*;
 use crate::{Case, DONE};
+use testing::build::*;
 
 /// A relocation of this type with distance 0, at the start of a section; a pair
 /// for a PCREL_LO12 stands behind it.

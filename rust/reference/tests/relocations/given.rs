@@ -1,9 +1,9 @@
 //! The pairs of the repository: of the vectors, and real objects with the bytes
 //! that GNU ld lays.
 
-use crate::common::given::{histories, objects, vectors, Given};
 use crate::lines::{loaded_sections, starts_in_image};
 use crate::{Case, Laid};
+use testing::given::{histories, objects, vectors, Given};
 
 /// What the image has for each loaded section after a done fit.
 fn bytes(given: &Given) -> Vec<Laid> {

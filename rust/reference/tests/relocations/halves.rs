@@ -1,8 +1,8 @@
 //! High and low halves where they round and wrap around, with the bytes.
 
-use crate::common::build::*;
 use crate::fits::*;
 use crate::Case;
+use testing::build::*;
 
 /// A number, its high half, and its low half in twelve bits.
 const HALVES: [(u32, u32, u32); 20] = [

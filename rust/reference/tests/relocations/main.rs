@@ -2,9 +2,6 @@
 //! and an order, right ones and wrong ones, and how this fitter relocates them.
 //! The program `relocations` writes the same lines from the proved functions.
 
-#[path = "../common/mod.rs"]
-mod common;
-
 mod data;
 mod distances;
 mod errors;
@@ -26,10 +23,10 @@ use std::collections::BTreeMap;
 use std::fs;
 use std::path::{Path, PathBuf};
 
-use common::build::{journal, Fit};
-use common::commands::Commands;
 use lines::{answer, line, relocate};
 use reference::install;
+use testing::build::{journal, Fit};
+use testing::commands::Commands;
 
 /// Where the order is in the program's space, and the space's end.
 const ORDER: usize = 65_600;

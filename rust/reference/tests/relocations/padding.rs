@@ -1,8 +1,8 @@
 //! Check 14: ALIGN on its boundary and beside it.
 
-use crate::common::build::*;
 use crate::fits::*;
 use crate::{Answer, Case, DONE};
+use testing::build::*;
 
 /// A, and "the smallest power of two at least A + 2".
 const BOUNDARIES: [(u32, u32); 12] = [

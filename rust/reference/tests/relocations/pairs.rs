@@ -1,8 +1,8 @@
 //! Check 12: PCREL_LO12 and its pair, with the bytes.
 
-use crate::common::build::*;
 use crate::fits::*;
 use crate::{Answer, Case, DONE};
+use testing::build::*;
 
 /// auipc, addi, auipc, sw, lui.
 const CODE: [u32; 5] = [

@@ -1,10 +1,10 @@
 //! Random sound pairs, and the same with wounds at relocations, their symbols
 //! and the bytes under them.
 
-use crate::common::damage::{damage, wound_relocation, Input};
-use crate::common::random::Random;
-use crate::common::sample::call;
 use crate::Case;
+use testing::damage::{damage, wound_relocation, Input};
+use testing::random::Random;
+use testing::sample::call;
 
 /// Sound pairs, and how often each is wounded.
 const PAIRS: u64 = 90;

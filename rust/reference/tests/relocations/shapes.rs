@@ -1,9 +1,9 @@
 //! Check 9: each sentence about type, offset, overlap and addend just kept and
 //! just broken, with the answer.
 
-use crate::common::build::*;
 use crate::fits::*;
 use crate::{Answer, Case, DONE};
+use testing::build::*;
 
 /// A name, the section's size, relocations as offset, type and A, the answer.
 type Row = (&'static str, usize, Vec<(u32, u8, i32)>, Answer);

@@ -1,8 +1,8 @@
 //! ADD, SUB and SET of one width at one place, in every order, with the bytes.
 
-use crate::common::build::*;
 use crate::fits::*;
 use crate::{Answer, Case, DONE};
+use testing::build::*;
 
 /// S of the symbols from 1 on.
 const VALUES: [u32; 4] = [0x10, 0x0102_0385, 0xFFFF_FFF7, 0x7FFF_F0C1];

@@ -1,10 +1,10 @@
 //! Check 10: symbols that resolve and symbols that do not, for words, for the
 //! two PCREL_LO12 and for every type.
 
-use crate::common::build::*;
 use crate::fits::*;
 use crate::types::of_type;
 use crate::{Answer, Case, DONE};
+use testing::build::*;
 
 const TLS: u8 = 6;
 const IFUNC: u8 = 10;

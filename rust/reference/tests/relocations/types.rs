@@ -1,8 +1,8 @@
 //! "Every type number from 0 to 255 has a line in one decision".
 
-use crate::common::build::*;
 use crate::fits::*;
 use crate::{Case, DONE};
+use testing::build::*;
 
 /// A relocation of this type at 8, on bytes of its form, against a symbol at
 /// its own place. A PCREL_LO12 names a label at 0, where there is a pair.

@@ -1,12 +1,12 @@
 //! Halves and fields, read back by the manual, and the arithmetic of the data
 //! types.
 
-use crate::common::build::*;
-use crate::common::random::Random;
 use reference::fields::{
     extract, high_half, insert, low_half, Field, Layout, B, CB, CJ, I, J, S, U,
 };
 use reference::numbers::number_from;
+use testing::build::*;
+use testing::random::Random;
 
 const TOP: i128 = 1 << 32;
 
@@ -32,7 +32,7 @@ fn halves_add_up() {
 fn comes_back(layout: Layout, mask: u64, numbers: impl Iterator<Item = i128>) {
     let random = &mut Random::new(2);
     for number in numbers {
-        let word = random.next() % (mask.next_power_of_two());
+        let word = random.u64() % (mask.next_power_of_two());
         let put = insert(layout, word, number);
         assert_eq!(extract(layout, put), number);
         assert_eq!(put & !mask, word & !mask, "{number}");

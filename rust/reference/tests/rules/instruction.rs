@@ -1,7 +1,7 @@
 //! Instruction forms (check 11) and distances (check 13).
 
-use crate::common::build::*;
 use crate::DONE;
+use testing::build::*;
 
 const PLACE: u32 = 0x1000;
 

@@ -1,10 +1,10 @@
 //! The ledger: soundness (check 1), room (15), nothing stands (16), what a fit
 //! appends and what a taking-back writes.
 
-use crate::common::build::*;
 use crate::DONE;
 use reference::journal::{Span, Standing};
 use reference::{install, rollback, Answer};
+use testing::build::*;
 
 const IMAGE: usize = 100;
 

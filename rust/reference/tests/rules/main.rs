@@ -1,9 +1,6 @@
 //! Hand-made cases for the sentences of document 01's rules: just kept and just
 //! broken.
 
-#[path = "../common/mod.rs"]
-mod common;
-
 mod fields;
 mod instruction;
 mod journal;

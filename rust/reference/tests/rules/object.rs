@@ -1,8 +1,8 @@
 //! "What the object may hold": checks 4 and 5.
 
-use crate::common::build::*;
 use crate::DONE;
 use reference::{judge, Answer};
+use testing::build::*;
 
 /// The answer to an object with no order's placements, on an empty image.
 fn unplaced(object: &[u8]) -> (u32, u32) {

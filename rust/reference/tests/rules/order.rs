@@ -1,9 +1,9 @@
 //! The order's bytes (check 2), the window (check 3), and the order of the
 //! first checks.
 
-use crate::common::build::*;
 use crate::DONE;
 use reference::{install, judge, Answer};
+use testing::build::*;
 
 fn answer(order: &[u8], image_length: usize) -> (u32, u32) {
     let refusal = judge(&object(&[Section::default()]), order, image_length).err();

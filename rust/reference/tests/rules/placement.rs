@@ -1,7 +1,7 @@
 //! Placements (check 6), outside values (check 7) and placing (check 8).
 
-use crate::common::build::*;
 use crate::DONE;
+use testing::build::*;
 
 const BASE: u32 = 0x1000;
 

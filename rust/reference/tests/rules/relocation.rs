@@ -1,7 +1,7 @@
 //! The rules of a record, checks 9 to 14 but for symbols and instruction forms.
 
-use crate::common::build::*;
 use crate::DONE;
+use testing::build::*;
 
 const PLACE: u32 = 0x1000;
 const MARKERS: [u8; 3] = [0, 43, 51];

@@ -1,8 +1,8 @@
 //! S, seen through a 32 relocation (T is S + A modulo 2^32).
 
-use crate::common::build::*;
 use crate::DONE;
 use reference::numbers::number_from;
+use testing::build::*;
 
 const PLACE: u32 = 0x1000;
 

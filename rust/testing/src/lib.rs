@@ -1,5 +1,6 @@
-//! What the tests share. Each test uses a part of it.
-#![allow(dead_code)]
+//! What the tests of the workspace share.
+
+#![forbid(unsafe_code)]
 
 pub mod build;
 pub mod commands;

@@ -4,7 +4,7 @@
 use std::fs;
 use std::path::Path;
 
-use super::vectors::{bytes, bytes_after, lines, number};
+use crate::vectors::{bytes, bytes_after, lines, number};
 
 /// What a fit is asked with, besides the ledger, its number and place, and the
 /// image after it, where that is given.

@@ -1,7 +1,8 @@
 //! Damage to a whole input: anywhere, and at the fields that the rules read.
 
-use super::random::Random;
-use super::sample::call;
+use crate::random::Random;
+use crate::sample::call;
+use crate::vectors::{bytes, lines};
 use reference::install;
 
 /// Everything that a fit is asked with.
@@ -31,6 +32,19 @@ pub fn right_input(random: &mut Random) -> Input {
         image,
         journal,
     }
+}
+
+/// The fits of the vectors.
+pub fn vector_inputs() -> Vec<Input> {
+    let fit = |(_, words): (usize, Vec<String>)| {
+        (words[0] == "fit").then(|| Input {
+            object: bytes(&words[1]),
+            order: bytes(&words[2]),
+            image: bytes(&words[3]),
+            journal: bytes(&words[4]),
+        })
+    };
+    lines("calls.txt").into_iter().filter_map(fit).collect()
 }
 
 /// A right input with up to three wounds, and now and then wholly random bytes.
@@ -103,13 +117,13 @@ fn wound_bytes(random: &mut Random, bytes: &mut Vec<u8>) {
     let length = bytes.len();
     match random.below(6) {
         0 if length > 0 => bytes[random.below(length)] ^= 1 << random.below(8),
-        1 if length > 0 => bytes[random.below(length)] = random.next() as u8,
+        1 if length > 0 => bytes[random.below(length)] = random.u64() as u8,
         2 | 3 if length >= 4 => {
             let at = random.below(length / 4) * 4;
             put(bytes, at, boundary(random, length), 4);
         }
         4 => bytes.truncate(length.saturating_sub(random.below(20))),
-        _ => bytes.resize(length + random.below(20), random.next() as u8),
+        _ => bytes.resize(length + random.below(20), random.u64() as u8),
     }
 }
 

@@ -1,7 +1,7 @@
 //! Random fits: most are done, some break one rule.
 
-use super::build::{object, order, Relocation, Section, Symbol, ABSOLUTE, GLOBAL, WEAK};
-use super::random::Random;
+use crate::build::{journal, object, order, Relocation, Section, Symbol, ABSOLUTE, GLOBAL, WEAK};
+use crate::random::Random;
 
 /// What a fit is asked with, besides image and ledger.
 #[derive(Clone, Debug)]
@@ -54,7 +54,7 @@ pub fn call(random: &mut Random, image_length: usize) -> Call {
         0 => 0,
         1 => 0x2000_0000,
         2 => (highest_base - 1) as u32,
-        _ => (random.next() % highest_base) as u32,
+        _ => (random.u64() % highest_base) as u32,
     };
     let shapes = shapes(random, base, length);
     let rows = rows(random, shapes.len());
@@ -66,6 +66,34 @@ pub fn call(random: &mut Random, image_length: usize) -> Call {
     };
     sampler.add_symbols(&rows, &shapes);
     sampler.finish(base, &rows, &shapes)
+}
+
+/// An image and a ledger in which no fit stands; often with little room, and
+/// with any bytes past 136.
+pub fn start(random: &mut Random) -> (Vec<u8>, Vec<u8>) {
+    let length = random.pick(&[0, 1, 40, 120, 300, 300, 700]);
+    let most_room = random.pick(&[1, 60, 400, 4_000]);
+    let room = random.below(most_room);
+    let mut journal = journal(0);
+    journal.extend(random.bytes(room));
+    (random.bytes(length), journal)
+}
+
+/// A random call, now and then damaged, or one for an image of another length.
+pub fn some_call(random: &mut Random, image_length: usize) -> Call {
+    let mut call = match random.below(12) {
+        0 => call(random, image_length + 50),
+        _ => call(random, image_length),
+    };
+    if random.one_in(12) {
+        let at = random.below(call.object.len());
+        call.object[at] ^= 1 << random.below(8);
+    }
+    if random.one_in(12) {
+        let at = random.below(call.order.len());
+        call.order[at] ^= 1 << random.below(8);
+    }
+    call
 }
 
 /// Sections one behind the other in the window, until it is full.
