@@ -1,0 +1,126 @@
+//! One call, by the library in watched memory and by the reference.
+
+use crate::arena::{Arena, Layout};
+use testing::damage::Input;
+
+/// Which of the two calls.
+#[derive(Clone, Copy, PartialEq, Eq, Debug)]
+pub enum Command {
+    Fit,
+    TakeBack,
+}
+
+/// What a call leaves: number and place, image and ledger.
+#[derive(Clone, PartialEq, Eq, Debug)]
+pub struct Outcome {
+    pub answer: (u32, u32),
+    pub image: Vec<u8>,
+    pub journal: Vec<u8>,
+}
+
+/// A call by the reference.
+pub fn reference(input: &Input, command: Command) -> Outcome {
+    let (mut image, mut journal) = (input.image.clone(), input.journal.clone());
+    let answer = match command {
+        Command::Fit => reference::install(&input.object, &input.order, &mut image, &mut journal),
+        Command::TakeBack => reference::rollback(&mut image, &mut journal),
+    };
+    Outcome {
+        answer: (answer.number, answer.place),
+        image,
+        journal,
+    }
+}
+
+/// The library, with memory for its four buffers.
+pub struct Library {
+    object: Arena,
+    order: Arena,
+    image: Arena,
+    journal: Arena,
+}
+
+impl Library {
+    #[allow(clippy::new_without_default)]
+    pub fn new() -> Library {
+        Library {
+            object: Arena::new(),
+            order: Arena::new(),
+            image: Arena::new(),
+            journal: Arena::new(),
+        }
+    }
+
+    /// A call by the library, or which memory it touched that is not its own.
+    pub fn call(
+        &mut self,
+        input: &Input,
+        command: Command,
+        layout: Layout,
+    ) -> Result<Outcome, String> {
+        self.object.fill(&input.object, layout);
+        self.order.fill(&input.order, layout);
+        self.image.fill(&input.image, layout);
+        self.journal.fill(&input.journal, layout);
+        let (image, journal) = (self.image.bytes_mut(), self.journal.bytes_mut());
+        let answer = match command {
+            Command::Fit => aktinoph::fit(self.object.bytes(), self.order.bytes(), image, journal),
+            Command::TakeBack => aktinoph::take_back(image, journal),
+        };
+        let arenas = [&self.object, &self.order, &self.image, &self.journal];
+        for (arena, name) in arenas
+            .into_iter()
+            .zip(["object", "order", "image", "ledger"])
+        {
+            held(arena.guards_hold(), || {
+                format!("bytes beside the {name} changed")
+            })?;
+        }
+        held(self.object.bytes() == input.object, || {
+            "the object changed".into()
+        })?;
+        held(self.order.bytes() == input.order, || {
+            "the order changed".into()
+        })?;
+        Ok(Outcome {
+            answer: (answer.number(), answer.place()),
+            image: self.image.bytes().to_vec(),
+            journal: self.journal.bytes().to_vec(),
+        })
+    }
+
+    /// A call by the reference, and in every layout by the library: what both
+    /// leave, or what differs.
+    pub fn compare(&mut self, input: &Input, command: Command) -> Result<Outcome, String> {
+        let expected = reference(input, command);
+        for layout in Layout::ALL {
+            let wrong = |what: String| format!("{command:?}, {layout:?}: {what}");
+            let given = self.call(input, command, layout).map_err(wrong)?;
+            difference(input, &given, &expected).map_or(Ok(()), |what| Err(wrong(what)))?;
+        }
+        Ok(expected)
+    }
+}
+
+fn held(holds: bool, wrong: impl Fn() -> String) -> Result<(), String> {
+    match holds {
+        true => Ok(()),
+        false => Err(wrong()),
+    }
+}
+
+/// What is wrong with the library's outcome, if anything.
+fn difference(input: &Input, given: &Outcome, expected: &Outcome) -> Option<String> {
+    let (number, place) = given.answer;
+    if given.answer != expected.answer {
+        let (asked, at) = expected.answer;
+        return Some(format!("{number} {place}, and the reference {asked} {at}"));
+    }
+    if number != 0 && (given.image != input.image || given.journal != input.journal) {
+        return Some(format!("{number} {place} changed the image or the ledger"));
+    }
+    if given.image != expected.image {
+        return Some(format!("{number} {place}, but another image"));
+    }
+    (given.journal != expected.journal).then(|| format!("{number} {place}, but another ledger"))
+}

@@ -1,0 +1,60 @@
+//! The static library beside the reference, call by call: answer, image and
+//! ledger are compared, object and order must stay, and the memory around
+//! every buffer is watched.
+
+#![deny(unsafe_code)]
+
+#[allow(unsafe_code)]
+pub mod arena;
+pub mod call;
+#[allow(unsafe_code)]
+pub mod fault;
+pub mod history;
+pub mod inputs;
+
+use call::{Command, Library};
+use inputs::Pool;
+use testing::random::Random;
+
+/// How often each number was answered.
+pub type Counts = [u64; 17];
+
+/// Random calls and histories. A seed stands for one call or one history.
+pub struct Compare {
+    library: Library,
+    pool: Pool,
+    pub fits: Counts,
+    pub rollbacks: Counts,
+    pub histories: history::Seen,
+}
+
+impl Compare {
+    #[allow(clippy::new_without_default)]
+    pub fn new() -> Compare {
+        Compare {
+            library: Library::new(),
+            pool: Pool::new(),
+            fits: Counts::default(),
+            rollbacks: Counts::default(),
+            histories: history::Seen::default(),
+        }
+    }
+
+    /// One random call by both fitters, or what differs.
+    pub fn call(&mut self, seed: u64) -> Result<(), String> {
+        let (input, command) = self.pool.input(&mut Random::new(seed));
+        let outcome = self.library.compare(&input, command)?;
+        let counts = match command {
+            Command::Fit => &mut self.fits,
+            Command::TakeBack => &mut self.rollbacks,
+        };
+        counts[outcome.answer.0 as usize] += 1;
+        Ok(())
+    }
+
+    /// One random history by both fitters and by the model, or what differs.
+    pub fn history(&mut self, seed: u64) -> Result<(), String> {
+        let random = &mut Random::new(seed);
+        history::play(&mut self.library, random, &mut self.histories)
+    }
+}

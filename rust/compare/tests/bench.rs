@@ -1,0 +1,160 @@
+//! Document 01's "Bench numbers" and "Errors we have met" through the static
+//! library.
+
+use compare::call::{Command, Library, Outcome};
+use testing::build::{journal, object, Fit, Relocation, Section, Symbol, GLOBAL, WEAK};
+use testing::damage::Input;
+
+fn run(input: &Input) -> Outcome {
+    let outcome = Library::new().compare(input, Command::Fit);
+    outcome.unwrap_or_else(|wrong| panic!("{wrong}"))
+}
+
+fn input(fit: &Fit) -> Input {
+    Input {
+        object: fit.object(),
+        order: fit.order(),
+        image: fit.image.clone(),
+        journal: fit.journal.clone(),
+    }
+}
+
+fn answer(fit: &Fit) -> (u32, u32) {
+    run(&input(fit)).answer
+}
+
+/// The bytes laid for section 1 of a done fit, in hexadecimal.
+fn laid(fit: &Fit) -> String {
+    let outcome = run(&input(fit));
+    assert_eq!(outcome.answer, (0, 0));
+    let start = (fit.placements[0].1 - fit.base) as usize;
+    let bytes = &outcome.image[start..start + fit.sections[1].bytes.len()];
+    bytes.iter().map(|byte| format!("{byte:02x}")).collect()
+}
+
+/// One relocation of this type at the section's start, towards a target.
+fn one(kind: u8, bytes: &[u8], address: u32, target: u32) -> Fit {
+    let list = [Relocation::new(0, kind, 1, 0)];
+    Fit::code(address, bytes, &[Symbol::absolute(target)], &list)
+}
+
+fn laid_word(kind: u8, word: u32, target: u32) -> u32 {
+    let digits = laid(&one(kind, &word.to_le_bytes(), 0x1000, target));
+    u32::from_str_radix(&digits, 16)
+        .expect("four bytes")
+        .swap_bytes()
+}
+
+#[test]
+fn halves() {
+    let (lui, addi) = (|t| laid_word(26, 0x537, t), |t| laid_word(27, 0x50513, t));
+    assert_eq!(
+        (lui(0x7FFF_F7FF), addi(0x7FFF_F7FF)),
+        (0x7FFF_F537, 0x7FF5_0513)
+    );
+    assert_eq!(
+        (lui(0x7FFF_F800), addi(0x7FFF_F800)),
+        (0x8000_0537, 0x8005_0513)
+    );
+    assert_eq!(
+        (lui(0x1234_5FFF), addi(0x1234_5FFF)),
+        (0x1234_6537, 0xFFF5_0513)
+    );
+}
+
+#[test]
+fn call() {
+    let before = 0x0000_80E7_0000_0097_u64.to_le_bytes();
+    assert_eq!(laid(&one(18, &before, 0x1000, 0x2800)), "97200000e7800080");
+}
+
+#[test]
+fn jal() {
+    assert_eq!(laid_word(17, 0xEF, 0x1008), 0x0080_00EF);
+    let to = |distance: u32| one(17, &[0xEF, 0, 0, 0], 0x1000, 0x1000 + distance);
+    assert_eq!(answer(&to(1_048_574)), (0, 0));
+    assert_eq!(answer(&to(1_048_576)), (13, 0));
+}
+
+#[test]
+fn branch() {
+    assert_eq!(laid_word(16, 0x63, 0x1000 - 4), 0xFE00_0EE3);
+    let to = |distance: u32| one(16, &[0x63, 0, 0, 0], 0x1000, 0x1000 + distance);
+    assert_eq!(answer(&to(4_094)), (0, 0));
+    assert_eq!(answer(&to(4_096)), (13, 0));
+}
+
+#[test]
+fn compressed() {
+    assert_eq!(laid(&one(45, &[0x01, 0xA0], 0x1000, 0x1000 - 2)), "fdbf");
+    assert_eq!(laid(&one(44, &[0x01, 0xC1], 0x1000, 0x1000 + 8)), "01c5");
+}
+
+#[test]
+fn add8_and_sub6() {
+    assert_eq!(laid(&one(33, &[0xF0], 0x1000, 0x20)), "10");
+    assert_eq!(laid(&one(52, &[0xC1], 0x1000, 2)), "ff");
+}
+
+#[test]
+fn align() {
+    let at = |address| Fit::code(address, &[0; 8], &[], &[Relocation::new(0, 43, 0, 6)]);
+    assert_eq!(answer(&at(0x1002)), (0, 0));
+    assert_eq!(answer(&at(0x1000)), (14, 0));
+}
+
+#[test]
+fn order_and_ledger_bytes() {
+    let mut image = vec![0; 16];
+    image[8..12].copy_from_slice(&[0xAA, 0xBB, 0xCC, 0xDD]);
+    let outcome = run(&Input {
+        object: object(&[Section::default(), Section::loaded(4, &[1, 2, 3, 4])]),
+        order: vec![
+            1, 0, 0, 0, 0, 0, 0, 0x20, 1, 0, 0, 0, 1, 0, 0, 0, 8, 0, 0, 0x20, 0, 0, 0, 0,
+        ],
+        image,
+        journal: journal(4),
+    });
+    let mut expected = vec![1, 0, 0, 0, 8, 0, 0, 0, 4, 0, 0, 0];
+    expected.extend([0; 120]);
+    expected.extend([4, 0, 0, 0, 0xAA, 0xBB, 0xCC, 0xDD]);
+    assert_eq!(outcome.answer, (0, 0));
+    assert_eq!(outcome.journal, expected);
+    assert_eq!(
+        outcome.image,
+        [0, 0, 0, 0, 0, 0, 0, 0, 1, 2, 3, 4, 0, 0, 0, 0]
+    );
+}
+
+/// "PCREL_LO12 worked out from its own P."
+#[test]
+fn low_half_from_the_pairs_place() {
+    let code: Vec<u8> = [0x517_u32, 0x13, 0x50513]
+        .iter()
+        .flat_map(|word| word.to_le_bytes())
+        .collect();
+    let symbols = [Symbol::absolute(0x1000 + 0x7FF), Symbol::new(0, 1, 0)];
+    let list = [Relocation::new(0, 23, 1, 0), Relocation::new(8, 24, 2, 0)];
+    let fit = Fit::code(0x1000, &code, &symbols, &list);
+    assert_eq!(laid(&fit), "17050000130000001305f57f");
+}
+
+/// "An unnamed strong symbol taken as 0."
+#[test]
+fn unnamed_strong_symbol() {
+    let undefined = |info| {
+        let list = [Relocation::new(0, 1, 1, 0)];
+        Fit::code(0x1000, &[0; 4], &[Symbol::new(info, 0, 0)], &list)
+    };
+    assert_eq!(answer(&undefined(GLOBAL)), (10, 0));
+    assert_eq!(answer(&undefined(WEAK)), (0, 0));
+}
+
+/// "ADD32 and SUB32 at one offset both started from the object's V."
+#[test]
+fn stacked_from_what_the_first_left() {
+    let symbols = [Symbol::absolute(0x500), Symbol::absolute(0x300)];
+    let list = [Relocation::new(0, 35, 1, 0), Relocation::new(0, 39, 2, 0)];
+    let fit = Fit::code(0x1000, &[7, 0, 0, 0], &symbols, &list);
+    assert_eq!(laid(&fit), "07020000");
+}

@@ -1,0 +1,49 @@
+//! The real objects through the static library: the bytes that GNU ld lays, and
+//! all as before after a rollback.
+
+use compare::call::{Command, Library};
+use testing::build::journal;
+use testing::damage::Input;
+use testing::given::{objects, Given};
+
+/// What the image holds before an install.
+const FILL: u8 = 0xA5;
+
+/// What is wrong with one object, if anything.
+fn wrong(library: &mut Library, given: Given) -> Option<String> {
+    let before = Input {
+        object: given.object,
+        order: given.order,
+        image: vec![FILL; given.image_length],
+        journal: journal(given.image_length),
+    };
+    let mut after = before.clone();
+    let installed = match library.compare(&before, Command::Fit) {
+        Ok(installed) => installed,
+        Err(wrong) => return Some(wrong),
+    };
+    if installed.answer != given.answer || Some(&installed.image) != given.image.as_ref() {
+        return Some(format!("{:?}, not what ld lays", installed.answer));
+    }
+    (after.image, after.journal) = (installed.image, installed.journal);
+    let back = match library.compare(&after, Command::TakeBack) {
+        Ok(back) => back,
+        Err(wrong) => return Some(wrong),
+    };
+    let same =
+        back.answer == (0, 0) && back.image == before.image && back.journal == before.journal;
+    (!same).then(|| format!("{:?}, not as before", back.answer))
+}
+
+#[test]
+fn installs_what_ld_lays() {
+    let library = &mut Library::new();
+    let objects = objects();
+    assert!(objects.len() >= 63, "{} objects", objects.len());
+    let mut faults = Vec::new();
+    for given in objects {
+        let name = given.name.clone();
+        faults.extend(wrong(library, given).map(|what| format!("{name}: {what}")));
+    }
+    assert!(faults.is_empty(), "{}", faults.join("\n"));
+}
