@@ -3,25 +3,28 @@
 #![forbid(unsafe_code)]
 
 use std::hint::black_box;
+use std::process::ExitCode;
 use std::time::{Duration, Instant};
 
 use testing::damage::Input;
 
-/// Runs of each install by each fitter.
-const RUNS: usize = 501;
-
-fn main() {
-    println!("{RUNS} runs each, medians in microseconds");
-    println!("install              library   reference   ratio");
-    measure("without PCREL_LO12", &bench::mixed());
-    measure("half PCREL_LO12", &bench::pairs());
+fn main() -> ExitCode {
+    // Checks that only the reference has would make the ratio worth nothing.
+    if cfg!(debug_assertions) {
+        eprintln!("built with debug assertions; run it with `cargo run --profile bench -p bench`");
+        return ExitCode::FAILURE;
+    }
+    println!("microseconds: library, reference, ratio");
+    measure("without PCREL_LO12", &bench::mixed(), 1_001);
+    measure("half PCREL_LO12", &bench::pairs(), 101);
+    ExitCode::SUCCESS
 }
 
 /// The two fitters in turn, so that both see the same machine.
-fn measure(name: &str, input: &Input) {
-    let mut library = Vec::with_capacity(RUNS);
-    let mut reference = Vec::with_capacity(RUNS);
-    for _ in 0..RUNS {
+fn measure(name: &str, input: &Input, runs: usize) {
+    let mut library = Vec::with_capacity(runs);
+    let mut reference = Vec::with_capacity(runs);
+    for _ in 0..runs {
         library.push(time(input, |object, order, image, ledger| {
             aktinoph::fit(object, order, image, ledger).is_done()
         }));
@@ -29,13 +32,13 @@ fn measure(name: &str, input: &Input) {
             reference::install(object, order, image, ledger) == reference::Answer::DONE
         }));
     }
-    let (library, reference) = (median(library), median(reference));
-    println!(
-        "{name:18} {:9.1} {:11.1} {:7.2}",
-        micros(library),
-        micros(reference),
-        micros(library) / micros(reference)
-    );
+    library.sort();
+    reference.sort();
+    for (what, at) in [("median", runs / 2), ("least", 0)] {
+        let (library, reference) = (micros(library[at]), micros(reference[at]));
+        let ratio = library / reference;
+        println!("{name}, {what} of {runs}: {library:.1} {reference:.1} {ratio:.2}");
+    }
 }
 
 /// The time of one done call on fresh copies of image and ledger.
@@ -48,11 +51,6 @@ fn time(input: &Input, fit: impl Fn(&[u8], &[u8], &mut [u8], &mut [u8]) -> bool)
     assert!(black_box(done), "the install is done");
     black_box((image, ledger));
     taken
-}
-
-fn median(mut times: Vec<Duration>) -> Duration {
-    times.sort();
-    times[times.len() / 2]
 }
 
 fn micros(time: Duration) -> f64 {

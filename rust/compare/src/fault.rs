@@ -26,21 +26,22 @@ pub fn seed(seed: u64) {
     SEED.store(seed, Ordering::Relaxed);
 }
 
+const MESSAGE: [u8; 39] = *b"an access outside the buffers, at seed ";
+/// The longest number of 64 bits, and a line end.
+const NUMBER: usize = 21;
+
 extern "C" fn report(_: i32) {
-    let mut text = *b"an access outside the buffers, at seed                     \n";
+    let mut text = [b'\n'; MESSAGE.len() + NUMBER];
+    text[..MESSAGE.len()].copy_from_slice(&MESSAGE);
     let mut seed = SEED.load(Ordering::Relaxed);
-    let mut at = text.len() - 1;
-    loop {
-        at -= 1;
+    let last = MESSAGE.len() + seed.checked_ilog10().unwrap_or(0) as usize;
+    for at in (MESSAGE.len()..=last).rev() {
         text[at] = b'0' + (seed % 10) as u8;
         seed /= 10;
-        if seed == 0 {
-            break;
-        }
     }
     // SAFETY: the bytes are on this stack, and the process ends here.
     unsafe {
-        write(STANDARD_ERROR, text.as_ptr(), text.len());
+        write(STANDARD_ERROR, text.as_ptr(), last + 2);
         _exit(1)
     }
 }
