@@ -2,7 +2,7 @@
  * Aktinoph: lays RV32 ELF objects into memory images, and takes installs back, byte for byte.
  *
  * The static library is target/staticlib/libfitter.a, which `rt staticlib fitter` writes, for x86-64 Linux.
- * It keeps no state, allocates nothing, and needs only memset of the C library.
+ * It keeps no state, allocates nothing, and needs nothing but memory functions of the C library (memset).
  *
  * What a caller owes; all else is answered:
  *   - No pointer is null, that of an empty buffer neither. An empty buffer is never read or written.

@@ -33,7 +33,8 @@ pub fn play(library: &mut Library, random: &mut Random, seen: &mut Seen) -> Resu
     let mut model = History::start(&first.image, first.journal.len());
     let standing = play_list(library, random, seen, &mut state, &mut model)?;
     compare_end(&state, &model)?;
-    replay(library, first.clone(), &state, &standing)?;
+    let next = some_call(random, state.image.len());
+    replay(library, first.clone(), &state, &standing, &next)?;
     take_all_back(library, state, &first, standing.len())
 }
 
@@ -104,12 +105,14 @@ fn read(state: &Input) -> Result<Standing, String> {
 }
 
 /// "The standing fits alone, asked for in their order from the same start, are
-/// all done and lead to the same image, n, k and first n entries".
+/// all done and lead to the same image, n, k and first n entries, and any next
+/// call gets the same answer after either list."
 fn replay(
     library: &mut Library,
     mut state: Input,
     played: &Input,
     standing: &[Call],
+    next: &Call,
 ) -> Result<(), String> {
     for call in standing {
         let answer = step(library, &mut state, Command::Fit, call)?;
@@ -117,9 +120,17 @@ fn replay(
             return Err(format!("a standing fit alone: {answer:?}"));
         }
     }
-    let same = state.image == played.image && read(&state)? == read(played)?;
-    same.then_some(())
-        .ok_or("the standing fits alone lead elsewhere".into())
+    if state.image != played.image || read(&state)? != read(played)? {
+        return Err("the standing fits alone lead elsewhere".into());
+    }
+    for command in [Command::Fit, Command::TakeBack] {
+        let alone = step(library, &mut state.clone(), command, next)?;
+        let answer = step(library, &mut played.clone(), command, next)?;
+        if alone != answer {
+            return Err(format!("next: {answer:?}, after the standing {alone:?}"));
+        }
+    }
+    Ok(())
 }
 
 /// Everything taken back by the library: the starting image, and then 16.
