@@ -7,8 +7,8 @@ use std::ptr::null_mut;
 use std::slice;
 
 const PAGE: usize = 4_096;
-/// The bytes between the two pages.
-pub const ROOM: usize = 32 * PAGE;
+/// The bytes between the two pages: enough for four buffers that are too long.
+pub const ROOM: usize = 80 * PAGE;
 /// How many bytes beside a buffer are watched.
 pub const GUARD: usize = 64;
 

@@ -38,6 +38,8 @@ pub struct Library {
     order: Arena,
     image: Arena,
     journal: Arena,
+    /// All four, one directly behind the other.
+    together: Arena,
 }
 
 impl Library {
@@ -48,6 +50,7 @@ impl Library {
             order: Arena::new(),
             image: Arena::new(),
             journal: Arena::new(),
+            together: Arena::new(),
         }
     }
 
@@ -89,6 +92,44 @@ impl Library {
         })
     }
 
+    /// As `call`, with the four buffers in one piece, and the image behind or
+    /// before the ledger.
+    pub fn call_together(
+        &mut self,
+        input: &Input,
+        command: Command,
+        image_first: bool,
+    ) -> Result<Outcome, String> {
+        let (first, second) = match image_first {
+            true => (&input.image, &input.journal),
+            false => (&input.journal, &input.image),
+        };
+        let whole = [&input.object[..], first, second, &input.order].concat();
+        self.together.fill(&whole, Layout::Between);
+        let (object, rest) = self.together.bytes_mut().split_at_mut(input.object.len());
+        let (first, rest) = rest.split_at_mut(first.len());
+        let (second, order) = rest.split_at_mut(second.len());
+        let (image, journal) = match image_first {
+            true => (first, second),
+            false => (second, first),
+        };
+        let answer = match command {
+            Command::Fit => aktinoph::fit(object, order, image, journal),
+            Command::TakeBack => aktinoph::take_back(image, journal),
+        };
+        held(object == input.object, || "the object changed".into())?;
+        held(order == input.order, || "the order changed".into())?;
+        let outcome = Outcome {
+            answer: (answer.number(), answer.place()),
+            image: image.to_vec(),
+            journal: journal.to_vec(),
+        };
+        held(self.together.guards_hold(), || {
+            "bytes beside the four changed".into()
+        })?;
+        Ok(outcome)
+    }
+
     /// A call by the reference, and in every layout by the library: what both
     /// leave, or what differs.
     pub fn compare(&mut self, input: &Input, command: Command) -> Result<Outcome, String> {
@@ -96,7 +137,12 @@ impl Library {
         for layout in Layout::ALL {
             let wrong = |what: String| format!("{command:?}, {layout:?}: {what}");
             let given = self.call(input, command, layout).map_err(wrong)?;
-            difference(input, &given, &expected).map_or(Ok(()), |what| Err(wrong(what)))?;
+            same(input, &given, &expected).map_err(wrong)?;
+        }
+        for image_first in [true, false] {
+            let wrong = |what: String| format!("{command:?}, together, {image_first}: {what}");
+            let given = self.call_together(input, command, image_first);
+            same(input, &given.map_err(wrong)?, &expected).map_err(wrong)?;
         }
         Ok(expected)
     }
@@ -109,18 +155,21 @@ fn held(holds: bool, wrong: impl Fn() -> String) -> Result<(), String> {
     }
 }
 
-/// What is wrong with the library's outcome, if anything.
-fn difference(input: &Input, given: &Outcome, expected: &Outcome) -> Option<String> {
+/// That the library's outcome is the reference's, or what is wrong with it.
+fn same(input: &Input, given: &Outcome, expected: &Outcome) -> Result<(), String> {
     let (number, place) = given.answer;
-    if given.answer != expected.answer {
-        let (asked, at) = expected.answer;
-        return Some(format!("{number} {place}, and the reference {asked} {at}"));
-    }
-    if number != 0 && (given.image != input.image || given.journal != input.journal) {
-        return Some(format!("{number} {place} changed the image or the ledger"));
-    }
-    if given.image != expected.image {
-        return Some(format!("{number} {place}, but another image"));
-    }
-    (given.journal != expected.journal).then(|| format!("{number} {place}, but another ledger"))
+    let (asked, at) = expected.answer;
+    held(given.answer == expected.answer, || {
+        format!("{number} {place}, and the reference {asked} {at}")
+    })?;
+    let unchanged = given.image == input.image && given.journal == input.journal;
+    held(number == 0 || unchanged, || {
+        format!("{number} {place} changed the image or the ledger")
+    })?;
+    held(given.image == expected.image, || {
+        format!("{number} {place}, but another image")
+    })?;
+    held(given.journal == expected.journal, || {
+        format!("{number} {place}, but another ledger")
+    })
 }
