@@ -1,0 +1,254 @@
+//! `tools/order` on what readelf says of shipped objects: it writes the shipped
+//! orders, and refuses what cannot be right. The texts in `orders/` are the output
+//! of `readelf -SsW` (clang-hidden: llvm-readelf). Where python3 is not there,
+//! nothing is tried. With readelf, all objects: `cargo test --test orders -- --ignored`.
+
+use std::collections::BTreeMap;
+use std::fs::{self, File};
+use std::path::{Path, PathBuf};
+use std::process::{Command, Output, Stdio};
+
+const TEXTS: [&str; 3] = ["gcc-sections", "clang-hidden", "nothing"];
+
+fn root() -> PathBuf {
+    Path::new(env!("CARGO_MANIFEST_DIR")).join("../..")
+}
+
+fn text_of(case: &str) -> PathBuf {
+    root().join(format!("rust/reference/tests/orders/{case}.txt"))
+}
+
+fn runs(program: &str) -> bool {
+    Command::new(program)
+        .arg("--version")
+        .stdout(Stdio::null())
+        .status()
+        .is_ok_and(|status| status.success())
+}
+
+/// A file of the test's own, which goes at the end.
+struct Scratch(PathBuf);
+
+impl Scratch {
+    fn new(name: &str) -> Scratch {
+        let name = format!("orders-{}-{name}", std::process::id());
+        Scratch(std::env::temp_dir().join(name))
+    }
+}
+
+impl Drop for Scratch {
+    fn drop(&mut self) {
+        let _ = fs::remove_file(&self.0);
+    }
+}
+
+/// `objects/cases.txt`: for each case the arguments that make its order.
+fn cases() -> BTreeMap<String, Vec<String>> {
+    let text = fs::read_to_string(root().join("objects/cases.txt")).expect("cases.txt");
+    let mut cases: BTreeMap<String, Vec<String>> = BTreeMap::new();
+    let mut case = String::new();
+    for line in text.lines() {
+        let words: Vec<&str> = line
+            .split('#')
+            .next()
+            .unwrap_or("")
+            .split_whitespace()
+            .collect();
+        let (flag, from, to) = match words.first() {
+            Some(&"case") => {
+                case = words[1].to_string();
+                continue;
+            }
+            Some(&"window") => ("--window", 1, 2),
+            Some(&"place") => ("--place", 1, words.len()),
+            Some(&"extern") => ("--value", 1, words.len()),
+            _ => continue,
+        };
+        let arguments = cases.entry(case.clone()).or_default();
+        arguments.push(flag.to_string());
+        arguments.extend(words[from..to].iter().map(ToString::to_string));
+    }
+    // `nothing` names a symbol that no relocation uses.
+    let nothing = cases.get_mut("nothing").expect("the case `nothing`");
+    nothing.extend(["--leave", "unused"].map(String::from));
+    cases
+}
+
+fn order<A: AsRef<std::ffi::OsStr>>(
+    object: &Path,
+    input: Stdio,
+    out: &Path,
+    arguments: &[A],
+) -> Output {
+    Command::new("python3")
+        .arg(root().join("tools/order"))
+        .args([object, out])
+        .args(arguments)
+        .stdin(input)
+        .output()
+        .expect("python3 runs")
+}
+
+fn from_text<A: AsRef<std::ffi::OsStr>>(text: &Path, out: &Path, arguments: &[A]) -> Output {
+    let input = File::open(text).expect("the text").into();
+    order(Path::new("-"), input, out, arguments)
+}
+
+/// The order written is the shipped one. Otherwise, what is wrong.
+fn same_order(case: &str, done: &Output, out: &Path) -> Result<(), String> {
+    if !done.status.success() {
+        return Err(format!("{case}: {}", String::from_utf8_lossy(&done.stderr)));
+    }
+    let shipped = fs::read(root().join(format!("objects/{case}/order"))).expect("the order");
+    match fs::read(out) {
+        Ok(written) if written == shipped => Ok(()),
+        _ => Err(format!("{case}: another order")),
+    }
+}
+
+#[test]
+fn writes_the_shipped_orders_from_texts() {
+    if !runs("python3") {
+        return;
+    }
+    let cases = cases();
+    for case in TEXTS {
+        let out = Scratch::new(case);
+        let done = from_text(&text_of(case), &out.0, &cases[case]);
+        assert_eq!(same_order(case, &done, &out.0), Ok(()));
+    }
+}
+
+#[test]
+#[ignore = "needs readelf, and takes half a minute"]
+fn writes_every_shipped_order() {
+    let mut faults = Vec::new();
+    for (case, arguments) in cases() {
+        let out = Scratch::new(&format!("all-{case}"));
+        let object = root().join(format!("objects/{case}/{case}.o"));
+        let done = order(&object, Stdio::null(), &out.0, &arguments);
+        faults.extend(same_order(&case, &done, &out.0).err());
+    }
+    assert!(faults.is_empty(), "{}", faults.join("\n"));
+}
+
+#[test]
+fn places_one_after_another() {
+    if !runs("python3") {
+        return;
+    }
+    let out = Scratch::new("rest");
+    let arguments = "--window 0x20000000 --place .sdata.odd=0x20000100 --from 0x20000001 --nobits 0x30000001 --value outer=5";
+    let arguments: Vec<&str> = arguments.split(' ').collect();
+    let done = from_text(&text_of("gcc-sections"), &out.0, &arguments);
+    assert!(done.status.success(), "{done:?}");
+    let shown = Command::new("python3")
+        .arg(root().join("tools/order"))
+        .arg("--show")
+        .arg(&out.0)
+        .output()
+        .expect("python3 runs");
+    let expected = "window base 0x20000000\nplacements 11\n  \
+        row 1: 0x20000002\n  row 2: 0x20000002\n  row 3: 0x30000001\n  row 4: 0x20000002\n  \
+        row 6: 0x2000001a\n  row 8: 0x2000004e\n  row 10: 0x20000080\n  row 12: 0x30000004\n  \
+        row 13: 0x20000084\n  row 14: 0x20000088\n  row 15: 0x20000100\n\
+        outside values 1\n  symbol 23: 0x00000005\n";
+    assert_eq!(String::from_utf8_lossy(&shown.stdout), expected);
+}
+
+/// Arguments after `--window 0`, and a part of the message.
+const REFUSED: [(&str, &str); 12] = [
+    ("--from 0", "no value for the undefined\n  outer (@23)"),
+    (
+        "--place .text=0 --value outer=0",
+        "no address for\n  .data (@2, size 0, alignment 1)\n",
+    ),
+    (
+        "--from 0 --value outer=0 --place .none=0",
+        ".none: no such section",
+    ),
+    (
+        "--from 0 --value outer=0 --place .symtab=0",
+        ".symtab: not allocated",
+    ),
+    ("--from 0 --value outer=0 none=0", "none: no such symbol"),
+    ("--from 0 --value outer=0 first=0", "first: not undefined"),
+    ("--from 0 --value outer=0 @0=0", "@0: not undefined"),
+    ("--from 0 --value outer=0 @23=0", "@23: given twice"),
+    (
+        "--from 0 --value outer=0 --leave third",
+        "third: not undefined",
+    ),
+    (
+        "--from 0 --value outer=0x100000000",
+        "0x100000000: not a number",
+    ),
+    ("--from 0 --value outer", "outer: not a number"),
+    (
+        "--from 0xffffffff --value outer=0",
+        "above 32 placements, 1,024 values or the address",
+    ),
+];
+
+fn refused(text: &Path, arguments: &str, message: &str) {
+    let out = Scratch::new("refused");
+    let arguments: Vec<&str> = ["--window", "0"]
+        .into_iter()
+        .chain(arguments.split(' '))
+        .collect();
+    let done = from_text(text, &out.0, &arguments);
+    let said = String::from_utf8_lossy(&done.stderr);
+    assert_eq!(done.status.code(), Some(1), "{arguments:?}: {said}");
+    assert!(said.contains(message), "{arguments:?}: {said}");
+    assert!(!out.0.exists(), "{arguments:?}: an order was written");
+}
+
+#[test]
+fn refuses_what_cannot_be_right() {
+    if !runs("python3") {
+        return;
+    }
+    for (arguments, message) in REFUSED {
+        refused(&text_of("gcc-sections"), arguments, message);
+    }
+    // two sections of one name, a line that is lost, a text that is none
+    let sections = fs::read_to_string(text_of("gcc-sections")).expect("the text");
+    let twice = sections.replace(".text.second ", ".text.first  ");
+    let lost = sections.replacen("[ 5]", "", 1);
+    for (text, message) in [
+        (&twice, ".text.first: several have this name: @4 @6"),
+        (&lost, "not one ELF32 object"),
+        (&String::new(), "not one ELF32 object"),
+    ] {
+        let file = Scratch::new("text");
+        fs::write(&file.0, text).expect("a text");
+        refused(
+            &file.0,
+            "--from 0 --value outer=0 --place .text.first=0",
+            message,
+        );
+    }
+}
+
+#[test]
+fn shows_no_malformed_order() {
+    if !runs("python3") {
+        return;
+    }
+    let shipped = fs::read(root().join("objects/gcc-sections/order")).expect("the order");
+    let longer = [&shipped[..], &[0; 4]].concat();
+    let mut falling = shipped.clone();
+    falling.swap(12, 20);
+    for bytes in [&shipped[..shipped.len() - 1], &longer, &falling, &[]] {
+        let file = Scratch::new("malformed");
+        fs::write(&file.0, bytes).expect("an order");
+        let done = Command::new("python3")
+            .arg(root().join("tools/order"))
+            .arg("--show")
+            .arg(&file.0)
+            .output()
+            .expect("python3 runs");
+        assert_eq!(done.status.code(), Some(1));
+        assert!(done.stdout.is_empty());
+    }
+}
