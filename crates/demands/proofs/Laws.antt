@@ -5,3 +5,4 @@ pub mod Told
 pub mod Images
 pub mod Laid
 pub mod Demands
+pub mod Wrong

@@ -1,7 +1,7 @@
 //! `tools/order` on what readelf says of shipped objects: it writes the shipped
 //! orders, and refuses what cannot be right. The texts in `orders/` are the output
-//! of `readelf -SsW` (clang-hidden: llvm-readelf). Where python3 is not there,
-//! nothing is tried. With readelf, all objects: `cargo test --test orders -- --ignored`.
+//! of `readelf -SsW` (clang-hidden: llvm-readelf). It needs python3. With readelf,
+//! all objects: `cargo test --test orders -- --ignored`.
 
 use std::collections::BTreeMap;
 use std::fs::{self, File};
@@ -16,14 +16,6 @@ fn root() -> PathBuf {
 
 fn text_of(case: &str) -> PathBuf {
     root().join(format!("rust/reference/tests/orders/{case}.txt"))
-}
-
-fn runs(program: &str) -> bool {
-    Command::new(program)
-        .arg("--version")
-        .stdout(Stdio::null())
-        .status()
-        .is_ok_and(|status| status.success())
 }
 
 /// A file of the test's own, which goes at the end.
@@ -108,9 +100,6 @@ fn same_order(case: &str, done: &Output, out: &Path) -> Result<(), String> {
 
 #[test]
 fn writes_the_shipped_orders_from_texts() {
-    if !runs("python3") {
-        return;
-    }
     let cases = cases();
     for case in TEXTS {
         let out = Scratch::new(case);
@@ -134,9 +123,6 @@ fn writes_every_shipped_order() {
 
 #[test]
 fn places_one_after_another() {
-    if !runs("python3") {
-        return;
-    }
     let out = Scratch::new("rest");
     let arguments = "--window 0x20000000 --place .sdata.odd=0x20000100 --from 0x20000001 --nobits 0x30000001 --value outer=5";
     let arguments: Vec<&str> = arguments.split(' ').collect();
@@ -205,9 +191,6 @@ fn refused(text: &Path, arguments: &str, message: &str) {
 
 #[test]
 fn refuses_what_cannot_be_right() {
-    if !runs("python3") {
-        return;
-    }
     for (arguments, message) in REFUSED {
         refused(&text_of("gcc-sections"), arguments, message);
     }
@@ -232,9 +215,6 @@ fn refuses_what_cannot_be_right() {
 
 #[test]
 fn shows_no_malformed_order() {
-    if !runs("python3") {
-        return;
-    }
     let shipped = fs::read(root().join("objects/gcc-sections/order")).expect("the order");
     let longer = [&shipped[..], &[0; 4]].concat();
     let mut falling = shipped.clone();
