@@ -11,20 +11,20 @@ ghost use Rattle.elf.specs.Headers.{sectionCount};
 ghost use Rattle.elf.specs.Sections.{sectionAt, loaded};
 ghost use Rattle.journal.specs.Journals.{sound};
 ghost use Rattle.journal.specs.Plans.{overwritten};
-ghost use Rattle.journal.specs.Calls.{install as «the-install», rollback as «the-rollback»};
+ghost use Rattle.undo.specs.Calls.{install as «the-install», rollback as «the-rollback»};
 ghost use Rattle.place.specs.Placements.{placementCheck};
 ghost use Rattle.relocate.specs.Search.{number, isBroken};
 ghost use Rattle.patch.specs.Sections.{relocated};
 ghost use Rattle.fitter.specs.Judgement.{planOf, judgement};
 ghost use Rattle.fitter.specs.Answers.{answerOf, verdictOf, packed};
 ghost use Rattle.fitter.specs.Facts.{Readable, Named, Placeable, Fitting, withSection};
-use journal::RolledBack;
 use order::Counts;
 use order::Reading;
 use place::Fault;
 use relocate::search::Finding;
 use relocate::search::RelocationCheck;
 use relocate::search::check_relocations;
+use undo::RolledBack;
 use validate::ObjectCheck;
 
 // What a call answers. A number is a section's, a symbol's, or a relocation's counted from 0 over all.
@@ -200,7 +200,7 @@ fn fit(object: &[u8], order: &[u8], counts: Counts, image: &mut [u8], journal: &
     if !journal::has_room(journal, span.size) {
         return Answer::JournalFull;
     }
-    journal::save(image, journal, span);
+    undo::save(image, journal, span);
     lay(object, order, counts, image);
     Answer::Done
 }
@@ -252,7 +252,7 @@ pub fn rollback(image: &mut [u8], journal: &mut [u8]) -> Answer
     ensures { λ r. ⌜ record { answer = answerOf r; after = record { image = now (image .exit); journal = now (journal .exit) } }
         ≡ «the-rollback» (record { image = now (image .entry); journal = now (journal .entry) }) ⌝ }
 {
-    match journal::rollback(image, journal) {
+    match undo::rollback(image, journal) {
         RolledBack::Done => Answer::Done,
         RolledBack::JournalUnsound => Answer::JournalUnsound,
         RolledBack::ImageTooLong => Answer::WindowBroken,

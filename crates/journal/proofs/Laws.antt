@@ -1,13 +1,4 @@
 -- The laws of the definitions in specs/.
 pub mod Sound
-pub mod Rollback
 pub mod Span
 pub mod Format
-pub mod Stack
-pub mod Moves
-pub mod Install
-pub mod Agree
-pub mod History
-pub mod Corollaries
-pub mod Past
-pub mod Bench

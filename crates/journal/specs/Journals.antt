@@ -11,12 +11,11 @@ use mathlib.Core.Path.{_≡_}
 use Prim.Native.Nat.{ℕ, _+_, _-_, _*_, _≤_, _<_}
 use mathlib.Core.Bool.{Bool, _&&_, _||_}
 use mathlib.Core.List.{List, [], _∷_, _++_}
-use lib.ListN.{length, replicate}
+use lib.ListN.{length}
 use lib.Dec.{leb, ltb, eqb}
-use Rattle.word.specs.Bytes.{leAt, bytes, part}
+use Rattle.word.specs.Bytes.{leAt, bytes}
 use Rattle.word.specs.First.{everywhere, tabulate}
 use Rattle.journal.specs.declared.Span.{Span}
-use Rattle.journal.specs.Plans.{Piece, piece, overwritten}
 
 -- ---- the format
 
@@ -99,38 +98,3 @@ sound j len =
 -- of n and k, a span's length and the journal's length: "n is 16, or 136 + k + span above ledger length"
 unfoldable pub noRoom : ℕ → ℕ → ℕ → ℕ → Bool
 noRoom n k size len = eqb n maxEntries || ltb len (oldAt + k + size)
-
--- ---- what is written, in this order, each piece from its first byte up; "Bytes past 136 + k are not read, and not written otherwise."
-
--- "A fit appends the span's old bytes": these, the entry, k, n
-unfoldable pub saving : List ℕ → List ℕ → Span → List Piece
-saving image j s =
-    piece (oldAt + held j) (part image (s .start) (s .size))
-    ∷ piece (entryAt (count j)) (entryBytes s)
-    ∷ piece heldAt (bytes 4 (held j + s .size))
-    ∷ piece countAt (bytes 4 (count j + 1))
-    ∷ []
-
--- the journal with a span of the image recorded
-unfoldable pub saved : List ℕ → List ℕ → Span → List ℕ
-saved image j s = overwritten j (saving image j s)
-
--- the newest entry, and what k is without it
-abbrev pub newest : List ℕ → Span
-newest j = entry j (count j - 1)
-
-abbrev pub heldBelow : List ℕ → ℕ
-heldBelow j = held j - newest j .size
-
--- "A taking-back writes them back": the newest span's old bytes, into the image
-unfoldable pub restoring : List ℕ → List Piece
-restoring j = piece (newest j .start) (part j (oldAt + heldBelow j) (newest j .size)) ∷ []
-
--- ", zeroes the entry and the released bytes, and lowers n and k": n, k, then the zeroing
-unfoldable pub releasing : List ℕ → List Piece
-releasing j =
-    piece countAt (bytes 4 (count j - 1))
-    ∷ piece heldAt (bytes 4 (heldBelow j))
-    ∷ piece (entryAt (count j - 1)) (entryBytes blank)
-    ∷ piece (oldAt + heldBelow j) (replicate (newest j .size) 0)
-    ∷ []

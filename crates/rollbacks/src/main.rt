@@ -4,8 +4,8 @@
 //     each case    kind u32: 0 a rollback, 1 a save, 2 a rollback of what the case before left
 //                  length of image u32, of journal u32; how many first bytes of each are given u32 u32; span u32 u32
 //                  the bytes given; the others are their places modulo 251
-use journal::RolledBack;
 use journal::Span;
+use undo::RolledBack;
 ghost use Prim.Native.Nat.{_<_, _^_};
 
 fn main() {
@@ -80,7 +80,7 @@ fn fill(s: &mut [u8], given: usize) {
 
 // Document 01's number of a rollback.
 fn rolled_back(image: &mut [u8], book: &mut [u8]) -> u64 {
-    match journal::rollback(image, book) {
+    match undo::rollback(image, book) {
         RolledBack::Done => 0,
         RolledBack::JournalUnsound => 1,
         RolledBack::ImageTooLong => 3,
@@ -102,7 +102,7 @@ fn saved(image: &[u8], book: &mut [u8], span: Span) -> u64 {
     if !journal::has_room(book, span.size) {
         return 15;
     }
-    journal::save(image, book, span);
+    undo::save(image, book, span);
     0
 }
 

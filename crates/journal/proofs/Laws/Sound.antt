@@ -12,7 +12,6 @@ use Rattle.word.proofs.Laws.Tests.{and-left, and-right, and-true, or-right}
 use Rattle.word.proofs.Laws.First.{everywhere-at, everywhere-is, tabulate-snoc, length-tabulate, getD-tabulate}
 use Rattle.journal.specs.declared.Span.{Span}
 use Rattle.journal.specs.Journals.{maxEntries, count, entry, entries, held, blank, total, Sound, isBlank, endsWithin, sound}
-use Rattle.journal.specs.Facts.{Undoable}
 
 -- ---- sums of lengths
 
@@ -122,17 +121,3 @@ entries-length j = length-tabulate (entry j) 16
 pub entries-at : (j : List ℕ) (i : ℕ) → i < 16 → getD (entries j) i blank ≡ entry j i
 unfolding entries
 entries-at j i h = getD-tabulate (entry j) 16 i blank h
-
--- of a sound journal in which an install stands the newest can be undone
-pub undoable : (image j : List ℕ) → Sound j (length image) → 0 < count j → Undoable image j
-undoable image j k some =
-    let few : count j ≤ maxEntries = k .few in
-    let i : ℕ = count j - 1 in
-    let size : getD (entries j) (count j - 1) blank .size ≤ total (entries j) = size-le-total (entries j) (count j - 1) (rw entries-length (omega arith)) in
-    record {
-      some = some;
-      few = few;
-      room = k .fits;
-      within = omega (arith, k .held-is, rw (entries-at j (count j - 1) (omega arith)) at size);
-      inside = k .inside (count j - 1) (omega arith);
-    }

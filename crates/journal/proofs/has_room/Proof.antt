@@ -2,13 +2,9 @@
 use Prim.Native.Nat.{ℕ, _+_}
 use mathlib.Core.List.{List}
 use lib.ListN.{length}
-use Rattle.journal.specs.Journals.{held}
--- `journal::has_room` meets its contract. Assumes nothing.
 use borrow.Author.Tests.{lt-ltb}
 use native.Mathlib.Omega.{arith}
 use Rattle.word.proofs.Laws.Tests.{or-true}
-use Rattle.journal.specs.Journals.{noRoom}
--- `journal::has_room` meets its contract. Assumes nothing.
 use Rattle.journal.specs.Journals.{held, noRoom}
 use borrow.Author.Needs.{needs}
 use Rattle.journal.proofs.has_room.Statement.{statement}
