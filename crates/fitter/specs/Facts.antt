@@ -16,7 +16,7 @@ use Rattle.validate.specs.Rules.{objectCheck}
 use Rattle.place.specs.declared.Fault.the-variants.{Nowhere}
 use Rattle.place.specs.Placements.{placementCheck}
 use Rattle.place.specs.Externals.{externalCheck}
-use Rattle.place.specs.Placing.{placingCheck, hasBytes}
+use Rattle.placing.specs.Placing.{placingCheck, hasBytes}
 use Rattle.patch.specs.Sections.{relocated}
 use Rattle.relocate.specs.declared.search.RelocationCheck.the-variants.{Passed as AllKept}
 use Rattle.relocate.specs.Search.{relocationCheck}

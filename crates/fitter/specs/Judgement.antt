@@ -15,7 +15,7 @@ use Rattle.place.specs.declared.Fault.{Fault}
 use Rattle.place.specs.declared.Fault.the-variants.{Nowhere, At}
 use Rattle.place.specs.Placements.{placementCheck}
 use Rattle.place.specs.Externals.{externalCheck}
-use Rattle.place.specs.Placing.{placingCheck}
+use Rattle.placing.specs.Placing.{placingCheck}
 use Rattle.relocate.specs.declared.search.RelocationCheck.{RelocationCheck}
 use Rattle.relocate.specs.declared.search.RelocationCheck.the-variants.{Passed as AllKept, Broken}
 use Rattle.relocate.specs.Search.{number, relocationCheck}

@@ -82,7 +82,7 @@ fn judge_placing(object: &[u8], order: &[u8], counts: Counts, len: usize) -> Ans
     ensures { λ r. ⌜ verdictOf (now (object .entry)) (now (order .entry)) r ≡ judgement (now (object .entry)) (now (order .entry)) len ⌝ }
 {
     let addresses = order::address_array(order, counts);
-    let placing = place::check_placing(object, addresses, counts.base, len);
+    let placing = placing::check_placing(object, addresses, counts.base, len);
     let fault = placing.fault;
     match fault {
         Fault::Nowhere => judge_relocations(object, order, counts, len),

@@ -11,7 +11,7 @@ ghost use Rattle.elf.specs.Headers.{sectionCount};
 ghost use Rattle.elf.specs.Sections.{sectionAt, loaded};
 ghost use Rattle.validate.specs.Sound.{SoundObject};
 ghost use Rattle.order.specs.Orders.{reading};
-ghost use Rattle.place.specs.Values.{SymbolsOf};
+ghost use Rattle.symbols.specs.Values.{SymbolsOf};
 ghost use Rattle.rela.specs.Sites.{count, entry, found};
 ghost use Rattle.relocate.specs.Values.{S};
 ghost use Rattle.rela.specs.Effects.{takesPair};
@@ -25,8 +25,6 @@ use fields::Width;
 use fields::put_field;
 use order::Counts;
 use order::Reading;
-use place::SymbolValue;
-use place::Symbols;
 use rela::effects::takes_pair;
 use rela::sites::Site;
 use rela::sites::site_at;
@@ -44,6 +42,8 @@ use riscv::halves::lo12;
 use riscv::types::Calculation;
 use riscv::types::Decision;
 use riscv::types::decide;
+use symbols::SymbolValue;
+use symbols::Symbols;
 use word::Address;
 
 // Both halves of a number, where AUIPC or LUI and the instruction after it have them.
@@ -149,7 +149,7 @@ fn sum_at(
     ensures { λ r. ⌜ r ≡ residue 64 (sumAt (now (object .entry)) (now (order .entry)) addresses site j) ⌝ }
 {
     let here = elf::read_relocation(object, site.rela, j);
-    let lookup = place::symbol_value(object, order, counts, symbols, addresses, here.symbol);
+    let lookup = symbols::symbol_value(object, order, counts, symbols, addresses, here.symbol);
     let value = lookup.value;
     symbol_sum(value, here.addend)
 }
@@ -168,7 +168,7 @@ fn distance_at(
     ensures { λ r. ⌜ r ≡ distanceAt (now (object .entry)) (now (order .entry)) addresses site j ⌝ }
 {
     let here = elf::read_relocation(object, site.rela, j);
-    let lookup = place::symbol_value(object, order, counts, symbols, addresses, here.symbol);
+    let lookup = symbols::symbol_value(object, order, counts, symbols, addresses, here.symbol);
     let value = lookup.value;
     let p = place_of(site, here);
     word::sub32(target_of(value, here.addend), p.0 as u64)
@@ -321,7 +321,7 @@ pub fn lay_section(
     copy(elf::section_bytes(object, h), part);
     let i = rela_of(object, t);
     if i < elf::section_count(object) {
-        let symbols = place::symbols_of(object);
+        let symbols = symbols::symbols_of(object);
         let site = site_at(object, addresses, i);
         apply_all(object, order, counts, symbols, addresses, site, part);
     }

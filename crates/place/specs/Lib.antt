@@ -1,4 +1,2 @@
 pub mod Placements
 pub mod Externals
-pub mod Placing
-pub mod Values

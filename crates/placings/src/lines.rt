@@ -1,5 +1,5 @@
 // The lines: number and place in decimal, addresses and values in hexadecimal.
-use place::SymbolValue;
+use symbols::SymbolValue;
 
 // Document 01's number and place.
 pub fn answer(number: u64, place: u64) {

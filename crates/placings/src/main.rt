@@ -1,4 +1,4 @@
-// Places objects by orders, both of which its input spells out, and writes what the functions of `place` find, a line for each pair.
+// Places objects by orders, both of which its input spells out, and writes what the functions of `place`, `placing` and `symbols` find, a line for each pair.
 //
 // The input is a number of commands and then the commands, of thirteen bytes each: a letter and three numbers, a, b and c.
 //

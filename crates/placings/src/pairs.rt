@@ -57,7 +57,7 @@ fn placing(object: &[u8], order: &[u8], counts: Counts, len: usize)
     requires { ⌜ SoundObject (now object) × (reading (now order) ≡ Reading.WellFormed counts) × (len ≤ 65536) ⌝ }
 {
     let given = order::address_array(order, counts);
-    let placed = place::check_placing(object, given, counts.base, len);
+    let placed = placing::check_placing(object, given, counts.base, len);
     let fault = placed.fault;
     let array = placed.addresses;
     match fault {
@@ -86,7 +86,7 @@ fn addresses(array: [u32; 32]) {
 fn values(object: &[u8], order: &[u8], counts: Counts, array: [u32; 32])
     requires { ⌜ SoundObject (now object) × (reading (now order) ≡ Reading.WellFormed counts) ⌝ }
 {
-    let symbols = place::symbols_of(object);
+    let symbols = symbols::symbols_of(object);
     let n = symbols.count;
     if 1024 < n {
         return;
@@ -95,7 +95,7 @@ fn values(object: &[u8], order: &[u8], counts: Counts, array: [u32; 32])
     let mut known = array;
     let mut k: u32 = 0;
     while k < end {
-        let found = place::symbol_value(object, order, counts, symbols, known, k);
+        let found = symbols::symbol_value(object, order, counts, symbols, known, k);
         let value = found.value;
         lines::value(value);
         known = found.addresses;

@@ -10,8 +10,8 @@ use Rattle.word.specs.Powers.{ceilPower}
 use Rattle.elf.specs.declared.Symbol.{Symbol}
 use Rattle.elf.specs.Sections.{sectionAt, symbolTable}
 use Rattle.elf.specs.Entries.{symbolAt}
-use Rattle.place.specs.declared.SymbolValue.{SymbolValue}
-use Rattle.place.specs.declared.SymbolValue.the-variants.{Resolved, Unresolved}
+use Rattle.symbols.specs.declared.SymbolValue.{SymbolValue}
+use Rattle.symbols.specs.declared.SymbolValue.the-variants.{Resolved, Unresolved}
 use Rattle.fields.specs.declared.Field.{Field}
 use Rattle.riscv.specs.declared.forms.Form.{Form}
 use Rattle.riscv.specs.declared.forms.Form.the-variants.{Any, Lui, Auipc, Jal, Branch, LowI, LowS, CallPair, CBranch, CJump}

@@ -3,9 +3,9 @@ use mathlib.Core.List.{List}
 use Prim.Native.Nat.{ℕ}
 use lib.IntN.{ℤ, pos, _+ℤ_}
 use Rattle.word.specs.Whole.{residue}
-use Rattle.place.specs.declared.SymbolValue.{SymbolValue}
-use Rattle.place.specs.declared.SymbolValue.the-variants.{Resolved, Unresolved}
-use Rattle.place.specs.Values.{symbolValue}
+use Rattle.symbols.specs.declared.SymbolValue.{SymbolValue}
+use Rattle.symbols.specs.declared.SymbolValue.the-variants.{Resolved, Unresolved}
+use Rattle.symbols.specs.Values.{symbolValue}
 use Rattle.rela.specs.declared.sites.Site.{Site}
 use Rattle.rela.specs.Sites.{entry}
 

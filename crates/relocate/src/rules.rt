@@ -7,7 +7,7 @@ ghost use Rattle.word.specs.Bytes.{leAt};
 ghost use Rattle.word.specs.Whole.{signed};
 ghost use Rattle.elf.specs.Entries.{symbolCount};
 ghost use Rattle.validate.specs.Sound.{SoundObject};
-ghost use Rattle.place.specs.Values.{SymbolsOf};
+ghost use Rattle.symbols.specs.Values.{SymbolsOf};
 ghost use Rattle.rela.specs.Sites.{entry, effect, offset};
 ghost use Rattle.rela.specs.Effects.{touched, needsPair};
 ghost use Rattle.relocate.specs.Rules.{isResolved, inTarget, symbolWell, isData, standsWell, formWell, isOne, pairWell, reachesWell, distanceWell, boundaryWell};
@@ -15,8 +15,6 @@ ghost use Rattle.rela.specs.Facts.{There, InTable, isWidth};
 use super::pairs::Pair;
 use super::pairs::hi20_pair;
 use fields::Field;
-use place::SymbolValue;
-use place::Symbols;
 use rela::effects::is_store;
 use rela::effects::needs_pair;
 use rela::sites::Site;
@@ -27,6 +25,8 @@ use riscv::ranges::range_of;
 use riscv::types::Calculation;
 use riscv::types::Decision;
 use riscv::types::decide;
+use symbols::SymbolValue;
+use symbols::Symbols;
 use word::Address;
 
 fn is_resolved(value: SymbolValue) -> bool

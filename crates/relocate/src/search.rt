@@ -5,7 +5,7 @@ ghost use Prim.Native.Nat.{_+_, _^_, _≤_};
 ghost use Rattle.word.specs.Whole.{signed, plus};
 ghost use Rattle.validate.specs.Sound.{SoundObject};
 ghost use Rattle.order.specs.Orders.{reading};
-ghost use Rattle.place.specs.Values.{SymbolsOf};
+ghost use Rattle.symbols.specs.Values.{SymbolsOf};
 ghost use Rattle.relocate.specs.Values.{S, T};
 ghost use Rattle.rela.specs.Shape.{previous as «the-previous»};
 ghost use Rattle.relocate.specs.Search.{finding, isBroken, relocationCheck};
@@ -18,14 +18,14 @@ use super::rules::is_symbol_kept;
 use elf::Relocation;
 use order::Counts;
 use order::Reading;
-use place::SymbolValue;
-use place::Symbols;
 use rela::shape::Previous;
 use rela::shape::is_shape_kept;
 use rela::shape::step;
 use rela::sites::Site;
 use rela::sites::site_at;
 use riscv::types::decide;
+use symbols::SymbolValue;
+use symbols::Symbols;
 use word::Address;
 
 // Which of checks 9 to 14 a relocation breaks, if it breaks one.
@@ -81,7 +81,7 @@ fn find_broken(
     if !is_shape_kept(object, site, previous, j) {
         return Finding::BadShape;
     }
-    let lookup = place::symbol_value(object, order, counts, symbols, addresses, here.symbol);
+    let lookup = symbols::symbol_value(object, order, counts, symbols, addresses, here.symbol);
     let value = lookup.value;
     if !is_symbol_kept(object, symbols, site, j, value) {
         return Finding::BadSymbol;
@@ -130,7 +130,7 @@ pub fn check_relocations(
     requires { ⌜ SoundObject (now object) × (reading (now order) ≡ Reading.WellFormed counts) × Placed (now object) addresses ⌝ }
     ensures { λ r. ⌜ r ≡ relocationCheck (now (object .entry)) (now (order .entry)) addresses ⌝ }
 {
-    let symbols = place::symbols_of(object);
+    let symbols = symbols::symbols_of(object);
     let n = elf::section_count(object);
     let mut result = RelocationCheck::Passed;
     let mut number: u32 = 0;

@@ -67,7 +67,7 @@ fn placing(object: &[u8], order: &[u8], counts: Counts, len: usize)
     requires { ⌜ SoundObject (now object) × (reading (now order) ≡ Reading.WellFormed counts) × (len ≤ 65536) ⌝ }
 {
     let given = order::address_array(order, counts);
-    let placed = place::check_placing(object, given, counts.base, len);
+    let placed = placing::check_placing(object, given, counts.base, len);
     let fault = placed.fault;
     let array = placed.addresses;
     match fault {

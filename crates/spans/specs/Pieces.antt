@@ -7,7 +7,7 @@ use mathlib.Core.List.{List, [], _∷_, _++_}
 use lib.ListN.{length, getD}
 use Rattle.elf.specs.Sections.{sectionAt}
 use Rattle.journal.specs.Plans.{Piece, piece}
-use Rattle.place.specs.Placing.{hasBytes}
+use Rattle.placing.specs.Placing.{hasBytes}
 
 -- the laid bytes of the sections below i, in section order: of "a laid row of size above 0", "each at its address less that order's base"
 unfoldable pub pieces : (ℕ → List ℕ) → List ℕ → List ℕ → ℕ → ℕ → List Piece

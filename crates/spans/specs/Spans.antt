@@ -6,7 +6,7 @@ use lib.ListN.{getD}
 use Rattle.elf.specs.Headers.{sectionCount}
 use Rattle.elf.specs.Sections.{sectionAt}
 use Rattle.journal.specs.declared.Span.{Span}
-use Rattle.place.specs.Placing.{endOf, hasBytes}
+use Rattle.placing.specs.Placing.{endOf, hasBytes}
 
 -- the end of the highest laid byte of the sections below i; 0 with none laid
 unfoldable pub highest : List ℕ → List ℕ → ℕ → ℕ → ℕ

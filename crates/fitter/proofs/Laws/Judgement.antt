@@ -23,7 +23,7 @@ use Rattle.place.specs.declared.Fault.{Fault}
 use Rattle.place.specs.declared.Fault.the-variants.{Nowhere, At}
 use Rattle.place.specs.Placements.{placementCheck}
 use Rattle.place.specs.Externals.{externalCheck}
-use Rattle.place.specs.Placing.{placingCheck}
+use Rattle.placing.specs.Placing.{placingCheck}
 use Rattle.rela.proofs.Laws.Widths.{never}
 use Rattle.relocate.specs.declared.search.Finding.{Finding}
 use Rattle.relocate.specs.declared.search.Finding.the-variants.{Kept, BadShape, BadSymbol, BadForm, NoPair, OutOfReach, OffBoundary}

@@ -23,8 +23,8 @@ use Rattle.validate.specs.Sound.{SoundObject}
 use Rattle.validate.proofs.Laws.Bounds.{loaded-inside}
 use Rattle.validate.proofs.Laws.Objects.{sound-object}
 use Rattle.journal.specs.Plans.{Piece, piece, Inside, LaysInside, overwritten, spanOf as spanOfPieces}
-use Rattle.place.specs.Placing.{hasBytes}
-use Rattle.place.proofs.Laws.Theorems.{inside-image}
+use Rattle.placing.specs.Placing.{hasBytes}
+use Rattle.placing.proofs.Laws.Theorems.{inside-image}
 use Rattle.spans.specs.Spans.{highest, spanOf}
 use Rattle.spans.specs.Pieces.{pieces, Sized}
 use Rattle.spans.proofs.Laws.Bounds.{highest-inside}

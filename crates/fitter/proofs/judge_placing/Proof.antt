@@ -7,7 +7,7 @@ use Rattle.order.specs.Windows.{lengthAllowed, windowAllowed}
 use Rattle.order.specs.Addresses.{addresses}
 use Rattle.order.proofs.Laws.Sound.{reading-sound}
 use Rattle.validate.proofs.Laws.Objects.{sound-object}
-use Rattle.place.specs.Placing.{placingCheck}
+use Rattle.placing.specs.Placing.{placingCheck}
 use Rattle.fitter.proofs.Laws.Judgement.{gives-8}
 use borrow.Author.Needs.{needs}
 use Rattle.fitter.proofs.judge_placing.Statement.{statement}

@@ -10,7 +10,7 @@ use Rattle.order.specs.Orders.{base}
 use Rattle.order.specs.Addresses.{addresses}
 use Rattle.order.proofs.Laws.Sound.{reading-sound}
 use Rattle.elf.specs.Sections.{sectionAt, loaded}
-use Rattle.place.specs.Placing.{hasBytes}
+use Rattle.placing.specs.Placing.{hasBytes}
 use Rattle.patch.specs.Sections.{relocated}
 use Rattle.fitter.proofs.Laws.Laying.{is-sound, length-short, bytes-inside, bytes-loaded, no-bytes, some-bytes, with-none, with-some}
 use borrow.Author.Needs.{needs}

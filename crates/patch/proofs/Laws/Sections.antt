@@ -27,8 +27,8 @@ use Rattle.riscv.specs.declared.forms.Form.{Form}
 use Rattle.riscv.specs.declared.types.Calculation.{Calculation}
 use Rattle.riscv.specs.declared.types.Decision.{Decision}
 use Rattle.riscv.specs.declared.types.Decision.the-variants.{Marker, Align, Store, Refused}
-use Rattle.place.specs.declared.SymbolValue.{SymbolValue}
-use Rattle.place.specs.Values.{symbolValue}
+use Rattle.symbols.specs.declared.SymbolValue.{SymbolValue}
+use Rattle.symbols.specs.Values.{symbolValue}
 use Rattle.rela.specs.declared.sites.Site.{Site}
 use Rattle.relocate.specs.declared.search.RelocationCheck.the-variants.{Passed}
 use Rattle.rela.specs.Sites.{siteAt, count, entry, effect, offset, P, found}

@@ -13,9 +13,9 @@ use Rattle.word.specs.Powers.{ceilPower}
 use Rattle.word.proofs.Laws.Tests.{and-left}
 use Rattle.elf.specs.declared.Relocation.{Relocation}
 use Rattle.elf.specs.Entries.{symbolCount}
-use Rattle.place.specs.declared.SymbolValue.{SymbolValue}
-use Rattle.place.specs.declared.SymbolValue.the-variants.{Unresolved}
-use Rattle.place.specs.Values.{symbolValue}
+use Rattle.symbols.specs.declared.SymbolValue.{SymbolValue}
+use Rattle.symbols.specs.declared.SymbolValue.the-variants.{Unresolved}
+use Rattle.symbols.specs.Values.{symbolValue}
 use Rattle.fields.specs.declared.Field.{Field}
 use Rattle.riscv.specs.declared.forms.Form.{Form}
 use Rattle.riscv.specs.declared.types.Calculation.{Calculation}

@@ -8,7 +8,7 @@ use Rattle.word.proofs.Laws.Tests.{and-left, and-right}
 use Rattle.elf.specs.Headers.{sectionCount}
 use Rattle.elf.specs.Sections.{sectionAt, allocated}
 use Rattle.place.specs.declared.Fault.the-variants.{Nowhere}
-use Rattle.place.specs.Placing.{endOf, aligned, endsInMemory, inWindow, apart, misplaced, placingCheck}
+use Rattle.placing.specs.Placing.{endOf, aligned, endsInMemory, inWindow, apart, misplaced, placingCheck}
 use Rattle.place.proofs.Laws.Theorems.{nowhere-holds}
 use Rattle.rela.specs.Facts.{Placed}
 

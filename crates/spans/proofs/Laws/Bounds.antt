@@ -7,8 +7,8 @@ use mathlib.Core.List.{List}
 use Rattle.elf.specs.Headers.{sectionCount}
 use Rattle.elf.specs.Sections.{sectionAt}
 use Rattle.place.specs.declared.Fault.the-variants.{Nowhere}
-use Rattle.place.specs.Placing.{endOf, hasBytes, placingCheck}
-use Rattle.place.proofs.Laws.Theorems.{inside-image}
+use Rattle.placing.specs.Placing.{endOf, hasBytes, placingCheck}
+use Rattle.placing.proofs.Laws.Theorems.{inside-image}
 use Rattle.spans.specs.Spans.{highest, lowestByte, spanOf}
 
 lowered-le : (b : Bool) (a l top : ℕ) → l ≤ top → cond b (min a l) l ≤ top

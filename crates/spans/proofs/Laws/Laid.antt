@@ -12,8 +12,8 @@ use Rattle.elf.specs.Headers.{sectionCount}
 use Rattle.elf.specs.Sections.{sectionAt, loaded}
 use Rattle.journal.specs.Plans.{Piece, piece, end, lowest, spanOf as spanOfPieces}
 use Rattle.place.specs.declared.Fault.the-variants.{Nowhere}
-use Rattle.place.specs.Placing.{endOf, hasBytes, placingCheck}
-use Rattle.place.proofs.Laws.Theorems.{inside-image}
+use Rattle.placing.specs.Placing.{endOf, hasBytes, placingCheck}
+use Rattle.placing.proofs.Laws.Theorems.{inside-image}
 use Rattle.spans.specs.Spans.{highest, lowestByte, spanOf}
 use Rattle.spans.specs.Pieces.{pieces, Sized, FromBase}
 

@@ -1,5 +1,5 @@
 -- `spans::has_bytes` meets its contract. Assumes nothing.
-use Rattle.place.specs.Placing.{hasBytes}
+use Rattle.placing.specs.Placing.{hasBytes}
 use borrow.Author.Needs.{needs}
 use Rattle.spans.proofs.has_bytes.Statement.{statement}
 use Rattle.spans.proofs.has_bytes.Tie as tie

@@ -3,7 +3,7 @@ use mathlib.Core.Path.{_≡_, refl}
 use Prim.Native.Nat.{_-_, _≤_}
 use native.Mathlib.Numerals.{add-one}
 use native.Mathlib.Omega.{arith}
-use Rattle.place.specs.Placing.{endOf}
+use Rattle.placing.specs.Placing.{endOf}
 use Rattle.spans.specs.Spans.{highest}
 use borrow.Author.Needs.{needs}
 use Rattle.spans.proofs.highest_end.Statement.{statement}

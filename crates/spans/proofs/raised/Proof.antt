@@ -2,7 +2,7 @@
 use mathlib.Core.Path.{_≡_, sym, _∙_}
 use mathlib.Core.Bool.{true, false}
 use borrow.Author.Tests.{not-true, not-false}
-use Rattle.place.specs.Placing.{hasBytes}
+use Rattle.placing.specs.Placing.{hasBytes}
 use borrow.Author.Needs.{needs}
 use Rattle.spans.proofs.raised.Statement.{statement}
 use Rattle.spans.proofs.raised.Tie as tie

@@ -5,7 +5,7 @@ use native.Mathlib.Omega.{arith}
 use borrow.Author.Tests.{not-true, not-false}
 use Rattle.riscv.specs.declared.types.Decision.the-variants.{Align}
 use Rattle.riscv.specs.Types.{decision}
-use Rattle.place.specs.Values.{symbolValue}
+use Rattle.symbols.specs.Values.{symbolValue}
 use Rattle.rela.specs.Sites.{entry, effect, A, P}
 use Rattle.relocate.specs.Values.{S, T}
 use Rattle.rela.specs.Shape.{shapeWell}

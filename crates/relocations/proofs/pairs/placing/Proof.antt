@@ -1,7 +1,7 @@
 -- `relocations::pairs::placing` is safe and ends: where check 8 finds nothing, the sections are placed. Assumes nothing.
 use mathlib.Core.Path.{_≡_, sym, ap, _∙_}
 use Rattle.place.specs.declared.Fault.the-variants.{Nowhere}
-use Rattle.place.specs.Placing.{placingCheck}
+use Rattle.placing.specs.Placing.{placingCheck}
 use Rattle.relocate.proofs.Laws.Sites.{placed}
 use borrow.Author.Needs.{needs}
 use Rattle.relocations.proofs.pairs.placing.Statement.{statement}

@@ -12,10 +12,10 @@ use Rattle.elf.specs.Entries.{symbolAt, symbolCount}
 use Rattle.order.specs.declared.Value.{Value}
 use Rattle.order.specs.declared.Value.the-variants.{Given, NotGiven}
 use Rattle.order.specs.Orders.{externalValue}
-use Rattle.place.specs.declared.Symbols.{Symbols}
-use Rattle.place.specs.declared.SymbolValue.{SymbolValue}
-use Rattle.place.specs.declared.SymbolValue.the-variants.{Resolved, Unresolved}
+use Rattle.symbols.specs.declared.Symbols.{Symbols}
+use Rattle.symbols.specs.declared.SymbolValue.{SymbolValue}
+use Rattle.symbols.specs.declared.SymbolValue.the-variants.{Resolved, Unresolved}
 use Rattle.place.specs.Placements.{isAllocated}
 
 abbrev pub ABSOLUTE : ℕ
 ABSOLUTE = 0xFFF1

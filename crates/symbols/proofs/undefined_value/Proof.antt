@@ -1,10 +1,10 @@
--- `place::undefined_value` meets its contract. Assumes nothing.
+-- `symbols::undefined_value` meets its contract. Assumes nothing.
 use mathlib.Core.Path.{sym, ap}
-use Rattle.place.specs.Values.{ofUndefined}
+use Rattle.symbols.specs.Values.{ofUndefined}
 use borrow.Author.Tests.{eq-eqb, ne-eqb}
 use borrow.Author.Needs.{needs}
-use Rattle.place.proofs.undefined_value.Statement.{statement}
-use Rattle.place.proofs.undefined_value.Tie as tie
+use Rattle.symbols.proofs.undefined_value.Statement.{statement}
+use Rattle.symbols.proofs.undefined_value.Tie as tie
 
 enum-known-value : tie.Need-enum-known-value
 enum-known-value c = search needs

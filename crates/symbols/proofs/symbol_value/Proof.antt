@@ -1,4 +1,4 @@
--- `place::symbol_value` meets its contract. Assumes nothing.
+-- `symbols::symbol_value` meets its contract. Assumes nothing.
 use mathlib.Core.Path.{_≡_, refl, ap, _∙_}
 use Prim.Native.Nat.{_≤_, _<_}
 use mathlib.Core.Bool.{true, false, _||_}
@@ -8,10 +8,10 @@ use borrow.Author.Tests.{eq-eqb, ne-eqb, lt-ltb, le-ltb}
 use Rattle.elf.specs.Sections.{sectionAt, symbolTable}
 use Rattle.elf.specs.Entries.{symbolAt, symbolCount}
 use Rattle.validate.proofs.Laws.Bounds.{symbol-inside}
-use Rattle.place.specs.Values.{symbolValue}
+use Rattle.symbols.specs.Values.{symbolValue}
 use borrow.Author.Needs.{needs}
-use Rattle.place.proofs.symbol_value.Statement.{statement}
-use Rattle.place.proofs.symbol_value.Tie as tie
+use Rattle.symbols.proofs.symbol_value.Statement.{statement}
+use Rattle.symbols.proofs.symbol_value.Tie as tie
 
 returns : tie.Need-returns
 unfolding symbolValue

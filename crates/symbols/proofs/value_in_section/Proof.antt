@@ -1,15 +1,15 @@
--- `place::value_in_section` meets its contract. Assumes nothing.
+-- `symbols::value_in_section` meets its contract. Assumes nothing.
 use mathlib.Core.Path.{_≡_, sym, ap, _∙_}
 use mathlib.Core.Bool.{true, false}
 use native.Mathlib.Omega.{arith}
 use borrow.Author.Tests.{eq-eqb, ne-eqb}
-use Rattle.place.specs.declared.SymbolValue.the-variants.{Resolved}
+use Rattle.symbols.specs.declared.SymbolValue.the-variants.{Resolved}
 use Rattle.place.specs.Placements.{isAllocated}
-use Rattle.place.specs.Values.{ofUndefined, ofSection}
+use Rattle.symbols.specs.Values.{ofUndefined, ofSection}
 use Rattle.place.proofs.Laws.Differing.{allocated-there}
 use borrow.Author.Needs.{needs}
-use Rattle.place.proofs.value_in_section.Statement.{statement}
-use Rattle.place.proofs.value_in_section.Tie as tie
+use Rattle.symbols.proofs.value_in_section.Statement.{statement}
+use Rattle.symbols.proofs.value_in_section.Tie as tie
 
 cast-is-allocated-section : tie.Need-cast-is-allocated-section
 cast-is-allocated-section c = search needs

@@ -1,11 +1,11 @@
--- `place::symbols_of` meets its contract. Assumes nothing.
+-- `symbols::symbols_of` meets its contract. Assumes nothing.
 use mathlib.Core.Path.{ap, _∙_}
 use native.Mathlib.Omega.{arith}
 use Rattle.elf.specs.Sections.{sectionAt}
 use Rattle.validate.proofs.Laws.Bounds.{some-symbol}
 use borrow.Author.Needs.{needs}
-use Rattle.place.proofs.symbols_of.Statement.{statement}
-use Rattle.place.proofs.symbols_of.Tie as tie
+use Rattle.symbols.proofs.symbols_of.Statement.{statement}
+use Rattle.symbols.proofs.symbols_of.Tie as tie
 
 symbol-count-requires : tie.Need-symbol-count-requires
 symbol-count-requires c κs = search needs

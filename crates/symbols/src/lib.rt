@@ -1,0 +1,124 @@
+// What symbols are worth.
+ghost use mathlib.Core.Path.{_≡_};
+ghost use Rattle.validate.specs.Sound.{SoundObject};
+ghost use Rattle.order.specs.Orders.{reading};
+ghost use Rattle.symbols.specs.Values.{SymbolsOf, ofUndefined, ofSection, symbolValue};
+use elf::Section;
+use elf::Symbol;
+use order::Counts;
+use order::Reading;
+use order::Value;
+
+// What a symbol is worth, or that it does not resolve.
+pub enum SymbolValue {
+    Resolved(u32),
+    Unresolved,
+}
+
+// The value of an undefined symbol: the order's, else 0 if it is weak.
+fn undefined_value(symbol: Symbol, value: Value) -> SymbolValue
+    ensures { λ r. ⌜ r ≡ ofUndefined symbol value ⌝ }
+{
+    match value {
+        Value::Given(v) => SymbolValue::Resolved(v),
+        Value::NotGiven => {
+            if symbol.binding == 2 {
+                SymbolValue::Resolved(0)
+            } else {
+                SymbolValue::Unresolved
+            }
+        }
+    }
+}
+
+// The value of a symbol, with the addresses that it was looked up in.
+pub struct Lookup {
+    pub value: SymbolValue,
+    pub addresses: [u32; 32],
+}
+
+// The value of symbol k of the table, by the section that it is defined in.
+fn value_in_section(
+    object: &[u8],
+    order: &[u8],
+    counts: Counts,
+    addresses: [u32; 32],
+    k: u32,
+    symbol: Symbol,
+) -> SymbolValue
+    requires { ⌜ SoundObject (now object) × (reading (now order) ≡ Reading.WellFormed counts) ⌝ }
+    ensures { λ r. ⌜ r ≡ ofSection (now (object .entry)) (now (order .entry)) addresses k symbol ⌝ }
+{
+    let section = symbol.section;
+    if place::is_allocated_section(object, section as u32) {
+        let address = addresses[section as usize];
+        return SymbolValue::Resolved(word::add32(address, symbol.value as u64));
+    }
+    if section == 0xfff1 {
+        return SymbolValue::Resolved(symbol.value);
+    }
+    if section != 0 {
+        return SymbolValue::Unresolved;
+    }
+    undefined_value(symbol, order::external_value(order, counts, k))
+}
+
+// The symbol table: its header, and how many symbols it has. Without symbols the header means nothing.
+pub struct Symbols {
+    pub table: Section,
+    pub count: usize,
+}
+
+// The symbols of an object.
+pub fn symbols_of(object: &[u8]) -> Symbols
+    requires { ⌜ SoundObject (now object) ⌝ }
+    ensures { λ r. ⌜ SymbolsOf (now (object .entry)) r ⌝ }
+{
+    let count = elf::symbol_count(object);
+    if count == 0 {
+        return Symbols {
+            table: elf::read_section(object, 0),
+            count,
+        };
+    }
+    Symbols {
+        table: elf::read_section(object, elf::symbol_table(object)),
+        count,
+    }
+}
+
+// S: the value of symbol k.
+pub fn symbol_value(
+    object: &[u8],
+    order: &[u8],
+    counts: Counts,
+    symbols: Symbols,
+    addresses: [u32; 32],
+    k: u32,
+) -> Lookup
+    requires { ⌜ SoundObject (now object) × (reading (now order) ≡ Reading.WellFormed counts) × SymbolsOf (now object) symbols ⌝ }
+    ensures { λ r. ⌜ (r .value ≡ symbolValue (now (object .entry)) (now (order .entry)) addresses k) × (r .addresses ≡ addresses) ⌝ }
+{
+    let at = k as usize;
+    if at == 0 {
+        return Lookup {
+            value: SymbolValue::Resolved(0),
+            addresses,
+        };
+    }
+    if symbols.count <= at {
+        return Lookup {
+            value: SymbolValue::Unresolved,
+            addresses,
+        };
+    }
+    let symbol = elf::read_symbol(object, symbols.table, at);
+    if (symbol.kind == 6) | (symbol.kind == 10) {
+        return Lookup {
+            value: SymbolValue::Unresolved,
+            addresses,
+        };
+    }
+    let value = value_in_section(object, order, counts, addresses, k, symbol);
+    Lookup { value, addresses }
+}
