@@ -20,13 +20,12 @@ use Rattle.riscv.specs.declared.types.Decision.the-variants.{Marker, Align, Sto
 use Rattle.riscv.specs.Halves.{low}
 use Rattle.riscv.specs.Ranges.{distance}
 use Rattle.rela.specs.declared.sites.Site.{Site}
-use Rattle.relocate.specs.declared.pairs.Pair.the-variants.{At}
+use Rattle.rules.specs.declared.pairs.Pair.the-variants.{At}
 use Rattle.rela.specs.Sites.{count, effect, offset, A, P, found}
-use Rattle.relocate.specs.Values.{S, T}
+use Rattle.rules.specs.Values.{S, T, valueAt}
 use Rattle.rela.specs.Shape.{end}
-use Rattle.relocate.specs.Pairs.{pairOf}
-use Rattle.relocate.specs.Rules.{symbol}
-use Rattle.relocate.specs.Values.{valueAt}
+use Rattle.rules.specs.Pairs.{pairOf}
+use Rattle.rules.specs.Rules.{symbol}
 use Rattle.patch.specs.Patches.{highPart}
 use Rattle.patch.specs.Sections.{sumAt, distanceAt, pairDistance}
 

@@ -14,13 +14,12 @@ use Rattle.elf.specs.Entries.{bytesOf}
 use Rattle.riscv.specs.declared.types.Decision.{Decision}
 use Rattle.riscv.specs.declared.types.Decision.the-variants.{Marker, Align, Store, Refused}
 use Rattle.rela.specs.declared.sites.Site.{Site}
-use Rattle.relocate.specs.declared.pairs.Pair.{Pair}
-use Rattle.relocate.specs.declared.pairs.Pair.the-variants.{At, NotOne}
+use Rattle.rules.specs.declared.pairs.Pair.{Pair}
+use Rattle.rules.specs.declared.pairs.Pair.the-variants.{At, NotOne}
 use Rattle.rela.specs.Sites.{siteAt, count, effect, offset, A, P, found}
-use Rattle.relocate.specs.Values.{S, T}
-use Rattle.relocate.specs.Pairs.{pairOf}
-use Rattle.relocate.specs.Rules.{symbol}
-use Rattle.relocate.specs.Values.{valueAt}
+use Rattle.rules.specs.Values.{S, T, valueAt}
+use Rattle.rules.specs.Pairs.{pairOf}
+use Rattle.rules.specs.Rules.{symbol}
 use Rattle.patch.specs.Patches.{patched}
 
 -- what a decision leaves of a section's bytes: the n bytes at an offset, as one number, are patched

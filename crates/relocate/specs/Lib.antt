@@ -1,4 +1,1 @@
-pub mod Values
-pub mod Pairs
-pub mod Rules
 pub mod Search

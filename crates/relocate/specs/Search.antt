@@ -11,9 +11,9 @@ use Rattle.relocate.specs.declared.search.Finding.the-variants.{Kept, Ba
 use Rattle.relocate.specs.declared.search.RelocationCheck.{RelocationCheck}
 use Rattle.relocate.specs.declared.search.RelocationCheck.the-variants.{Passed, Broken}
 use Rattle.rela.specs.Sites.{siteAt, entry, effect, A, P}
-use Rattle.relocate.specs.Values.{valueAt, S, T}
+use Rattle.rules.specs.Values.{valueAt, S, T}
 use Rattle.rela.specs.Shape.{shapeWell}
-use Rattle.relocate.specs.Rules.{symbolWell, formWell, pairWell, distanceWell, boundaryWell}
+use Rattle.rules.specs.Rules.{symbolWell, formWell, pairWell, distanceWell, boundaryWell}
 
 -- document 01's number of what is found; 0 where all rules are kept
 abbrev pub number : Finding → ℕ

@@ -13,7 +13,7 @@ use Rattle.riscv.specs.declared.types.Decision.the-variants.{Marker, Align, Sto
 use Rattle.riscv.specs.Types.{table, among, lookup, decision}
 use Rattle.riscv.specs.Halves.{high, low}
 use Rattle.riscv.specs.Ranges.{reaches}
-use Rattle.relocate.specs.Rules.{distanceWell, boundaryWell}
+use Rattle.rules.specs.Rules.{distanceWell, boundaryWell}
 use Rattle.patch.specs.Patches.{patched}
 
 -- what the definitions give, and what document 01 says

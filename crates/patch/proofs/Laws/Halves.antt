@@ -23,16 +23,15 @@ use Rattle.riscv.specs.Types.{table, among, lookup, decision}
 use Rattle.riscv.specs.Halves.{low}
 use Rattle.riscv.proofs.Laws.Halves.{halves-sum}
 use Rattle.rela.specs.declared.sites.Site.{Site}
-use Rattle.relocate.specs.declared.pairs.Pair.{Pair}
-use Rattle.relocate.specs.declared.pairs.Pair.the-variants.{At, NotOne}
+use Rattle.rules.specs.declared.pairs.Pair.{Pair}
+use Rattle.rules.specs.declared.pairs.Pair.the-variants.{At, NotOne}
 use Rattle.rela.specs.Sites.{count, entry, effect, offset, A, P, found}
-use Rattle.relocate.specs.Values.{S, T}
+use Rattle.rules.specs.Values.{S, T, valueAt}
 use Rattle.rela.specs.Effects.{needsPair}
-use Rattle.relocate.specs.Pairs.{PCREL_HI20, isPair, pairOf}
-use Rattle.relocate.specs.Rules.{symbol, isOne, pairWell}
-use Rattle.relocate.specs.Values.{valueAt}
+use Rattle.rules.specs.Pairs.{PCREL_HI20, isPair, pairOf}
+use Rattle.rules.specs.Rules.{symbol, isOne, pairWell}
 use Rattle.rela.proofs.Laws.Widths.{never}
-use Rattle.relocate.proofs.Laws.Pairs.{pair-there}
+use Rattle.rules.proofs.Laws.Pairs.{pair-there}
 use Rattle.relocate.proofs.Laws.Search.{kept-rules}
 use Rattle.patch.specs.Patches.{highPart}
 use Rattle.patch.specs.Sections.{distanceAt, distanceOf, pairDistance, after}

@@ -27,11 +27,10 @@ use Rattle.riscv.specs.declared.types.Decision.{Decision}
 use Rattle.riscv.specs.declared.types.Decision.the-variants.{Marker, Align, Store, Refused}
 use Rattle.rela.specs.declared.sites.Site.{Site}
 use Rattle.rela.specs.Sites.{count, effect, offset, A, P, found}
-use Rattle.relocate.specs.Values.{S as value, T}
+use Rattle.rules.specs.Values.{S as value, T, valueAt}
 use Rattle.rela.specs.Effects.{touched, isStore, stacks, stackWidth}
 use Rattle.rela.specs.Shape.{end, shapeWell}
-use Rattle.relocate.specs.Rules.{reachesWell, distanceWell}
-use Rattle.relocate.specs.Values.{valueAt}
+use Rattle.rules.specs.Rules.{reachesWell, distanceWell}
 use Rattle.rela.specs.Facts.{isDataField}
 use Rattle.rela.proofs.Laws.Widths.{never}
 use Rattle.rela.proofs.Laws.Decisions.{fieldBytes, store-width, store-bytes, store-data, width-some}

@@ -28,7 +28,7 @@ use Rattle.riscv.specs.Ranges.{distance, rangeOf, reaches}
 use Rattle.riscv.proofs.Laws.Halves.{halves-sum, low-spelt}
 use Rattle.riscv.proofs.Laws.Ranges.{branch-reads-back, jal-reads-back, rvc-branch-reads-back, rvc-jump-reads-back}
 use Rattle.rela.specs.Effects.{stacks}
-use Rattle.relocate.specs.Rules.{reachesWell}
+use Rattle.rules.specs.Rules.{reachesWell}
 use Rattle.rela.specs.Facts.{isDataField}
 use Rattle.rela.proofs.Laws.Widths.{never}
 use Rattle.rela.proofs.Laws.Decisions.{holds, decided}

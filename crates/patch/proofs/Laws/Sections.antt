@@ -32,16 +32,15 @@ use Rattle.symbols.specs.Values.{symbolValue}
 use Rattle.rela.specs.declared.sites.Site.{Site}
 use Rattle.relocate.specs.declared.search.RelocationCheck.the-variants.{Passed}
 use Rattle.rela.specs.Sites.{siteAt, count, entry, effect, offset, P, found}
-use Rattle.relocate.specs.Values.{S, T}
+use Rattle.rules.specs.Values.{S, T, valueAt}
 use Rattle.rela.specs.Effects.{takesPair, isStore}
 use Rattle.rela.specs.Shape.{end}
-use Rattle.relocate.specs.Rules.{symbol}
+use Rattle.rules.specs.Rules.{symbol}
 use Rattle.relocate.specs.Search.{relocationCheck}
-use Rattle.relocate.specs.Values.{valueAt}
 use Rattle.rela.specs.Facts.{SoundSite, Placed}
 use Rattle.rela.proofs.Laws.Widths.{never}
 use Rattle.rela.proofs.Laws.Sites.{sound-site, count-is}
-use Rattle.relocate.proofs.Laws.Rules.{place-below}
+use Rattle.rules.proofs.Laws.Rules.{place-below}
 use Rattle.relocate.proofs.Laws.Search.{counted, finding-entry, passed-kept}
 use Rattle.patch.specs.Patches.{patched}
 use Rattle.patch.specs.Sections.{stored, sumAt, distanceAt, pairDistance, applied, after, relaOf, relocated}

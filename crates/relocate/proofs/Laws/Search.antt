@@ -22,11 +22,10 @@ use Rattle.relocate.specs.declared.search.Finding.{Finding}
 use Rattle.relocate.specs.declared.search.Finding.the-variants.{Kept, BadShape, BadSymbol, BadForm, NoPair, OutOfReach, OffBoundary}
 use Rattle.relocate.specs.declared.search.RelocationCheck.the-variants.{Passed, Broken}
 use Rattle.rela.specs.Sites.{siteAt, effect, A, P}
-use Rattle.relocate.specs.Values.{S, T}
+use Rattle.rules.specs.Values.{S, T, valueAt}
 use Rattle.rela.specs.Shape.{shapeWell}
-use Rattle.relocate.specs.Rules.{symbolWell, formWell, pairWell, distanceWell, boundaryWell}
+use Rattle.rules.specs.Rules.{symbolWell, formWell, pairWell, distanceWell, boundaryWell}
 use Rattle.relocate.specs.Search.{finding, findingOf, isBroken, relocationCheck}
-use Rattle.relocate.specs.Values.{valueAt}
 use Rattle.rela.proofs.Laws.Widths.{never}
 
 -- ---- the number of an entry

@@ -7,13 +7,12 @@ use Rattle.riscv.specs.declared.types.Decision.the-variants.{Align}
 use Rattle.riscv.specs.Types.{decision}
 use Rattle.symbols.specs.Values.{symbolValue}
 use Rattle.rela.specs.Sites.{entry, effect, A, P}
-use Rattle.relocate.specs.Values.{S, T}
+use Rattle.rules.specs.Values.{S, T, valueAt}
 use Rattle.rela.specs.Shape.{shapeWell}
-use Rattle.relocate.specs.Rules.{symbolWell, formWell, pairWell, distanceWell, boundaryWell}
+use Rattle.rules.specs.Rules.{symbolWell, formWell, pairWell, distanceWell, boundaryWell}
 use Rattle.relocate.specs.Search.{finding}
-use Rattle.relocate.specs.Values.{valueAt}
 use Rattle.rela.proofs.Laws.Shape.{shape-inside, padded}
-use Rattle.relocate.proofs.Laws.Rules.{resolved-there, pair-symbol, reach-read, boundary-read}
+use Rattle.rules.proofs.Laws.Rules.{resolved-there, pair-symbol, reach-read, boundary-read}
 use borrow.Author.Needs.{needs}
 use Rattle.relocate.proofs.search.find_broken.Statement.{statement}
 use Rattle.relocate.proofs.search.find_broken.Tie as tie

@@ -3,7 +3,7 @@ use mathlib.Core.Path.{sym, ap, _∙_}
 use native.Mathlib.Omega.{arith}
 use Rattle.word.specs.Whole.{signed}
 use Rattle.word.proofs.Laws.Whole.{plus-signed}
-use Rattle.relocate.specs.Values.{S, T}
+use Rattle.rules.specs.Values.{S, T}
 use borrow.Author.Needs.{needs}
 use Rattle.relocate.proofs.search.target_of.Statement.{statement}
 use Rattle.relocate.proofs.search.target_of.Tie as tie

@@ -1,0 +1,15 @@
+-- `rules::pairs::is_pair` meets its contract. Assumes nothing.
+use Rattle.rules.specs.Pairs.{isPair}
+use borrow.Author.Needs.{needs}
+use Rattle.rules.proofs.pairs.is_pair.Statement.{statement}
+use Rattle.rules.proofs.pairs.is_pair.Tie as tie
+
+read-relocation-requires : tie.Need-read-relocation-requires
+read-relocation-requires c κs = search needs
+
+returns : tie.Need-returns
+unfolding isPair
+returns c = rw (c .before .before .read-relocation .ensures)
+
+pub is-pair-spec : {M : Type 1} → statement M
+is-pair-spec = tie.close (tie.spec read-relocation-requires returns)

@@ -1,0 +1,117 @@
+-- Checks 10 to 14 of one relocation. Assumes nothing: these are definitions.
+use Prim.Native.Nat.{ℕ, _+_, _/_, _%_, _^_}
+use mathlib.Core.Bool.{Bool, true, false, not, _&&_, _||_}
+use mathlib.Core.List.{List}
+use lib.Dec.{ltb, eqb}
+use lib.IntN.{ℤ, pos, natAbs}
+use Rattle.word.specs.Bytes.{leAt}
+use Rattle.word.specs.Whole.{even, minus}
+use Rattle.word.specs.Powers.{ceilPower}
+use Rattle.elf.specs.declared.Symbol.{Symbol}
+use Rattle.elf.specs.Sections.{sectionAt, symbolTable}
+use Rattle.elf.specs.Entries.{symbolAt}
+use Rattle.symbols.specs.declared.SymbolValue.{SymbolValue}
+use Rattle.symbols.specs.declared.SymbolValue.the-variants.{Resolved, Unresolved}
+use Rattle.fields.specs.declared.Field.{Field}
+use Rattle.riscv.specs.declared.forms.Form.{Form}
+use Rattle.riscv.specs.declared.forms.Form.the-variants.{Any, Lui, Auipc, Jal, Branch, LowI, LowS, CallPair, CBranch, CJump}
+use Rattle.riscv.specs.declared.types.Calculation.{Calculation}
+use Rattle.riscv.specs.declared.types.Calculation.the-variants.{Absolute, PcRelative, Distance, BothHalves, HighPcRelative, HighAbsolute, LowAbsolute, LowOfPair, Add, Sub, Set}
+use Rattle.riscv.specs.declared.types.Decision.{Decision}
+use Rattle.riscv.specs.declared.types.Decision.the-variants.{Marker, Align, Store, Refused}
+use Rattle.riscv.specs.Forms.{hasForm}
+use Rattle.riscv.specs.Ranges.{distance, rangeOf, reaches}
+use Rattle.rela.specs.declared.sites.Site.{Site}
+use Rattle.rules.specs.declared.pairs.Pair.{Pair}
+use Rattle.rules.specs.declared.pairs.Pair.the-variants.{At, NotOne}
+use Rattle.rela.specs.Sites.{entry, offset, effect, P, found}
+use Rattle.rela.specs.Effects.{isStore, needsPair}
+use Rattle.rules.specs.Pairs.{pairOf}
+
+-- ---- check 10
+
+abbrev pub isResolved : SymbolValue → Bool
+isResolved (Resolved v) = true
+isResolved Unresolved = false
+
+-- the symbol's entry in the table
+abbrev pub symbol : List ℕ → Site → ℕ → Symbol
+symbol object x j = symbolAt object (sectionAt object (symbolTable object)) (entry object x j .symbol)
+
+-- "A PCREL_LO12 symbol is above 0 and defined in the record's own target row"
+unfoldable pub inTarget : List ℕ → Site → ℕ → Bool
+inTarget object x j = ltb 0 (entry object x j .symbol) && eqb (symbol object x j .section) (x .index)
+
+-- "symbol does not resolve (24, 25: or is not in the target row)"; "Markers skip 10"
+unfoldable pub symbolWell : List ℕ → Site → ℕ → SymbolValue → Bool
+symbolWell object x j value =
+    not (isStore (effect object x j))
+    || (isResolved value && (not (needsPair (effect object x j)) || inTarget object x j))
+
+-- ---- check 11
+
+-- data, which may be any and anywhere
+abbrev pub isData : Form → Bool
+isData Any = true
+isData Lui = false
+isData Auipc = false
+isData Jal = false
+isData Branch = false
+isData LowI = false
+isData LowS = false
+isData CallPair = false
+isData CBranch = false
+isData CJump = false
+
+-- "Instruction at an even address": p is the address, w the number that the bytes touched spell
+unfoldable pub standsWell : Form → ℕ → ℕ → Bool
+standsWell form p w = isData form || (eqb (p % 2) 0 && hasForm form w (w / 2 ^ 32))
+
+abbrev pub asksWell : Decision → ℕ → List ℕ → ℕ → Bool
+asksWell (Store c f form n) p s at = standsWell form p (leAt n s at)
+asksWell Marker p s at = true
+asksWell Align p s at = true
+asksWell Refused p s at = true
+
+-- "as found in the object"
+unfoldable pub formWell : List ℕ → Site → ℕ → Bool
+formWell object x j = asksWell (effect object x j) (P object x j) (found object x) (offset object x j)
+
+-- ---- check 12
+
+abbrev pub isOne : Pair → Bool
+isOne (At k) = true
+isOne NotOne = false
+
+unfoldable pub pairWell : List ℕ → Site → ℕ → Bool
+pairWell object x j = not (needsPair (effect object x j)) || isOne (pairOf object x (symbol object x j .value))
+
+-- ---- check 13, for t, which is T, and p, which is P
+
+-- 16, 17, 44, 45: "the distance is the whole number T - P", "even", and in the field's range; 18, 19: "T - P modulo 2^32, which is even"
+abbrev pub reachesWell : Calculation → Field → ℕ → ℕ → Bool
+reachesWell Distance f t p = reaches (rangeOf f) (distance t p)
+reachesWell BothHalves f t p = even (pos (minus 32 t p))
+reachesWell Absolute f t p = true
+reachesWell PcRelative f t p = true
+reachesWell HighPcRelative f t p = true
+reachesWell HighAbsolute f t p = true
+reachesWell LowAbsolute f t p = true
+reachesWell LowOfPair f t p = true
+reachesWell Add f t p = true
+reachesWell Sub f t p = true
+reachesWell Set f t p = true
+
+abbrev pub distanceWell : Decision → ℕ → ℕ → Bool
+distanceWell (Store c f form n) t p = reachesWell c f t p
+distanceWell Marker t p = true
+distanceWell Align t p = true
+distanceWell Refused t p = true
+
+-- ---- check 14: "P + A a multiple of the smallest power of two at least A + 2"
+
+abbrev pub boundaryWell : Decision → ℕ → ℤ → Bool
+boundaryWell Align p a = eqb ((p + natAbs a) % ceilPower 32 (natAbs a + 2)) 0
+boundaryWell (Store c f form n) p a = true
+boundaryWell Marker p a = true
+boundaryWell Refused p a = true
