@@ -3,8 +3,8 @@ use super::choices;
 use fields::Field;
 use fields::Width;
 use riscv::forms::Form;
-use riscv::types::Calculation;
-use riscv::types::Decision;
+use types::Calculation;
+use types::Decision;
 
 fn first(kind: u8, n: u64) {
     let text = [kind, b' '];
@@ -51,7 +51,7 @@ pub fn half(x: u32) {
 // t: a type, and 0 for a marker, 1 for ALIGN, 3 for a refusal, or 2 with calculation, field, form and bytes.
 pub fn decision(number: u8) {
     first(b't', number as u64);
-    match riscv::types::decide(number) {
+    match types::decide(number) {
         Decision::Marker => then(0),
         Decision::Align => then(1),
         Decision::Store(calculation, field, form, bytes) => {

@@ -11,8 +11,8 @@ use Rattle.word.specs.Whole.{minus}
 use Rattle.elf.specs.Headers.{sectionCount}
 use Rattle.elf.specs.Sections.{sectionAt, countingRela}
 use Rattle.elf.specs.Entries.{bytesOf}
-use Rattle.riscv.specs.declared.types.Decision.{Decision}
-use Rattle.riscv.specs.declared.types.Decision.the-variants.{Marker, Align, Store, Refused}
+use Rattle.types.specs.declared.Decision.{Decision}
+use Rattle.types.specs.declared.Decision.the-variants.{Marker, Align, Store, Refused}
 use Rattle.rela.specs.declared.sites.Site.{Site}
 use Rattle.rules.specs.declared.pairs.Pair.{Pair}
 use Rattle.rules.specs.declared.pairs.Pair.the-variants.{At, NotOne}

@@ -36,14 +36,14 @@ use riscv::data::set;
 use riscv::data::sub;
 use riscv::halves::hi20;
 use riscv::halves::lo12;
-use riscv::types::Calculation;
-use riscv::types::Decision;
-use riscv::types::decide;
 use rules::checks::read_bytes;
 use rules::pairs::Pair;
 use rules::pairs::hi20_pair;
 use symbols::SymbolValue;
 use symbols::Symbols;
+use types::Calculation;
+use types::Decision;
+use types::decide;
 use word::Address;
 
 // Both halves of a number, where AUIPC or LUI and the instruction after it have them.

@@ -10,7 +10,7 @@ use Rattle.elf.specs.Sections.{sectionAt, allocated}
 use Rattle.elf.specs.Entries.{symbolCount}
 use Rattle.fields.specs.declared.Field.{Field}
 use Rattle.fields.specs.declared.Field.the-variants.{U, I, S, B, J, Cb, Cj, Call, Data}
-use Rattle.riscv.specs.declared.types.Calculation.{Calculation}
+use Rattle.types.specs.declared.Calculation.{Calculation}
 use Rattle.rela.specs.declared.sites.Site.{Site}
 use Rattle.rela.specs.Sites.{count, entry}
 use Rattle.rela.specs.Effects.{stacks}

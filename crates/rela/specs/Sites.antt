@@ -7,8 +7,8 @@ use Rattle.word.specs.Whole.{signed}
 use Rattle.elf.specs.declared.Relocation.{Relocation}
 use Rattle.elf.specs.Sections.{sectionAt}
 use Rattle.elf.specs.Entries.{bytesOf, relocationAt}
-use Rattle.riscv.specs.declared.types.Decision.{Decision}
-use Rattle.riscv.specs.Types.{decision}
+use Rattle.types.specs.declared.Decision.{Decision}
+use Rattle.types.specs.Types.{decision}
 use Rattle.rela.specs.declared.sites.Site.{Site}
 
 -- the site of RELA section i: its header, and the header, number and address of "the record's own target row"

@@ -4,8 +4,8 @@ ghost use Rattle.fields.specs.Fields.{valueBits};
 ghost use Rattle.rela.specs.Effects.{isStore, isRefused, touched, stacks, stackWidth, takesPair, needsPair};
 use fields::Field;
 use fields::Width;
-use riscv::types::Calculation;
-use riscv::types::Decision;
+use types::Calculation;
+use types::Decision;
 
 // Whether bytes are stored (document 01: a non-marker).
 pub fn is_store(decision: Decision) -> bool

@@ -11,8 +11,8 @@ use super::effects::is_store;
 use super::effects::needs_pair;
 use super::effects::stack_width;
 use super::sites::Site;
-use riscv::types::Decision;
-use riscv::types::decide;
+use types::Decision;
+use types::decide;
 
 // The previous non-marker of a relocation, among those of its site.
 pub enum Previous {

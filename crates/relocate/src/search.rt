@@ -18,7 +18,6 @@ use rela::shape::is_shape_kept;
 use rela::shape::step;
 use rela::sites::Site;
 use rela::sites::site_at;
-use riscv::types::decide;
 use rules::checks::is_form_kept;
 use rules::checks::is_in_reach;
 use rules::checks::is_on_boundary;
@@ -26,6 +25,7 @@ use rules::checks::is_paired;
 use rules::checks::is_symbol_kept;
 use symbols::SymbolValue;
 use symbols::Symbols;
+use types::decide;
 use word::Address;
 
 // Which of checks 9 to 14 a relocation breaks, if it breaks one.

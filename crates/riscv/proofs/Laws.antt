@@ -2,4 +2,3 @@
 pub mod Halves
 pub mod Ranges
 pub mod Data
-pub mod Types

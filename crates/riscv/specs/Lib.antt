@@ -1,5 +1,4 @@
 pub mod Halves
 pub mod Ranges
 pub mod Forms
-pub mod Types
 pub mod Data

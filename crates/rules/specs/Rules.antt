@@ -15,10 +15,10 @@ use Rattle.symbols.specs.declared.SymbolValue.the-variants.{Resolved, Unresolve
 use Rattle.fields.specs.declared.Field.{Field}
 use Rattle.riscv.specs.declared.forms.Form.{Form}
 use Rattle.riscv.specs.declared.forms.Form.the-variants.{Any, Lui, Auipc, Jal, Branch, LowI, LowS, CallPair, CBranch, CJump}
-use Rattle.riscv.specs.declared.types.Calculation.{Calculation}
-use Rattle.riscv.specs.declared.types.Calculation.the-variants.{Absolute, PcRelative, Distance, BothHalves, HighPcRelative, HighAbsolute, LowAbsolute, LowOfPair, Add, Sub, Set}
-use Rattle.riscv.specs.declared.types.Decision.{Decision}
-use Rattle.riscv.specs.declared.types.Decision.the-variants.{Marker, Align, Store, Refused}
+use Rattle.types.specs.declared.Calculation.{Calculation}
+use Rattle.types.specs.declared.Calculation.the-variants.{Absolute, PcRelative, Distance, BothHalves, HighPcRelative, HighAbsolute, LowAbsolute, LowOfPair, Add, Sub, Set}
+use Rattle.types.specs.declared.Decision.{Decision}
+use Rattle.types.specs.declared.Decision.the-variants.{Marker, Align, Store, Refused}
 use Rattle.riscv.specs.Forms.{hasForm}
 use Rattle.riscv.specs.Ranges.{distance, rangeOf, reaches}
 use Rattle.rela.specs.declared.sites.Site.{Site}

@@ -21,11 +21,11 @@ use riscv::forms::Form;
 use riscv::forms::has_form;
 use riscv::ranges::in_reach;
 use riscv::ranges::range_of;
-use riscv::types::Calculation;
-use riscv::types::Decision;
-use riscv::types::decide;
 use symbols::SymbolValue;
 use symbols::Symbols;
+use types::Calculation;
+use types::Decision;
+use types::decide;
 use word::Address;
 
 fn is_resolved(value: SymbolValue) -> bool

@@ -12,8 +12,8 @@ use borrow.Author.Tests.{leb-false, ltb-false, not-true}
 use Rattle.word.specs.Bytes.{leAt, bytes}
 use Rattle.word.proofs.Laws.First.{everywhere-at}
 use Rattle.word.proofs.Laws.Bytes.{leAt-one, leAt-sets-other, length-bytes}
-use Rattle.riscv.specs.declared.types.Decision.{Decision}
-use Rattle.riscv.specs.declared.types.Decision.the-variants.{Marker, Align, Store, Refused}
+use Rattle.types.specs.declared.Decision.{Decision}
+use Rattle.types.specs.declared.Decision.the-variants.{Marker, Align, Store, Refused}
 use Rattle.rela.specs.declared.sites.Site.{Site}
 use Rattle.rela.specs.Sites.{count, effect, offset, P, found}
 use Rattle.rela.specs.Effects.{touched, isStore}

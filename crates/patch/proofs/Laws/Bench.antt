@@ -8,9 +8,9 @@ use Rattle.word.specs.First.{first}
 use Rattle.word.specs.Powers.{ceilPower, ceilLog}
 use Rattle.word.specs.Whole.{residue, signed, within, even, minus}
 use Rattle.fields.specs.Layouts.{read, put}
-use Rattle.riscv.specs.declared.types.Decision.{Decision}
-use Rattle.riscv.specs.declared.types.Decision.the-variants.{Marker, Align, Store, Refused}
-use Rattle.riscv.specs.Types.{table, among, lookup, decision}
+use Rattle.types.specs.declared.Decision.{Decision}
+use Rattle.types.specs.declared.Decision.the-variants.{Marker, Align, Store, Refused}
+use Rattle.types.specs.Types.{table, among, lookup, decision}
 use Rattle.riscv.specs.Halves.{high, low}
 use Rattle.riscv.specs.Ranges.{reaches}
 use Rattle.rules.specs.Rules.{distanceWell, boundaryWell}

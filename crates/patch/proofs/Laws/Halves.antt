@@ -16,10 +16,10 @@ use Rattle.fields.specs.declared.Field.the-variants.{U}
 use Rattle.fields.specs.Layouts.{read}
 use Rattle.fields.specs.Fields.{layout}
 use Rattle.riscv.specs.declared.forms.Form.the-variants.{Auipc}
-use Rattle.riscv.specs.declared.types.Calculation.the-variants.{HighPcRelative, HighAbsolute, LowAbsolute, LowOfPair}
-use Rattle.riscv.specs.declared.types.Decision.{Decision}
-use Rattle.riscv.specs.declared.types.Decision.the-variants.{Store}
-use Rattle.riscv.specs.Types.{table, among, lookup, decision}
+use Rattle.types.specs.declared.Calculation.the-variants.{HighPcRelative, HighAbsolute, LowAbsolute, LowOfPair}
+use Rattle.types.specs.declared.Decision.{Decision}
+use Rattle.types.specs.declared.Decision.the-variants.{Store}
+use Rattle.types.specs.Types.{table, among, lookup, decision}
 use Rattle.riscv.specs.Halves.{low}
 use Rattle.riscv.proofs.Laws.Halves.{halves-sum}
 use Rattle.rela.specs.declared.sites.Site.{Site}

@@ -15,10 +15,10 @@ use Rattle.fields.specs.declared.Field.{Field}
 use Rattle.fields.specs.declared.Field.the-variants.{U, I, S, B, J, Cb, Cj, Call, Data}
 use Rattle.fields.specs.Fields.{bits, valueBits}
 use Rattle.riscv.specs.declared.forms.Form.{Form}
-use Rattle.riscv.specs.declared.types.Calculation.{Calculation}
-use Rattle.riscv.specs.declared.types.Decision.{Decision}
-use Rattle.riscv.specs.declared.types.Decision.the-variants.{Marker, Align, Store, Refused}
-use Rattle.riscv.specs.Types.{decision}
+use Rattle.types.specs.declared.Calculation.{Calculation}
+use Rattle.types.specs.declared.Decision.{Decision}
+use Rattle.types.specs.declared.Decision.the-variants.{Marker, Align, Store, Refused}
+use Rattle.types.specs.Types.{decision}
 use Rattle.rela.specs.declared.sites.Site.{Site}
 use Rattle.rela.specs.declared.shape.Previous.the-variants.{Entry}
 use Rattle.rela.specs.Sites.{offset, effect}

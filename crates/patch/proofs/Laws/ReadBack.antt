@@ -21,10 +21,10 @@ use Rattle.fields.specs.Layouts.{read, outside}
 use Rattle.fields.specs.Fields.{layout, valueBits}
 use Rattle.fields.proofs.Laws.Layouts.{total, put-lt, outside-put}
 use Rattle.riscv.specs.declared.forms.Form.{Form}
-use Rattle.riscv.specs.declared.types.Calculation.{Calculation}
-use Rattle.riscv.specs.declared.types.Calculation.the-variants.{Absolute, PcRelative, Distance, BothHalves, HighPcRelative, HighAbsolute, LowAbsolute, LowOfPair, Add, Sub, Set}
-use Rattle.riscv.specs.declared.types.Decision.{Decision}
-use Rattle.riscv.specs.declared.types.Decision.the-variants.{Marker, Align, Store, Refused}
+use Rattle.types.specs.declared.Calculation.{Calculation}
+use Rattle.types.specs.declared.Calculation.the-variants.{Absolute, PcRelative, Distance, BothHalves, HighPcRelative, HighAbsolute, LowAbsolute, LowOfPair, Add, Sub, Set}
+use Rattle.types.specs.declared.Decision.{Decision}
+use Rattle.types.specs.declared.Decision.the-variants.{Marker, Align, Store, Refused}
 use Rattle.rela.specs.declared.sites.Site.{Site}
 use Rattle.rela.specs.Sites.{count, effect, offset, A, P, found}
 use Rattle.rules.specs.Values.{S as value, T, valueAt}

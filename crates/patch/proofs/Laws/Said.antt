@@ -18,11 +18,11 @@ use Rattle.fields.specs.Fields.{layout, valueBits, unit}
 use Rattle.fields.proofs.Laws.Layouts.{held, read-put, total, put-append}
 use Rattle.fields.proofs.Laws.Fields.{reads-back}
 use Rattle.riscv.specs.declared.forms.Form.{Form}
-use Rattle.riscv.specs.declared.types.Calculation.{Calculation}
-use Rattle.riscv.specs.declared.types.Calculation.the-variants.{Absolute, PcRelative, Distance, BothHalves, HighPcRelative, HighAbsolute, LowAbsolute, LowOfPair, Add, Sub, Set}
-use Rattle.riscv.specs.declared.types.Decision.{Decision}
-use Rattle.riscv.specs.declared.types.Decision.the-variants.{Marker, Align, Store, Refused}
-use Rattle.riscv.specs.Types.{table, decision}
+use Rattle.types.specs.declared.Calculation.{Calculation}
+use Rattle.types.specs.declared.Calculation.the-variants.{Absolute, PcRelative, Distance, BothHalves, HighPcRelative, HighAbsolute, LowAbsolute, LowOfPair, Add, Sub, Set}
+use Rattle.types.specs.declared.Decision.{Decision}
+use Rattle.types.specs.declared.Decision.the-variants.{Marker, Align, Store, Refused}
+use Rattle.types.specs.Types.{table, decision}
 use Rattle.riscv.specs.Halves.{high, low}
 use Rattle.riscv.specs.Ranges.{distance, rangeOf, reaches}
 use Rattle.riscv.proofs.Laws.Halves.{halves-sum, low-spelt}

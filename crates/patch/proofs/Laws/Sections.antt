@@ -24,9 +24,9 @@ use Rattle.elf.specs.Entries.{bytesOf, symbolAt}
 use Rattle.validate.specs.Sound.{SoundObject}
 use Rattle.fields.specs.declared.Field.{Field}
 use Rattle.riscv.specs.declared.forms.Form.{Form}
-use Rattle.riscv.specs.declared.types.Calculation.{Calculation}
-use Rattle.riscv.specs.declared.types.Decision.{Decision}
-use Rattle.riscv.specs.declared.types.Decision.the-variants.{Marker, Align, Store, Refused}
+use Rattle.types.specs.declared.Calculation.{Calculation}
+use Rattle.types.specs.declared.Decision.{Decision}
+use Rattle.types.specs.declared.Decision.the-variants.{Marker, Align, Store, Refused}
 use Rattle.symbols.specs.declared.SymbolValue.{SymbolValue}
 use Rattle.symbols.specs.Values.{symbolValue}
 use Rattle.rela.specs.declared.sites.Site.{Site}

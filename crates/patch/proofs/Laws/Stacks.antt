@@ -15,8 +15,8 @@ use Rattle.fields.specs.declared.Field.the-variants.{U, I, S, B, J, Cb, Cj, Cal
 use Rattle.fields.specs.Layouts.{read, put}
 use Rattle.fields.specs.Fields.{layout, valueBits, bits, dataLayout}
 use Rattle.fields.proofs.Laws.Fields.{reads-back, read-whole, read-six}
-use Rattle.riscv.specs.declared.types.Calculation.{Calculation}
-use Rattle.riscv.specs.declared.types.Calculation.the-variants.{Absolute, PcRelative, Distance, BothHalves, HighPcRelative, HighAbsolute, LowAbsolute, LowOfPair, Add, Sub, Set}
+use Rattle.types.specs.declared.Calculation.{Calculation}
+use Rattle.types.specs.declared.Calculation.the-variants.{Absolute, PcRelative, Distance, BothHalves, HighPcRelative, HighAbsolute, LowAbsolute, LowOfPair, Add, Sub, Set}
 use Rattle.rela.specs.Effects.{stacks}
 use Rattle.rela.specs.Facts.{isDataField}
 use Rattle.rela.proofs.Laws.Widths.{never}

@@ -1,7 +1,7 @@
 -- `patch::apply` meets its contract. Assumes nothing.
 use mathlib.Core.Path.{sym, ap, _∙_}
 use native.Mathlib.Omega.{arith}
-use Rattle.riscv.specs.Types.{decision}
+use Rattle.types.specs.Types.{decision}
 use Rattle.rela.specs.Sites.{entry, offset}
 use Rattle.rela.specs.Effects.{isStore, touched, needsPair}
 use Rattle.rela.proofs.Laws.Decisions.{store-width, store-data}

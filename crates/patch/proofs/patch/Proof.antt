@@ -6,7 +6,7 @@ use Rattle.word.specs.Whole.{residue, signed, minus}
 use Rattle.word.proofs.Laws.Whole.{cut-signed}
 use Rattle.fields.specs.Layouts.{put}
 use Rattle.fields.specs.Fields.{layout}
-use Rattle.riscv.specs.declared.types.Calculation.the-variants.{Add, Sub, Set}
+use Rattle.types.specs.declared.Calculation.the-variants.{Add, Sub, Set}
 use Rattle.riscv.specs.Data.{added, subtracted, replaced}
 use Rattle.rela.specs.Facts.{onData}
 use Rattle.patch.specs.Patches.{highPart, lowPart, patched}

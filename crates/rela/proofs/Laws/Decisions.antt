@@ -12,10 +12,10 @@ use Rattle.fields.specs.declared.Width.the-variants.{W6, W8, W16, W32, W64}
 use Rattle.fields.specs.declared.Field.{Field}
 use Rattle.fields.specs.declared.Field.the-variants.{U, I, S, B, J, Cb, Cj, Call, Data}
 use Rattle.riscv.specs.declared.forms.Form.{Form}
-use Rattle.riscv.specs.declared.types.Calculation.{Calculation}
-use Rattle.riscv.specs.declared.types.Decision.{Decision}
-use Rattle.riscv.specs.declared.types.Decision.the-variants.{Marker, Align, Store, Refused}
-use Rattle.riscv.specs.Types.{Line, table, among, lookup, decision}
+use Rattle.types.specs.declared.Calculation.{Calculation}
+use Rattle.types.specs.declared.Decision.{Decision}
+use Rattle.types.specs.declared.Decision.the-variants.{Marker, Align, Store, Refused}
+use Rattle.types.specs.Types.{Line, table, among, lookup, decision}
 use Rattle.rela.specs.Effects.{touched}
 use Rattle.rela.specs.Facts.{isWidth, onData}
 use Rattle.rela.proofs.Laws.Widths.{never}

@@ -8,7 +8,7 @@ use native.Mathlib.Decide.{decLt}
 use lib.Dec.{leb}
 use borrow.Author.Tests.{leb-true, not-true}
 use Rattle.word.proofs.Laws.Tests.{and-left, and-right}
-use Rattle.riscv.specs.declared.types.Decision.the-variants.{Align}
+use Rattle.types.specs.declared.Decision.the-variants.{Align}
 use Rattle.rela.specs.declared.sites.Site.{Site}
 use Rattle.rela.specs.declared.shape.Previous.the-variants.{Entry}
 use Rattle.rela.specs.Sites.{entry, offset, effect, A}

@@ -16,7 +16,7 @@ use Rattle.elf.specs.Sections.{relocationsIn, relocationsBelow}
 use Rattle.elf.specs.Entries.{relocationCount, locationOf}
 use Rattle.elf.proofs.Laws.Entries.{located}
 use Rattle.symbols.specs.declared.SymbolValue.{SymbolValue}
-use Rattle.riscv.specs.declared.types.Decision.{Decision}
+use Rattle.types.specs.declared.Decision.{Decision}
 use Rattle.rela.specs.declared.sites.Site.{Site}
 use Rattle.relocate.specs.declared.search.Finding.{Finding}
 use Rattle.relocate.specs.declared.search.Finding.the-variants.{Kept, BadShape, BadSymbol, BadForm, NoPair, OutOfReach, OffBoundary}

@@ -18,10 +18,10 @@ use Rattle.symbols.specs.declared.SymbolValue.the-variants.{Unresolved}
 use Rattle.symbols.specs.Values.{symbolValue}
 use Rattle.fields.specs.declared.Field.{Field}
 use Rattle.riscv.specs.declared.forms.Form.{Form}
-use Rattle.riscv.specs.declared.types.Calculation.{Calculation}
-use Rattle.riscv.specs.declared.types.Decision.{Decision}
-use Rattle.riscv.specs.declared.types.Decision.the-variants.{Marker, Align, Store, Refused}
-use Rattle.riscv.specs.Types.{decision}
+use Rattle.types.specs.declared.Calculation.{Calculation}
+use Rattle.types.specs.declared.Decision.{Decision}
+use Rattle.types.specs.declared.Decision.the-variants.{Marker, Align, Store, Refused}
+use Rattle.types.specs.Types.{decision}
 use Rattle.rela.specs.declared.sites.Site.{Site}
 use Rattle.rela.specs.Sites.{entry, offset, effect, A, P, found}
 use Rattle.rules.specs.Values.{S, T}

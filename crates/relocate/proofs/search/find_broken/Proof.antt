@@ -3,8 +3,8 @@ use mathlib.Core.Path.{_≡_, sym, ap, _∙_}
 use mathlib.Core.Bool.{true, false}
 use native.Mathlib.Omega.{arith}
 use borrow.Author.Tests.{not-true, not-false}
-use Rattle.riscv.specs.declared.types.Decision.the-variants.{Align}
-use Rattle.riscv.specs.Types.{decision}
+use Rattle.types.specs.declared.Decision.the-variants.{Align}
+use Rattle.types.specs.Types.{decision}
 use Rattle.symbols.specs.Values.{symbolValue}
 use Rattle.rela.specs.Sites.{entry, effect, A, P}
 use Rattle.rules.specs.Values.{S, T, valueAt}

@@ -1,6 +1,6 @@
 -- `rules::checks::is_form_kept` meets its contract. Assumes nothing.
 use mathlib.Core.Path.{sym, ap, _∙_}
-use Rattle.riscv.specs.Types.{decision}
+use Rattle.types.specs.Types.{decision}
 use Rattle.rela.specs.Effects.{touched}
 use Rattle.rules.specs.Rules.{formWell}
 use Rattle.rela.proofs.Laws.Decisions.{store-width}

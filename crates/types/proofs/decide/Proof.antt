@@ -1,11 +1,11 @@
--- `riscv::types::decide` meets its contract. Assumes nothing.
+-- `types::decide` meets its contract. Assumes nothing.
 use mathlib.Core.Path.{sym, ap}
 use mathlib.Core.Logic.{⊎-elim}
 use native.Mathlib.Omega.{arith}
-use Rattle.riscv.proofs.Laws.Types.{others-refused, call-types, too-low, too-high}
-use Rattle.riscv.specs.Types.{among, table, lookup, decision}
-use Rattle.riscv.proofs.types.decide.Statement.{statement}
-use Rattle.riscv.proofs.types.decide.Tie as tie
+use Rattle.types.proofs.Laws.Types.{others-refused, call-types, too-low, too-high}
+use Rattle.types.specs.Types.{among, table, lookup, decision}
+use Rattle.types.proofs.decide.Statement.{statement}
+use Rattle.types.proofs.decide.Tie as tie
 
 returns : tie.Need-returns
 unfolding decision lookup table among

@@ -9,8 +9,8 @@ use lib.Dec.{eqb}
 use types.Run.{OneOf}
 use borrow.Author.Tests.{eqb-true, eqb-false}
 use Rattle.word.proofs.Laws.Tests.{and-left, and-right, or-false}
-use Rattle.riscv.specs.declared.types.Decision.the-variants.{Refused}
-use Rattle.riscv.specs.Types.{Line, table, among, lookup, decision}
+use Rattle.types.specs.declared.Decision.the-variants.{Refused}
+use Rattle.types.specs.Types.{Line, table, among, lookup, decision}
 
 -- ---- a number in a list, and in several
 

@@ -1,9 +1,9 @@
 // The decision from a relocation's type number to its calculation, field and width, or a refusal.
 ghost use mathlib.Core.Path.{_≡_};
-ghost use Rattle.riscv.specs.Types.{decision};
-use super::forms::Form;
+ghost use Rattle.types.specs.Types.{decision};
 use fields::Field;
 use fields::Width;
+use riscv::forms::Form;
 
 // What is stored, T being the symbol's value with the addend and P the place's address.
 pub enum Calculation {
