@@ -9,7 +9,7 @@ use Rattle.order.specs.declared.Counts.{Counts}
 use Rattle.order.specs.declared.Reading.the-variants.{WellFormed}
 use Rattle.order.specs.Orders.{base, reading}
 use Rattle.order.specs.Windows.{windowAllowed}
-use Rattle.order.specs.Addresses.{addresses}
+use Rattle.lookup.specs.Addresses.{addresses}
 use Rattle.elf.specs.Sections.{sectionAt}
 use Rattle.validate.specs.declared.ObjectCheck.the-variants.{Passed}
 use Rattle.validate.specs.Rules.{objectCheck}

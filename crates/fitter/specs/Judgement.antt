@@ -5,7 +5,7 @@ use mathlib.Core.Bool.{cond}
 use mathlib.Core.List.{List}
 use Rattle.order.specs.Orders.{base, wellFormed}
 use Rattle.order.specs.Windows.{windowAllowed}
-use Rattle.order.specs.Addresses.{addresses}
+use Rattle.lookup.specs.Addresses.{addresses}
 use Rattle.validate.specs.declared.ObjectCheck.{ObjectCheck}
 use Rattle.validate.specs.declared.ObjectCheck.the-variants.{Passed, BadHeader, BadSection}
 use Rattle.elf.specs.Headers.{sectionCount}

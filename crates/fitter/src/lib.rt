@@ -6,7 +6,7 @@ ghost use mathlib.Core.Bool.{true};
 ghost use lib.Dec.{eqb};
 ghost use lib.Seq.{sets};
 ghost use Rattle.order.specs.Orders.{reading};
-ghost use Rattle.order.specs.Addresses.{addresses as «the-addresses»};
+ghost use Rattle.lookup.specs.Addresses.{addresses as «the-addresses»};
 ghost use Rattle.elf.specs.Headers.{sectionCount};
 ghost use Rattle.elf.specs.Sections.{sectionAt, loaded};
 ghost use Rattle.journal.specs.Journals.{sound};
@@ -69,7 +69,7 @@ fn judge_relocations(object: &[u8], order: &[u8], counts: Counts, len: usize) ->
     requires { ⌜ Placeable (now object) (now order) counts len ⌝ }
     ensures { λ r. ⌜ verdictOf (now (object .entry)) (now (order .entry)) r ≡ judgement (now (object .entry)) (now (order .entry)) len ⌝ }
 {
-    let addresses = order::address_array(order, counts);
+    let addresses = lookup::address_array(order, counts);
     match check_relocations(object, order, counts, addresses) {
         RelocationCheck::Passed => Answer::Done,
         RelocationCheck::Broken(finding, k) => refusal(finding, k),
@@ -81,7 +81,7 @@ fn judge_placing(object: &[u8], order: &[u8], counts: Counts, len: usize) -> Ans
     requires { ⌜ Named (now object) (now order) counts len ⌝ }
     ensures { λ r. ⌜ verdictOf (now (object .entry)) (now (order .entry)) r ≡ judgement (now (object .entry)) (now (order .entry)) len ⌝ }
 {
-    let addresses = order::address_array(order, counts);
+    let addresses = lookup::address_array(order, counts);
     let placing = placing::check_placing(object, addresses, counts.base, len);
     let fault = placing.fault;
     match fault {
@@ -180,7 +180,7 @@ fn lay(object: &[u8], order: &[u8], counts: Counts, image: &mut [u8])
     requires { ⌜ Fitting (now object) (now order) counts (length (now image)) ⌝ }
     ensures { λ _. ⌜ now (image .exit) ≡ overwritten (now (image .entry)) (planOf (now (object .entry)) (now (order .entry))) ⌝ }
 {
-    let addresses = order::address_array(order, counts);
+    let addresses = lookup::address_array(order, counts);
     let n = elf::section_count(object);
     let mut t: usize = 0;
     while t < n {
@@ -195,7 +195,7 @@ fn fit(object: &[u8], order: &[u8], counts: Counts, image: &mut [u8], journal: &
     ensures { λ r. ⌜ record { answer = answerOf r; after = record { image = now (image .exit); journal = now (journal .exit) } }
         ≡ «the-install» judgement (now (object .entry)) (now (order .entry)) (record { image = now (image .entry); journal = now (journal .entry) }) ⌝ }
 {
-    let addresses = order::address_array(order, counts);
+    let addresses = lookup::address_array(order, counts);
     let span = spans::span_of(object, addresses, counts.base);
     if !journal::has_room(journal, span.size) {
         return Answer::JournalFull;

@@ -1,4 +1,2 @@
 pub mod Orders
 pub mod Windows
-pub mod Addresses
-pub mod Facts

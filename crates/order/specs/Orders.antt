@@ -11,12 +11,10 @@ use mathlib.Core.List.{List, [], _∷_, _++_}
 use lib.ListN.{length}
 use lib.Dec.{leb, ltb, eqb}
 use Rattle.word.specs.Bytes.{leAt, bytes}
-use Rattle.word.specs.First.{first, everywhere, tabulate}
+use Rattle.word.specs.First.{everywhere, tabulate}
 use Rattle.order.specs.declared.Entry.{Entry}
 use Rattle.order.specs.declared.Reading.{Reading}
 use Rattle.order.specs.declared.Reading.the-variants.{Malformed, WellFormed}
-use Rattle.order.specs.declared.Value.{Value}
-use Rattle.order.specs.declared.Value.the-variants.{Given, NotGiven}
 
 -- ---- the format
 
@@ -104,15 +102,3 @@ reading s =
     cond (wellFormed s)
     (WellFormed (record { base = base s; placements = placementCount s; externals = externalCount s }))
     Malformed
-
--- ---- the value that an order gives a number
-
--- of n entries from a place on: the value of the first with the index, if there is one
-unfoldable pub valueIn : List ℕ → ℕ → ℕ → ℕ → Value
-valueIn s at n k =
-    let i = first (λ j. eqb (entryAt s at j .index) k) n in
-    cond (ltb i n) (Given (entryAt s at i .value)) NotGiven
-
--- the external value of a symbol
-unfoldable pub externalValue : List ℕ → ℕ → Value
-externalValue s symbol = valueIn s (externalsStart s) (externalCount s) symbol

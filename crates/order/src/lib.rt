@@ -2,10 +2,8 @@
 ghost use mathlib.Core.Path.{_≡_};
 ghost use Prim.Native.Nat.{_+_, _*_, _≤_};
 ghost use lib.ListN.{length};
-ghost use Rattle.order.specs.Orders.{reading, entryAt, ascending, valueIn, externalValue};
-ghost use Rattle.order.specs.Facts.{Searchable};
+ghost use Rattle.order.specs.Orders.{reading, entryAt, ascending};
 ghost use Rattle.order.specs.Windows.{lengthAllowed, windowAllowed};
-ghost use Rattle.order.specs.Addresses.{placedAt, addresses};
 
 pub const MAX_PLACEMENTS: usize = 32;
 
@@ -29,12 +27,6 @@ pub struct Counts {
 pub enum Reading {
     Malformed,
     WellFormed(Counts),
-}
-
-// The value that an order gives.
-pub enum Value {
-    Given(u32),
-    NotGiven,
 }
 
 // Entry i of a list that starts at `at`.
@@ -119,62 +111,4 @@ pub fn window_allowed(base: u32, len: usize) -> bool
         return false;
     }
     base as usize + len <= 4294967296
-}
-
-// The value that n entries from `at` on, which ascend strictly, give a number: a binary search.
-fn find(order: &[u8], at: usize, n: usize, k: u32) -> Value
-    requires { ⌜ Searchable (now order) at n ⌝ }
-    ensures { λ r. ⌜ r ≡ valueIn (now (order .entry)) at n k ⌝ }
-{
-    let mut low: usize = 0;
-    let mut high: usize = n;
-    while low < high {
-        let middle = low + (high - low) / 2;
-        let e = read_entry(order, at, middle);
-        if e.index == k {
-            return Value::Given(e.value);
-        }
-        if e.index < k {
-            low = middle + 1;
-        } else {
-            high = middle;
-        }
-    }
-    Value::NotGiven
-}
-
-// The external value of a symbol.
-pub fn external_value(order: &[u8], counts: Counts, symbol: u32) -> Value
-    requires { ⌜ reading (now order) ≡ Reading.WellFormed counts ⌝ }
-    ensures { λ r. ⌜ r ≡ externalValue (now (order .entry)) symbol ⌝ }
-{
-    let start = 16 + 8 * counts.placements;
-    find(order, start, counts.externals, symbol)
-}
-
-// The address that an order gives a section.
-pub fn placed_at(order: &[u8], counts: Counts, section: u32) -> Value
-    requires { ⌜ reading (now order) ≡ Reading.WellFormed counts ⌝ }
-    ensures { λ r. ⌜ r ≡ placedAt (now (order .entry)) section ⌝ }
-{
-    find(order, 12, counts.placements, section)
-}
-
-// The address of each section below 32; 0, which means nothing, for one that the order does not place.
-pub fn address_array(order: &[u8], counts: Counts) -> [u32; 32]
-    requires { ⌜ reading (now order) ≡ Reading.WellFormed counts ⌝ }
-    ensures { λ r. ⌜ r ≡ addresses (now (order .entry)) ⌝ }
-{
-    let mut array = [0u32; 32];
-    let n = counts.placements;
-    let mut i: usize = 0;
-    while i < n {
-        let e = read_entry(order, 12, i);
-        let section = e.index as usize;
-        if section < 32 {
-            array[section] = e.value;
-        }
-        i += 1;
-    }
-    array
 }

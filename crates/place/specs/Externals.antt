@@ -5,7 +5,7 @@ use mathlib.Core.List.{List}
 use lib.Dec.{ltb, eqb}
 use Rattle.elf.specs.Sections.{sectionAt, symbolTable}
 use Rattle.elf.specs.Entries.{symbolAt, symbolCount}
-use Rattle.order.specs.Orders.{externalValue}
+use Rattle.lookup.specs.Values.{externalValue}
 use Rattle.place.specs.declared.Fault.{Fault}
 use Rattle.place.specs.Placements.{lowest, isGiven}
 

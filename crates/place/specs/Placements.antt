@@ -6,9 +6,9 @@ use lib.Dec.{ltb}
 use Rattle.word.specs.First.{first}
 use Rattle.elf.specs.Headers.{sectionCount}
 use Rattle.elf.specs.Sections.{sectionAt, allocated}
-use Rattle.order.specs.declared.Value.{Value}
-use Rattle.order.specs.declared.Value.the-variants.{Given, NotGiven}
-use Rattle.order.specs.Addresses.{placedAt}
+use Rattle.lookup.specs.declared.Value.{Value}
+use Rattle.lookup.specs.declared.Value.the-variants.{Given, NotGiven}
+use Rattle.lookup.specs.Addresses.{placedAt}
 use Rattle.place.specs.declared.Fault.{Fault}
 use Rattle.place.specs.declared.Fault.the-variants.{Nowhere, At}
 

@@ -5,12 +5,12 @@ ghost use Rattle.word.specs.First.{first};
 ghost use Rattle.elf.specs.Headers.{sectionCount};
 ghost use Rattle.validate.specs.Sound.{SoundObject};
 ghost use Rattle.order.specs.Orders.{reading, placement, placementCount};
-ghost use Rattle.order.specs.Addresses.{placedAt};
+ghost use Rattle.lookup.specs.Addresses.{placedAt};
 ghost use Rattle.place.specs.Placements.{isGiven, isAllocated, placementCheck};
 ghost use Rattle.place.specs.Externals.{isUndefined, externalCheck};
+use lookup::Value;
 use order::Counts;
 use order::Reading;
-use order::Value;
 
 // The lowest section or symbol that breaks a rule, if one does.
 pub enum Fault {
@@ -49,7 +49,7 @@ fn lowest_unplaced(object: &[u8], order: &[u8], counts: Counts) -> usize
     let mut i: usize = 0;
     while i < n {
         let allocated = is_allocated_section(object, i as u32);
-        let placed = is_given(order::placed_at(order, counts, i as u32));
+        let placed = is_given(lookup::placed_at(order, counts, i as u32));
         if allocated & !placed {
             return i;
         }

@@ -1,4 +1,4 @@
-// Reads objects and orders that its input spells out, and writes what the functions of `elf`, `validate` and `order` find in them, a line for each.
+// Reads objects and orders that its input spells out, and writes what the functions of `elf`, `validate`, `order` and `lookup` find in them, a line for each.
 //
 // The input is a number of commands and then the commands, of nine bytes each: a letter and two numbers, a and b.
 //

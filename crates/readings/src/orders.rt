@@ -5,10 +5,10 @@ ghost use mathlib.Core.Path.{_≡_};
 ghost use Rattle.order.specs.Orders.{reading};
 use super::digest;
 use super::lines;
+use lookup::Value;
 use order::Counts;
 use order::Entry;
 use order::Reading;
-use order::Value;
 
 pub fn line(s: &[u8]) {
     match order::read_order(s) {
@@ -33,7 +33,7 @@ fn well_formed(s: &[u8], counts: Counts)
     lines::then(counts.externals as u64);
     lines::then(entries(s, 12, placements));
     lines::then(entries(s, start, counts.externals));
-    lines::then(addresses(order::address_array(s, counts)));
+    lines::then(addresses(lookup::address_array(s, counts)));
     lines::then(low_values(s, counts));
     lines::then(near_values(s, counts, 12, placements));
     lines::then(near_values(s, counts, start, counts.externals));
@@ -110,8 +110,8 @@ fn near_values(s: &[u8], counts: Counts, at: usize, n: usize) -> u64
 fn values(digest: u64, s: &[u8], counts: Counts, k: u32) -> u64
     requires { ⌜ reading (now s) ≡ Reading.WellFormed counts ⌝ }
 {
-    let d = value(digest, order::placed_at(s, counts, k));
-    value(d, order::external_value(s, counts, k))
+    let d = value(digest, lookup::placed_at(s, counts, k));
+    value(d, lookup::external_value(s, counts, k))
 }
 
 fn value(digest: u64, v: Value) -> u64 {

@@ -65,7 +65,7 @@ fn externals(object: &[u8], order: &[u8], counts: Counts, len: usize)
 fn placing(object: &[u8], order: &[u8], counts: Counts, len: usize)
     requires { ⌜ SoundObject (now object) × (reading (now order) ≡ Reading.WellFormed counts) × (len ≤ 65536) ⌝ }
 {
-    let given = order::address_array(order, counts);
+    let given = lookup::address_array(order, counts);
     let placed = placing::check_placing(object, given, counts.base, len);
     let fault = placed.fault;
     let array = placed.addresses;

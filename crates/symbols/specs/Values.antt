@@ -9,9 +9,9 @@ use Rattle.word.specs.Whole.{plus}
 use Rattle.elf.specs.declared.Symbol.{Symbol}
 use Rattle.elf.specs.Sections.{sectionAt, symbolTable}
 use Rattle.elf.specs.Entries.{symbolAt, symbolCount}
-use Rattle.order.specs.declared.Value.{Value}
-use Rattle.order.specs.declared.Value.the-variants.{Given, NotGiven}
-use Rattle.order.specs.Orders.{externalValue}
+use Rattle.lookup.specs.declared.Value.{Value}
+use Rattle.lookup.specs.declared.Value.the-variants.{Given, NotGiven}
+use Rattle.lookup.specs.Values.{externalValue}
 use Rattle.symbols.specs.declared.Symbols.{Symbols}
 use Rattle.symbols.specs.declared.SymbolValue.{SymbolValue}
 use Rattle.symbols.specs.declared.SymbolValue.the-variants.{Resolved, Unresolved}

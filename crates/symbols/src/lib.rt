@@ -5,9 +5,9 @@ ghost use Rattle.order.specs.Orders.{reading};
 ghost use Rattle.symbols.specs.Values.{SymbolsOf, ofUndefined, ofSection, symbolValue};
 use elf::Section;
 use elf::Symbol;
+use lookup::Value;
 use order::Counts;
 use order::Reading;
-use order::Value;
 
 // What a symbol is worth, or that it does not resolve.
 pub enum SymbolValue {
@@ -60,7 +60,7 @@ fn value_in_section(
     if section != 0 {
         return SymbolValue::Unresolved;
     }
-    undefined_value(symbol, order::external_value(order, counts, k))
+    undefined_value(symbol, lookup::external_value(order, counts, k))
 }
 
 // The symbol table: its header, and how many symbols it has. Without symbols the header means nothing.

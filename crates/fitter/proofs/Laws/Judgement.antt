@@ -12,7 +12,7 @@ use Rattle.order.specs.declared.Counts.{Counts}
 use Rattle.order.specs.declared.Reading.the-variants.{Malformed, WellFormed}
 use Rattle.order.specs.Orders.{base, wellFormed, reading}
 use Rattle.order.specs.Windows.{windowAllowed}
-use Rattle.order.specs.Addresses.{addresses}
+use Rattle.lookup.specs.Addresses.{addresses}
 use Rattle.order.proofs.Laws.Sound.{Sound, countsOf, wellFormed-sound, reading-sound, sound-reading, sound-counts, sound-wellFormed}
 use Rattle.validate.specs.declared.ObjectCheck.{ObjectCheck}
 use Rattle.validate.specs.declared.ObjectCheck.the-variants.{Passed, BadHeader, BadSection}

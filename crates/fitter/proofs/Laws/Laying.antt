@@ -15,7 +15,7 @@ use Rattle.word.proofs.Laws.Lists.{length-part}
 use Rattle.order.specs.declared.Counts.{Counts}
 use Rattle.order.specs.Orders.{base}
 use Rattle.order.specs.Windows.{lengthAllowed, windowAllowed}
-use Rattle.order.specs.Addresses.{addresses}
+use Rattle.lookup.specs.Addresses.{addresses}
 use Rattle.elf.specs.Headers.{sectionCount}
 use Rattle.elf.specs.Sections.{sectionAt, loaded}
 use Rattle.elf.specs.Entries.{bytesOf}

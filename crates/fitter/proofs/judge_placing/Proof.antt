@@ -4,7 +4,7 @@ use borrow.Author.Tests.{leb-true}
 use Rattle.word.proofs.Laws.Tests.{and-left}
 use Rattle.order.specs.Orders.{base}
 use Rattle.order.specs.Windows.{lengthAllowed, windowAllowed}
-use Rattle.order.specs.Addresses.{addresses}
+use Rattle.lookup.specs.Addresses.{addresses}
 use Rattle.order.proofs.Laws.Sound.{reading-sound}
 use Rattle.validate.proofs.Laws.Objects.{sound-object}
 use Rattle.placing.specs.Placing.{placingCheck}

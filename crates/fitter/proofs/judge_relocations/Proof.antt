@@ -1,7 +1,7 @@
 -- `fitter::judge_relocations` meets its contract. Assumes nothing.
 use mathlib.Core.Path.{_≡_, sym, ap, _∙_, subst}
 use Rattle.order.specs.Orders.{base}
-use Rattle.order.specs.Addresses.{addresses}
+use Rattle.lookup.specs.Addresses.{addresses}
 use Rattle.validate.proofs.Laws.Objects.{sound-object}
 use Rattle.rela.specs.Facts.{Placed}
 use Rattle.relocate.specs.Search.{relocationCheck}

@@ -4,7 +4,7 @@ use Prim.Native.Nat.{_+_, _-_}
 use native.Mathlib.Omega.{arith}
 use lib.ListN.{length, take, drop}
 use borrow.Rule.Slice.PartMut.{putMid, mid-len}
-use Rattle.order.specs.Addresses.{addresses}
+use Rattle.lookup.specs.Addresses.{addresses}
 use Rattle.elf.specs.Sections.{sectionAt}
 use Rattle.rela.specs.Facts.{Placed}
 use Rattle.relocate.specs.Search.{relocationCheck}

@@ -7,7 +7,7 @@ use lib.ListN.{length, getD}
 use lib.Dec.{ltb}
 use lib.Seq.{sets}
 use Rattle.order.specs.Orders.{base}
-use Rattle.order.specs.Addresses.{addresses}
+use Rattle.lookup.specs.Addresses.{addresses}
 use Rattle.order.proofs.Laws.Sound.{reading-sound}
 use Rattle.elf.specs.Sections.{sectionAt, loaded}
 use Rattle.placing.specs.Placing.{hasBytes}

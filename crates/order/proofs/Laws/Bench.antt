@@ -6,9 +6,7 @@ use Prim.Native.Nat.{ℕ}
 use Rattle.word.specs.Bytes.{le, leAt, bytes}
 use Rattle.word.specs.First.{first, everywhere, tabulate}
 use Rattle.order.specs.declared.Reading.the-variants.{WellFormed}
-use Rattle.order.specs.declared.Value.the-variants.{Given}
-use Rattle.order.specs.Orders.{Order, encodeEntries, encode, entryAt, ascending, wellFormed, reading, orderOf, valueIn}
-use Rattle.order.specs.Addresses.{placedAt}
+use Rattle.order.specs.Orders.{Order, encodeEntries, encode, entryAt, ascending, wellFormed, reading, orderOf}
 
 abbrev pub said : List ℕ
 said =
@@ -29,7 +27,3 @@ reading-bench = refl
 pub orderOf-bench : orderOf said ≡ meant
 unfolding orderOf tabulate entryAt leAt le
 orderOf-bench = refl
-
-pub placedAt-bench : placedAt said 1 ≡ Given 0x20000008
-unfolding placedAt valueIn first entryAt leAt le
-placedAt-bench = refl

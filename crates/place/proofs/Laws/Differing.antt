@@ -13,7 +13,7 @@ use Rattle.word.proofs.Laws.First.{first-le, first-at, first-below}
 use Rattle.elf.specs.Headers.{sectionCount}
 use Rattle.elf.specs.Sections.{sectionAt, allocated}
 use Rattle.order.specs.Orders.{placement, placementCount, entryAt, ascending}
-use Rattle.order.specs.Addresses.{placedAt}
+use Rattle.lookup.specs.Addresses.{placedAt}
 use Rattle.place.specs.declared.Fault.the-variants.{Nowhere, At}
 use Rattle.place.specs.Placements.{isGiven, isAllocated, differs, placementCheck}
 use Rattle.place.proofs.Laws.Lowest.{lowest-at, lowest-nowhere, named-below, named-none, named-given}

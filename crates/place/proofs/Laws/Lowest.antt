@@ -9,8 +9,9 @@ use lib.Dec.{ltb, eqb}
 use borrow.Author.Tests.{lt-ltb, le-ltb, ltb-true, eqb-true, eqb-false}
 use Rattle.word.specs.First.{first}
 use Rattle.word.proofs.Laws.First.{first-is, first-at, first-below}
-use Rattle.order.specs.declared.Value.the-variants.{Given, NotGiven}
-use Rattle.order.specs.Orders.{entryAt, ascending, valueIn}
+use Rattle.lookup.specs.declared.Value.the-variants.{Given, NotGiven}
+use Rattle.order.specs.Orders.{entryAt, ascending}
+use Rattle.lookup.specs.Values.{valueIn}
 use Rattle.order.proofs.Laws.Ascending.{ascending-lt}
 use Rattle.place.specs.declared.Fault.the-variants.{Nowhere, At}
 use Rattle.place.specs.Placements.{lowest, isGiven}

@@ -4,7 +4,8 @@ use Prim.Native.Nat.{ℕ, _+_, _-_, _*_, _^_, _≤_, _<_}
 use mathlib.Core.Bool.{true, false, not, _&&_}
 use native.Mathlib.Omega.{arith}
 use borrow.Author.Count.{below-more}
-use Rattle.order.specs.Orders.{entryAt, valueIn, externalValue}
+use Rattle.order.specs.Orders.{entryAt}
+use Rattle.lookup.specs.Values.{valueIn, externalValue}
 use Rattle.order.proofs.Laws.Sound.{countsOf, reading-sound, sound-counts}
 use Rattle.place.specs.declared.Fault.the-variants.{At}
 use Rattle.place.specs.Placements.{lowest, isGiven}

@@ -6,7 +6,7 @@ use native.Mathlib.Omega.{arith}
 use borrow.Author.Count.{below-more}
 use Rattle.word.proofs.Laws.First.{first-is}
 use Rattle.elf.specs.Headers.{sectionCount}
-use Rattle.order.specs.Addresses.{placedAt}
+use Rattle.lookup.specs.Addresses.{placedAt}
 use Rattle.place.specs.Placements.{isGiven, isAllocated}
 use borrow.Author.Needs.{needs}
 use Rattle.place.proofs.lowest_unplaced.Statement.{statement}

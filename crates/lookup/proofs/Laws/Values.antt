@@ -9,10 +9,11 @@ use borrow.Author.Tests.{lt-ltb, le-ltb, ltb-true, ltb-false, eq-eqb, ne-eqb}
 use borrow.Author.Count.{below-more}
 use Rattle.word.specs.First.{first}
 use Rattle.word.proofs.Laws.First.{first-is, first-below, first-at, first-le}
 use Rattle.order.specs.declared.Entry.{Entry}
-use Rattle.order.specs.declared.Value.the-variants.{Given, NotGiven}
-use Rattle.order.specs.Orders.{entryAt, ascending, valueIn}
+use Rattle.lookup.specs.declared.Value.the-variants.{Given, NotGiven}
+use Rattle.order.specs.Orders.{entryAt, ascending}
+use Rattle.lookup.specs.Values.{valueIn}
 use Rattle.order.proofs.Laws.Ascending.{ascending-lt}
 
 module _ (s : List ℕ) (at n k : ℕ) where
   -- no entry has the number

@@ -1,14 +1,14 @@
--- `order::address_array` meets its contract. Assumes nothing.
+-- `lookup::address_array` meets its contract. Assumes nothing.
 use mathlib.Core.Path.{_≡_, ap, _∙_}
 use mathlib.Core.Logic.{⊎-elim}
 use lib.ListN.{set}
 use Prim.Native.Nat.{_-_, _≤_, _<_}
 use Rattle.order.proofs.Laws.Sound.{Sound, reading-sound}
 use native.Mathlib.Omega.{arith}
-use Rattle.order.proofs.Laws.Array.{filled, filled-none, filled-in, filled-out, filled-all}
+use Rattle.lookup.proofs.Laws.Array.{filled, filled-none, filled-in, filled-out, filled-all}
 use borrow.Author.Needs.{needs}
-use Rattle.order.proofs.address_array.Statement.{statement}
-use Rattle.order.proofs.address_array.Tie as tie
+use Rattle.lookup.proofs.address_array.Statement.{statement}
+use Rattle.lookup.proofs.address_array.Tie as tie
 
 abbrev Inv-loop : tie.InvT-loop
 Inv-loop order array₀ n i₀ array i =

@@ -6,11 +6,12 @@ use Prim.Native.Nat.{ℕ, _<_}
 use native.Mathlib.Omega.{arith}
 use lib.ListN.{getD}
 use Rattle.word.proofs.Laws.First.{getD-tabulate}
-use Rattle.order.specs.declared.Value.the-variants.{Given, NotGiven}
-use Rattle.order.specs.Orders.{placementCount, placement, externalsStart, externalCount, external, entryAt, ascending, wellFormed, valueIn, externalValue}
-use Rattle.order.specs.Addresses.{orZero, placedAt, addresses}
+use Rattle.lookup.specs.declared.Value.the-variants.{Given, NotGiven}
+use Rattle.order.specs.Orders.{placementCount, placement, externalsStart, externalCount, external, entryAt, ascending, wellFormed}
+use Rattle.lookup.specs.Values.{valueIn, externalValue}
+use Rattle.lookup.specs.Addresses.{orZero, placedAt, addresses}
 use Rattle.order.proofs.Laws.Sound.{wellFormed-sound}
-use Rattle.order.proofs.Laws.Values.{valueIn-at, valueIn-none}
+use Rattle.lookup.proofs.Laws.Values.{valueIn-at, valueIn-none}
 
 -- no entry has the number
 abbrev pub Unnamed : List ℕ → ℕ → ℕ → ℕ → Type 0

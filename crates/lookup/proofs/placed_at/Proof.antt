@@ -1,9 +1,9 @@
--- `order::placed_at` meets its contract. Assumes nothing.
+-- `lookup::placed_at` meets its contract. Assumes nothing.
 use Rattle.order.proofs.Laws.Sound.{Sound, reading-sound}
 use native.Mathlib.Omega.{arith}
-use Rattle.order.specs.Addresses.{placedAt}
-use Rattle.order.proofs.placed_at.Statement.{statement}
-use Rattle.order.proofs.placed_at.Tie as tie
+use Rattle.lookup.specs.Addresses.{placedAt}
+use Rattle.lookup.proofs.placed_at.Statement.{statement}
+use Rattle.lookup.proofs.placed_at.Tie as tie
 
 find-requires : tie.Need-find-requires
 find-requires c κs = let k : Sound _ _ = reading-sound _ _ (c .before .pre) in record { inside = omega arith; ascends = k .placed }

@@ -2,9 +2,10 @@
 use Prim.Native.Nat.{ℕ}
 use mathlib.Core.List.{List}
 use Rattle.word.specs.First.{tabulate}
-use Rattle.order.specs.declared.Value.{Value}
-use Rattle.order.specs.declared.Value.the-variants.{Given, NotGiven}
-use Rattle.order.specs.Orders.{placementCount, valueIn}
+use Rattle.lookup.specs.declared.Value.{Value}
+use Rattle.lookup.specs.declared.Value.the-variants.{Given, NotGiven}
+use Rattle.order.specs.Orders.{placementCount}
+use Rattle.lookup.specs.Values.{valueIn}
 
 abbrev pub maxSections : ℕ
 maxSections = 32

@@ -1,14 +1,14 @@
--- `order::find` meets its contract. Assumes nothing.
-use Rattle.order.proofs.Laws.Values.{valueIn-between, valueIn-read}
+-- `lookup::find` meets its contract. Assumes nothing.
+use Rattle.lookup.proofs.Laws.Values.{valueIn-between, valueIn-read}
 use Rattle.order.proofs.Laws.Ascending.{ascending-below, ascending-above}
 use mathlib.Core.Path.{_≡_, sym, ap}
 use Prim.Native.Nat.{ℕ, _-_, _≤_, _<_}
 use native.Mathlib.Omega.{arith}
 use Rattle.order.specs.declared.Entry.{Entry}
 use Rattle.order.specs.Orders.{entryAt}
 use borrow.Author.Needs.{needs}
-use Rattle.order.proofs.find.Statement.{statement}
-use Rattle.order.proofs.find.Tie as tie
+use Rattle.lookup.proofs.find.Statement.{statement}
+use Rattle.lookup.proofs.find.Tie as tie
 
 abbrev Inv-loop : tie.InvT-loop
 Inv-loop order at n k low₀ high₀ low high =

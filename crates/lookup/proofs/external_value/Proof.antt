@@ -1,9 +1,9 @@
--- `order::external_value` meets its contract. Assumes nothing.
+-- `lookup::external_value` meets its contract. Assumes nothing.
 use Rattle.order.proofs.Laws.Sound.{Sound, reading-sound}
 use native.Mathlib.Omega.{arith}
-use Rattle.order.specs.Orders.{externalValue}
-use Rattle.order.proofs.external_value.Statement.{statement}
-use Rattle.order.proofs.external_value.Tie as tie
+use Rattle.lookup.specs.Values.{externalValue}
+use Rattle.lookup.proofs.external_value.Statement.{statement}
+use Rattle.lookup.proofs.external_value.Tie as tie
 
 mul-start : tie.Need-mul-start
 mul-start c = let k : Sound _ _ = reading-sound _ _ (c .before .before .pre) in omega arith

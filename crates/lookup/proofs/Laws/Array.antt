@@ -7,11 +7,12 @@ use native.Mathlib.Omega.{arith}
 use lib.ListN.{set, replicate}
 use Rattle.word.specs.First.{first, tabulate}
 use Rattle.word.proofs.Laws.First.{tabulate-same, set-tabulate}
 use Rattle.order.specs.declared.Entry.{Entry}
-use Rattle.order.specs.Orders.{entryAt, ascending, valueIn, placementCount}
-use Rattle.order.specs.Addresses.{orZero, placedAt, addresses}
+use Rattle.order.specs.Orders.{entryAt, ascending, placementCount}
+use Rattle.lookup.specs.Values.{valueIn}
+use Rattle.lookup.specs.Addresses.{orZero, placedAt, addresses}
 use Rattle.order.proofs.Laws.Ascending.{ascending-fewer}
-use Rattle.order.proofs.Laws.Values.{valueIn-more, valueIn-read}
+use Rattle.lookup.proofs.Laws.Values.{valueIn-more, valueIn-read}
 
 -- the array after n placements
 unfoldable pub filled : List ℕ → ℕ → List ℕ

@@ -1,0 +1,72 @@
+// What an order gives sections and symbols.
+ghost use mathlib.Core.Path.{_≡_};
+ghost use Rattle.order.specs.Orders.{reading};
+ghost use Rattle.lookup.specs.Values.{valueIn, externalValue};
+ghost use Rattle.lookup.specs.Facts.{Searchable};
+ghost use Rattle.lookup.specs.Addresses.{placedAt, addresses};
+use order::Counts;
+use order::Reading;
+
+// The value that an order gives.
+pub enum Value {
+    Given(u32),
+    NotGiven,
+}
+
+// The value that n entries from `at` on, which ascend strictly, give a number: a binary search.
+fn find(order: &[u8], at: usize, n: usize, k: u32) -> Value
+    requires { ⌜ Searchable (now order) at n ⌝ }
+    ensures { λ r. ⌜ r ≡ valueIn (now (order .entry)) at n k ⌝ }
+{
+    let mut low: usize = 0;
+    let mut high: usize = n;
+    while low < high {
+        let middle = low + (high - low) / 2;
+        let e = order::read_entry(order, at, middle);
+        if e.index == k {
+            return Value::Given(e.value);
+        }
+        if e.index < k {
+            low = middle + 1;
+        } else {
+            high = middle;
+        }
+    }
+    Value::NotGiven
+}
+
+// The external value of a symbol.
+pub fn external_value(order: &[u8], counts: Counts, symbol: u32) -> Value
+    requires { ⌜ reading (now order) ≡ Reading.WellFormed counts ⌝ }
+    ensures { λ r. ⌜ r ≡ externalValue (now (order .entry)) symbol ⌝ }
+{
+    let start = 16 + 8 * counts.placements;
+    find(order, start, counts.externals, symbol)
+}
+
+// The address that an order gives a section.
+pub fn placed_at(order: &[u8], counts: Counts, section: u32) -> Value
+    requires { ⌜ reading (now order) ≡ Reading.WellFormed counts ⌝ }
+    ensures { λ r. ⌜ r ≡ placedAt (now (order .entry)) section ⌝ }
+{
+    find(order, 12, counts.placements, section)
+}
+
+// The address of each section below 32; 0, which means nothing, for one that the order does not place.
+pub fn address_array(order: &[u8], counts: Counts) -> [u32; 32]
+    requires { ⌜ reading (now order) ≡ Reading.WellFormed counts ⌝ }
+    ensures { λ r. ⌜ r ≡ addresses (now (order .entry)) ⌝ }
+{
+    let mut array = [0u32; 32];
+    let n = counts.placements;
+    let mut i: usize = 0;
+    while i < n {
+        let e = order::read_entry(order, 12, i);
+        let section = e.index as usize;
+        if section < 32 {
+            array[section] = e.value;
+        }
+        i += 1;
+    }
+    array
+}
