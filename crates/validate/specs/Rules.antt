@@ -12,7 +12,7 @@ use Rattle.validate.specs.declared.SectionCheck.{SectionCheck}
 use Rattle.validate.specs.declared.SectionCheck.the-variants.{Sound, Broken}
 use Rattle.validate.specs.declared.ObjectCheck.{ObjectCheck}
 use Rattle.validate.specs.declared.ObjectCheck.the-variants.{Passed, BadHeader, BadSection}
-use Rattle.validate.specs.Headers.{headerAllowed, tableAllowed}
+use Rattle.header.specs.Headers.{headerAllowed, tableAllowed}
 
 abbrev pub maxSymbols : ℕ
 maxSymbols = 1024

@@ -11,7 +11,7 @@ use Rattle.word.specs.Powers.{oneBit}
 use Rattle.elf.specs.Headers.{sectionCount}
 use Rattle.elf.specs.Sections.{NULL, SYMTAB, RELA, NOBITS, REL, sectionAt, allocated, loaded, symbolTable, countingRel, countingRela, relocationsBelow}
 use Rattle.elf.specs.Facts.{TableInside}
-use Rattle.validate.specs.Headers.{headerAllowed}
+use Rattle.header.specs.Headers.{headerAllowed}
 use Rattle.validate.specs.Rules.{maxSymbols, maxRelocations}
 
 -- section i is in the table, and its info names a section of it

@@ -8,7 +8,6 @@ ghost use lib.ListN.{length};
 ghost use Rattle.elf.specs.Headers.{sectionCount};
 ghost use Rattle.elf.specs.Sections.{sectionAt, countingRela};
 ghost use Rattle.elf.specs.Facts.{TableInside};
-ghost use Rattle.validate.specs.Headers.{headerAllowed, tableAllowed};
 ghost use Rattle.validate.specs.Rules.{startsNull, insideFile, allocatedWell, symbolTableWell, noCountingRel, relaKept, relocationsKept, relaWell, relocationsWell, sectionCheck, objectCheck};
 ghost use Rattle.validate.specs.Sound.{Targeted};
 
@@ -23,36 +22,6 @@ pub enum ObjectCheck {
     Passed,
     BadHeader,
     BadSection(u32),
-}
-
-// Check 4.
-pub fn check_header(object: &[u8]) -> bool
-    ensures { λ r. ⌜ r ≡ headerAllowed (now (object .entry)) ⌝ }
-{
-    if 65536 < object.len() {
-        return false;
-    }
-    if object.len() < 52 {
-        return false;
-    }
-    (word::read32(object, 0) == 0x464c457f)
-        & (object[4] == 1)
-        & (object[5] == 1)
-        & (object[6] == 1)
-        & (word::read16(object, 16) == 1)
-        & (word::read16(object, 18) == 243)
-        & (word::read32(object, 20) == 1)
-        & (word::read16(object, 40) == 52)
-}
-
-// Check 5 at place 0: the section header table.
-fn check_table(object: &[u8]) -> bool
-    requires { ⌜ 52 ≤ length (now object) ⌝ }
-    ensures { λ r. ⌜ r ≡ tableAllowed (now (object .entry)) ⌝ }
-{
-    let n = word::read16(object, 48) as usize;
-    let start = word::read32(object, 32) as usize;
-    (word::read16(object, 46) == 40) & (1 <= n) & (n <= 32) & (start + 40 * n <= object.len())
 }
 
 // Whether no counting RELA below section i has the target.
@@ -140,7 +109,7 @@ fn check_sections(object: &[u8]) -> SectionCheck
     requires { ⌜ 52 ≤ length (now object) ⌝ }
     ensures { λ r. ⌜ r ≡ sectionCheck (now (object .entry)) ⌝ }
 {
-    if !check_table(object) {
+    if !header::check_table(object) {
         return SectionCheck::Broken(0);
     }
     let n = elf::section_count(object);
@@ -160,7 +129,7 @@ fn check_sections(object: &[u8]) -> SectionCheck
 pub fn check_object(object: &[u8]) -> ObjectCheck
     ensures { λ r. ⌜ r ≡ objectCheck (now (object .entry)) ⌝ }
 {
-    if !check_header(object) {
+    if !header::check_header(object) {
         return ObjectCheck::BadHeader;
     }
     match check_sections(object) {

@@ -17,10 +17,11 @@ use Rattle.elf.specs.Sections.{NULL, SYMTAB, RELA, NOBITS, REL, sectionAt, allo
 use Rattle.validate.specs.declared.SectionCheck.{SectionCheck}
 use Rattle.validate.specs.declared.SectionCheck.the-variants.{Sound, Broken}
 use Rattle.validate.specs.declared.ObjectCheck.the-variants.{Passed, BadHeader}
-use Rattle.validate.specs.Headers.{headerAllowed, tableAllowed}
+use Rattle.header.specs.Headers.{headerAllowed, tableAllowed}
 use Rattle.validate.specs.Rules.{startsNull, insideFile, allocatedWell, symbolTableWell, noCountingRel, relaKept, relocationsKept, relaWell, relocationsWell, sectionWell, sectionCheck, afterHeader, objectCheck}
 use Rattle.validate.specs.Sound.{SoundSymbols, SoundRela, SoundSection, SoundObject}
-use Rattle.validate.proofs.Laws.Tables.{header-long, table-inside, target-inside, table-entries, table-some, allowed-table, check-sound}
+use Rattle.header.proofs.Laws.Headers.{header-long, table-inside, table-entries, table-some, allowed-table}
+use Rattle.validate.proofs.Laws.Tables.{target-inside, check-sound}
 
 -- ---- tests that are an implication: not a || b
 

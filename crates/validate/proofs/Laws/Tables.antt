@@ -1,54 +1,20 @@
--- Laws of the table, and of the rules as the code tries them. Assumes nothing.
+-- Laws of the rules as the code tries them. Assumes nothing.
 use mathlib.Core.Path.{_≡_, refl, ap}
 use mathlib.Core.Bool.{Bool, true, false, not, _&&_}
 use mathlib.Core.List.{List}
-use Prim.Native.Nat.{ℕ, _+_, _*_, _≤_, _<_}
+use Prim.Native.Nat.{ℕ, _<_}
 use native.Mathlib.Omega.{arith}
-use lib.ListN.{length}
-use lib.Dec.{leb, ltb, eqb}
-use borrow.Author.Tests.{leb-true, ltb-true, eq-eqb, ne-eqb, lt-ltb, le-ltb, eqb-true, le-leb}
-use Rattle.word.proofs.Laws.Tests.{and-left, and-right, and-false}
-use Rattle.word.specs.Bytes.{leAt}
+use lib.Dec.{ltb}
+use borrow.Author.Tests.{ltb-true, eq-eqb, ne-eqb, lt-ltb, le-ltb}
+use Rattle.word.proofs.Laws.Tests.{and-left, and-false}
 use Rattle.word.specs.First.{first}
 use Rattle.word.proofs.Laws.First.{first-is}
 use Rattle.elf.specs.declared.Section.{Section}
-use Rattle.elf.specs.Headers.{sectionTable, sectionCount}
+use Rattle.elf.specs.Headers.{sectionCount}
 use Rattle.elf.specs.Sections.{sectionAt, targets, countingRel, countingRela}
-use Rattle.elf.specs.Facts.{TableInside}
 use Rattle.validate.specs.declared.SectionCheck.the-variants.{Sound, Broken}
-use Rattle.validate.specs.Headers.{headerAllowed, tableAllowed}
+use Rattle.header.specs.Headers.{tableAllowed}
 use Rattle.validate.specs.Rules.{startsNull, insideFile, allocatedWell, symbolTableWell, noCountingRel, relaKept, relocationsKept, relaWell, relocationsWell, sectionWell, sectionCheck}
-
--- ---- the header
-
-pub header-long : (s : List ℕ) → headerAllowed s ≡ true → 52 ≤ length s
-unfolding headerAllowed
-header-long s e = let long : leb 52 (length s) ≡ true = search (and-left, and-right) depth 12 in leb-true _ _ long
-
-pub header-short : (s : List ℕ) → headerAllowed s ≡ true → length s ≤ 65536
-unfolding headerAllowed
-header-short s e = let short : leb (length s) 65536 ≡ true = search (and-left, and-right) depth 12 in leb-true _ _ short
-
--- ---- the table
-
-pub table-inside : (s : List ℕ) → 52 ≤ length s → tableAllowed s ≡ true → TableInside s
-unfolding tableAllowed
-table-inside s h e =
-    let few : leb (sectionCount s) 32 ≡ true = search (and-left, and-right) in
-    let inside : leb (sectionTable s + 40 * sectionCount s) (length s) ≡ true = search (and-left, and-right) in
-    record { header = h; few = leb-true _ _ few; inside = leb-true _ _ inside }
-
-pub table-entries : (s : List ℕ) → tableAllowed s ≡ true → leAt 2 s 46 ≡ 40
-unfolding tableAllowed
-table-entries s e = let entries : eqb (leAt 2 s 46) 40 ≡ true = search (and-left, and-right) in eqb-true _ _ entries
-
-pub table-some : (s : List ℕ) → tableAllowed s ≡ true → 1 ≤ sectionCount s
-unfolding tableAllowed
-table-some s e = let some : leb 1 (sectionCount s) ≡ true = search (and-left, and-right) in leb-true _ _ some
-
-pub allowed-table : (s : List ℕ) → leAt 2 s 46 ≡ 40 → 1 ≤ sectionCount s → TableInside s → tableAllowed s ≡ true
-unfolding tableAllowed
-allowed-table s e some t = rw (eq-eqb _ _ e, le-leb _ _ some, le-leb _ _ (t .few), le-leb _ _ (t .inside))
 
 -- a target is in the table
 pub target-inside : (s : List ℕ) (h : Section) → targets s h ≡ true → h .info < sectionCount s

@@ -3,9 +3,9 @@ use mathlib.Core.Path.{_≡_, sym, ap, _∙_}
 use mathlib.Core.Bool.{true, false}
 use borrow.Author.Tests.{not-true, not-false}
 use Rattle.validate.specs.declared.SectionCheck.the-variants.{Sound}
-use Rattle.validate.specs.Headers.{headerAllowed}
+use Rattle.header.specs.Headers.{headerAllowed}
 use Rattle.validate.specs.Rules.{sectionCheck, afterHeader, objectCheck}
-use Rattle.validate.proofs.Laws.Tables.{header-long}
+use Rattle.header.proofs.Laws.Headers.{header-long}
 use borrow.Author.Needs.{needs}
 use Rattle.validate.proofs.check_object.Statement.{statement}
 use Rattle.validate.proofs.check_object.Tie as tie

@@ -5,9 +5,10 @@ use mathlib.Core.Bool.{true, false, not}
 use native.Mathlib.Omega.{arith}
 use borrow.Author.Count.{below-more}
 use borrow.Author.Tests.{not-true, not-false}
-use Rattle.validate.specs.Headers.{tableAllowed}
+use Rattle.header.specs.Headers.{tableAllowed}
 use Rattle.validate.specs.Rules.{sectionWell}
-use Rattle.validate.proofs.Laws.Tables.{table-inside, section-well, check-table-broken, check-broken, check-sound}
+use Rattle.header.proofs.Laws.Headers.{table-inside}
+use Rattle.validate.proofs.Laws.Tables.{section-well, check-table-broken, check-broken, check-sound}
 use borrow.Author.Needs.{needs}
 use Rattle.validate.proofs.check_sections.Statement.{statement}
 use Rattle.validate.proofs.check_sections.Tie as tie

@@ -10,7 +10,7 @@ use Rattle.elf.specs.Headers.{sectionCount}
 use Rattle.elf.specs.Sections.{sectionAt, loaded}
 use Rattle.elf.specs.Facts.{Inside}
 use Rattle.validate.specs.Sound.{SoundObject}
-use Rattle.validate.proofs.Laws.Tables.{header-short}
+use Rattle.header.proofs.Laws.Headers.{header-short}
 use Rattle.validate.proofs.Laws.Bounds.{loaded-inside}
 use borrow.Author.Needs.{needs}
 use Rattle.relocations.proofs.pairs.section.Statement.{statement}

@@ -1,10 +1,10 @@
--- `validate::check_header` meets its contract. Assumes nothing.
+-- `header::check_header` meets its contract. Assumes nothing.
 use Rattle.word.proofs.Laws.Bytes.{leAt-one}
 use borrow.Author.Tests.{le-leb, lt-leb}
-use Rattle.validate.specs.Headers.{headerAllowed}
+use Rattle.header.specs.Headers.{headerAllowed}
 use borrow.Author.Needs.{needs}
-use Rattle.validate.proofs.check_header.Statement.{statement}
-use Rattle.validate.proofs.check_header.Tie as tie
+use Rattle.header.proofs.check_header.Statement.{statement}
+use Rattle.header.proofs.check_header.Tie as tie
 
 returns : tie.Need-returns
 unfolding headerAllowed

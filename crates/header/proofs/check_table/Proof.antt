@@ -1,8 +1,8 @@
--- `validate::check_table` meets its contract. Assumes nothing.
-use Rattle.validate.specs.Headers.{tableAllowed}
+-- `header::check_table` meets its contract. Assumes nothing.
+use Rattle.header.specs.Headers.{tableAllowed}
 use borrow.Author.Needs.{needs}
-use Rattle.validate.proofs.check_table.Statement.{statement}
-use Rattle.validate.proofs.check_table.Tie as tie
+use Rattle.header.proofs.check_table.Statement.{statement}
+use Rattle.header.proofs.check_table.Tie as tie
 
 read16-requires : tie.Need-read16-requires
 read16-requires c κs = search needs
