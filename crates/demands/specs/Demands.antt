@@ -9,7 +9,7 @@ use Rattle.elf.specs.Sections.{sectionAt, allocated}
 use Rattle.order.specs.Orders.{placementCount}
 use Rattle.order.specs.Windows.{maxImage}
 use Rattle.journal.specs.Journals.{count, Sound}
-use Rattle.journal.specs.Calls.{Files, Outcome, done}
+use Rattle.undo.specs.Calls.{Files, Outcome, done}
 use Rattle.demands.specs.Rules.{Rules}
 use Rattle.demands.specs.First.{Checks, none, one, FirstBroken, table}
 use Rattle.demands.specs.Laid.{Laid}

@@ -9,20 +9,20 @@ use Rattle.elf.specs.Headers.{sectionCount}
 use Rattle.elf.specs.Sections.{sectionAt, countingRela}
 use Rattle.elf.specs.Entries.{bytesOf}
 use Rattle.order.specs.Orders.{base}
-use Rattle.order.specs.Addresses.{addresses}
-use Rattle.place.specs.Placing.{hasBytes}
+use Rattle.lookup.specs.Addresses.{addresses}
+use Rattle.placing.specs.Placing.{hasBytes}
 use Rattle.fields.specs.declared.Field.{Field}
 use Rattle.fields.specs.declared.Field.the-variants.{U}
 use Rattle.riscv.specs.declared.forms.Form.{Form}
-use Rattle.riscv.specs.declared.types.Calculation.the-variants.{HighAbsolute, LowAbsolute, LowOfPair}
-use Rattle.riscv.specs.declared.types.Decision.the-variants.{Store}
+use Rattle.types.specs.declared.Calculation.the-variants.{HighAbsolute, LowAbsolute, LowOfPair}
+use Rattle.types.specs.declared.Decision.the-variants.{Store}
 use Rattle.rela.specs.declared.sites.Site.{Site}
 use Rattle.rela.specs.Sites.{siteAt, count, effect, offset, A}
 use Rattle.rela.specs.Shape.{end}
-use Rattle.relocate.specs.declared.pairs.Pair.the-variants.{At}
-use Rattle.relocate.specs.Values.{valueAt, S, T}
-use Rattle.relocate.specs.Pairs.{pairOf}
-use Rattle.relocate.specs.Rules.{symbol}
+use Rattle.rules.specs.declared.pairs.Pair.the-variants.{At}
+use Rattle.rules.specs.Values.{valueAt, S, T}
+use Rattle.rules.specs.Pairs.{pairOf}
+use Rattle.rules.specs.Rules.{symbol}
 use Rattle.patch.specs.Sections.{distanceAt}
 use Rattle.patch.specs.Promises.{ReadsBack, AddUp}
 

@@ -10,22 +10,23 @@ use Rattle.word.specs.Bytes.{leAt}
 use Rattle.elf.specs.Headers.{sectionTable, sectionCount}
 use Rattle.elf.specs.Sections.{sectionAt, allocated, symbolTable}
 use Rattle.elf.specs.Entries.{symbolAt, symbolCount, relocationCount, locationOf}
-use Rattle.validate.specs.Headers.{maxObject, maxSections}
+use Rattle.header.specs.Headers.{maxObject, maxSections}
 use Rattle.validate.specs.Sound.{SoundSection}
-use Rattle.order.specs.Orders.{maxPlacements, maxExternals, base, placementCount, placement, externalsStart, externalCount, external, externalValue}
+use Rattle.order.specs.Orders.{maxPlacements, maxExternals, base, placementCount, placement, externalsStart, externalCount, external}
+use Rattle.lookup.specs.Values.{externalValue}
 use Rattle.order.specs.Windows.{maxImage}
-use Rattle.order.specs.Addresses.{addresses, placedAt}
+use Rattle.lookup.specs.Addresses.{addresses, placedAt}
 use Rattle.journal.specs.Journals.{maxEntries, oldAt, count, held, Sound}
 use Rattle.journal.specs.Plans.{spanOf}
-use Rattle.journal.specs.Calls.{Files}
+use Rattle.undo.specs.Calls.{Files}
 use Rattle.place.specs.Placements.{isGiven, isAllocated}
-use Rattle.place.specs.Placing.{endOf, unit, hasBytes}
+use Rattle.placing.specs.Placing.{endOf, unit, hasBytes}
 use Rattle.rela.specs.declared.sites.Site.{Site}
 use Rattle.rela.specs.Sites.{siteAt, effect, offset, A, P}
 use Rattle.rela.specs.Effects.{isRefused}
 use Rattle.rela.specs.Shape.{neverFalls, staysInside, noOverlap, addendWell}
-use Rattle.relocate.specs.Values.{valueAt, S, T}
-use Rattle.relocate.specs.Rules.{symbolWell, formWell, pairWell, distanceWell, boundaryWell}
+use Rattle.rules.specs.Values.{valueAt, S, T}
+use Rattle.rules.specs.Rules.{symbolWell, formWell, pairWell, distanceWell, boundaryWell}
 use Rattle.fitter.specs.Judgement.{planOf}
 
 -- ---- 1 "ledger unsound": `Sound` of the journal

@@ -10,22 +10,22 @@ use lib.Dec.{leb, eqb}
 use borrow.Author.Tests.{leb-true, le-leb, eqb-true, eqb-false}
 use Rattle.order.specs.Orders.{base, wellFormed}
 use Rattle.order.specs.Windows.{lengthAllowed, windowAllowed}
-use Rattle.order.specs.Addresses.{addresses}
+use Rattle.lookup.specs.Addresses.{addresses}
 use Rattle.validate.specs.declared.ObjectCheck.{ObjectCheck}
 use Rattle.validate.specs.declared.ObjectCheck.the-variants.{Passed, BadHeader, BadSection}
 use Rattle.validate.specs.Rules.{objectCheck}
 use Rattle.journal.specs.Journals.{count, held, Sound, sound, noRoom}
 use Rattle.journal.specs.Plans.{Piece, Verdict, refused, plan, spanOf}
-use Rattle.journal.specs.Calls.{Answer, done, journalUnsound, windowBroken, noneStands, journalFull, Files, refuse, succeed, installed, settle, install, rolledBack, rollback, Call, Install, Rollback, call}
-use Rattle.journal.specs.Histories.{Start, Holds}
+use Rattle.undo.specs.Calls.{Answer, done, journalUnsound, windowBroken, noneStands, journalFull, Files, refuse, succeed, installed, settle, install, rolledBack, rollback, Call, Install, Rollback, call}
+use Rattle.undo.specs.Histories.{Start, Holds}
 use Rattle.journal.proofs.Laws.Sound.{test-sound, sound-test}
-use Rattle.journal.proofs.Laws.Corollaries.{refusal-keeps}
-use Rattle.journal.proofs.Laws.History.{history-holds}
+use Rattle.undo.proofs.Laws.Corollaries.{refusal-keeps}
+use Rattle.undo.proofs.Laws.History.{history-holds}
 use Rattle.place.specs.declared.Fault.{Fault}
 use Rattle.place.specs.declared.Fault.the-variants.{Nowhere, At}
 use Rattle.place.specs.Placements.{placementCheck}
 use Rattle.place.specs.Externals.{externalCheck}
-use Rattle.place.specs.Placing.{placingCheck}
+use Rattle.placing.specs.Placing.{placingCheck}
 use Rattle.relocate.specs.declared.search.RelocationCheck.{RelocationCheck}
 use Rattle.relocate.specs.declared.search.RelocationCheck.the-variants.{Passed as AllKept, Broken}
 use Rattle.relocate.specs.Search.{number, relocationCheck}

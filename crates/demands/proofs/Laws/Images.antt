@@ -14,10 +14,10 @@ use Rattle.elf.specs.Headers.{sectionCount}
 use Rattle.elf.specs.Sections.{sectionAt, loaded}
 use Rattle.order.specs.declared.Counts.{Counts}
 use Rattle.order.specs.Orders.{base}
-use Rattle.order.specs.Addresses.{addresses}
+use Rattle.lookup.specs.Addresses.{addresses}
 use Rattle.journal.specs.Plans.{overwritten}
-use Rattle.place.specs.Placing.{hasBytes, endOf}
-use Rattle.place.proofs.Laws.Theorems.{disjoint}
+use Rattle.placing.specs.Placing.{hasBytes, endOf}
+use Rattle.placing.proofs.Laws.Theorems.{disjoint}
 use Rattle.fitter.specs.Judgement.{planOf}
 use Rattle.fitter.specs.Facts.{Fitting}
 use Rattle.fitter.proofs.Laws.Laying.{bytes-inside, bytes-loaded, relocated-length, with-none, with-some, laidBelow, laid-none, laid-more, laid-all}

@@ -17,19 +17,19 @@ use Rattle.elf.specs.Headers.{sectionCount}
 use Rattle.elf.specs.Sections.{sectionAt, countingRela}
 use Rattle.elf.specs.Entries.{bytesOf}
 use Rattle.order.specs.declared.Counts.{Counts}
-use Rattle.order.specs.Addresses.{addresses}
+use Rattle.lookup.specs.Addresses.{addresses}
 use Rattle.journal.specs.Plans.{overwritten}
-use Rattle.place.specs.Placing.{hasBytes}
-use Rattle.riscv.specs.declared.types.Calculation.the-variants.{HighAbsolute, LowAbsolute}
-use Rattle.riscv.specs.declared.types.Decision.{Decision}
-use Rattle.riscv.specs.declared.types.Decision.the-variants.{Marker, Align, Store, Refused}
+use Rattle.placing.specs.Placing.{hasBytes}
+use Rattle.types.specs.declared.Calculation.the-variants.{HighAbsolute, LowAbsolute}
+use Rattle.types.specs.declared.Decision.{Decision}
+use Rattle.types.specs.declared.Decision.the-variants.{Marker, Align, Store, Refused}
 use Rattle.riscv.specs.Halves.{low}
 use Rattle.rela.specs.declared.sites.Site.{Site}
 use Rattle.rela.specs.Sites.{siteAt, count, entry, effect, offset, A, P, found}
 use Rattle.rela.specs.Effects.{isStore, touched}
 use Rattle.rela.specs.Shape.{end, staysInside}
 use Rattle.rela.proofs.Laws.Decisions.{store-width, width-some}
-use Rattle.relocate.specs.Values.{valueAt, S, T}
+use Rattle.rules.specs.Values.{valueAt, S, T}
 use Rattle.relocate.proofs.Laws.Search.{kept-rules}
 use Rattle.patch.specs.Facts.{Checked}
 use Rattle.patch.specs.Sections.{pairDistance, relaOf, relocated, after}

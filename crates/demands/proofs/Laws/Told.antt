@@ -12,28 +12,29 @@ use Rattle.word.specs.First.{first}
 use Rattle.word.proofs.Laws.First.{first-below, first-at}
 use Rattle.elf.specs.Headers.{sectionCount}
 use Rattle.elf.specs.Entries.{relocationCount}
-use Rattle.validate.specs.Headers.{headerAllowed, tableAllowed}
+use Rattle.header.specs.Headers.{headerAllowed, tableAllowed}
 use Rattle.validate.specs.declared.ObjectCheck.{ObjectCheck}
 use Rattle.validate.specs.declared.ObjectCheck.the-variants.{Passed, BadHeader, BadSection}
 use Rattle.validate.specs.Rules.{sectionWell, objectCheck}
 use Rattle.validate.specs.Sound.{SoundSection}
 use Rattle.validate.proofs.Laws.Objects.{section-sound, well-section}
 use Rattle.validate.proofs.Laws.Tables.{check-table-broken, check-broken, check-sound}
-use Rattle.order.specs.Orders.{base, externalValue, wellFormed}
+use Rattle.order.specs.Orders.{base, wellFormed}
+use Rattle.lookup.specs.Values.{externalValue}
 use Rattle.order.specs.Windows.{windowAllowed}
-use Rattle.order.specs.Addresses.{addresses}
+use Rattle.lookup.specs.Addresses.{addresses}
 use Rattle.journal.specs.Journals.{count, held, Sound, sound, noRoom}
 use Rattle.journal.specs.Plans.{Verdict, refused, plan, spanOf}
-use Rattle.journal.specs.Calls.{Answer, journalUnsound, journalFull, Files, refuse, succeed, installed, settle, install}
+use Rattle.undo.specs.Calls.{Answer, journalUnsound, journalFull, Files, refuse, succeed, installed, settle, install}
 use Rattle.journal.proofs.Laws.Sound.{test-sound, sound-test}
 use Rattle.place.specs.declared.Fault.{Fault}
 use Rattle.place.specs.declared.Fault.the-variants.{Nowhere, At}
 use Rattle.place.specs.Placements.{lowest, isGiven, differs, placementCheck}
 use Rattle.place.specs.Externals.{isUndefined, externalCheck}
-use Rattle.place.specs.Placing.{misplaced, placingCheck}
+use Rattle.placing.specs.Placing.{misplaced, placingCheck}
 use Rattle.place.proofs.Laws.Theorems.{nowhere-holds}
-use Rattle.place.specs.declared.SymbolValue.{SymbolValue}
-use Rattle.riscv.specs.declared.types.Decision.{Decision}
+use Rattle.symbols.specs.declared.SymbolValue.{SymbolValue}
+use Rattle.types.specs.declared.Decision.{Decision}
 use Rattle.rela.specs.declared.sites.Site.{Site}
 use Rattle.rela.proofs.Laws.Widths.{never}
 use Rattle.rela.specs.Shape.{shapeWell}
@@ -41,8 +42,8 @@ use Rattle.rela.specs.Sites.{effect, A, P}
 use Rattle.relocate.specs.declared.search.Finding.{Finding}
 use Rattle.relocate.specs.declared.search.Finding.the-variants.{Kept, BadShape, BadSymbol, BadForm, NoPair, OutOfReach, OffBoundary}
 use Rattle.relocate.specs.declared.search.RelocationCheck.the-variants.{Passed as AllKept, Broken}
-use Rattle.relocate.specs.Values.{valueAt, S, T}
-use Rattle.relocate.specs.Rules.{symbolWell, formWell, pairWell, distanceWell, boundaryWell}
+use Rattle.rules.specs.Values.{valueAt, S, T}
+use Rattle.rules.specs.Rules.{symbolWell, formWell, pairWell, distanceWell, boundaryWell}
 use Rattle.relocate.specs.Search.{number, finding, findingOf, isBroken, relocationCheck}
 use Rattle.fitter.specs.Judgement.{afterObject, afterFault, afterRelocations, planOf, judgement}
 use Rattle.demands.specs.Rules.{OrderWell, WindowWell, HeaderWell, TableWell, PlacedAsAllocated, ValuedIfUndefined, PlacedIfAllocated, site, entryOf, Shape, SymbolResolves, FormIs, OnePair, Reaches, OnBoundary, Room}

@@ -18,24 +18,25 @@ use Rattle.word.specs.Powers.{oneBit}
 use Rattle.elf.specs.Headers.{sectionCount}
 use Rattle.elf.specs.Sections.{sectionAt, allocated, loaded, symbolTable, targets, countingRel, countingRela, relocationsIn}
 use Rattle.elf.specs.Entries.{bytesOf, relocationAt, relocationCount, locationOf}
-use Rattle.validate.specs.Headers.{headerAllowed, tableAllowed}
+use Rattle.header.specs.Headers.{headerAllowed, tableAllowed}
 use Rattle.validate.specs.Rules.{startsNull, insideFile, allocatedWell, symbolTableWell, noCountingRel, relaKept, relaWell, relocationsKept, relocationsWell, sectionWell}
 use Rattle.validate.specs.Sound.{SoundSection}
 use Rattle.validate.proofs.Laws.Objects.{section-sound}
-use Rattle.order.specs.Orders.{base, entryAt, valueIn, externalValue, ascending, wellFormed}
+use Rattle.order.specs.Orders.{base, entryAt, ascending, wellFormed}
+use Rattle.lookup.specs.Values.{valueIn, externalValue}
 use Rattle.order.specs.Windows.{lengthAllowed, windowAllowed}
-use Rattle.order.specs.Addresses.{placedAt, addresses}
+use Rattle.lookup.specs.Addresses.{placedAt, addresses}
 use Rattle.journal.specs.Journals.{entry, entries, total, isBlank, endsWithin, sound, Sound, noRoom}
 use Rattle.journal.specs.Plans.{overwritten, end, lowest, spanOf}
-use Rattle.journal.specs.Calls.{Answer, done, Files}
+use Rattle.undo.specs.Calls.{Answer, done, Files}
 use Rattle.journal.proofs.Laws.Sound.{test-sound}
 use Rattle.place.specs.Placements.{isAllocated}
-use Rattle.place.specs.Placing.{endOf, unit, aligned, endsInMemory, hasBytes, inWindow, share, apart, misplaced}
-use Rattle.place.specs.Values.{symbolValue}
-use Rattle.riscv.specs.Types.{table, among, lookup, decision}
+use Rattle.placing.specs.Placing.{endOf, unit, aligned, endsInMemory, hasBytes, inWindow, share, apart, misplaced}
+use Rattle.symbols.specs.Values.{symbolValue}
+use Rattle.types.specs.Types.{table, among, lookup, decision}
 use Rattle.rela.specs.Sites.{siteAt}
 use Rattle.rela.specs.Shape.{neverFalls, staysInside, previous, noOverlap, shapeWell}
-use Rattle.relocate.specs.Rules.{symbolWell, standsWell, formWell, pairWell}
+use Rattle.rules.specs.Rules.{symbolWell, standsWell, formWell, pairWell}
 use Rattle.patch.specs.Patches.{patched}
 use Rattle.patch.specs.Sections.{relaOf, relocated, applied, after}
 use Rattle.patch.specs.Promises.{ReadsBack}
