@@ -1,0 +1,48 @@
+-- `aktinoph::text::append_decimal` meets its contract: the fewest digits are the decimal. Assumes nothing.
+use Rattle.aktinoph.specs.Lines.{decimal}
+use lib.ListN.{length}
+use mathlib.Core.Path.{_≡_, _∙_}
+use native.Mathlib.Omega.{arith}
+use Rattle.aktinoph.proofs.Laws.Lines.{appended-as, digits-decimal, fewest-most}
+use borrow.Author.Needs.{needs}
+use Rattle.aktinoph.proofs.text.append_decimal.Statement.{statement}
+use Rattle.aktinoph.proofs.text.append_decimal.Tie as tie
+
+decimal-requires : tie.Need-decimal-requires
+decimal-requires c κs = search needs
+
+array-share-prefix-digits : tie.Need-array-share-prefix-digits
+array-share-prefix-digits c = search needs
+
+slice-aggregate-append : tie.Need-slice-aggregate-append
+slice-aggregate-append c = search needs
+
+append-requires : tie.Need-append-requires
+append-requires c κs =
+    let d = c .before .before .decimal in
+    let few = fewest-most (c .before .before .before .before .before .args .n) (d .result) (c .before .before .before .before .before .fits .n .fits) (d .ensures .1 .0) in
+    omega (arith, few, d .ensures .0 .0, d .ensures .0 .1)
+
+same-length : tie.Need-same-length
+same-length c = search needs
+
+returns : tie.Need-returns
+unfolding decimal
+returns c =
+    let n = c .before .before .before .before .before .before .before .before .args .n in
+    let d = c .before .before .before .before .before .decimal in
+    let few = fewest-most n (d .result) (c .before .before .before .before .before .before .before .before .fits .n .fits) (d .ensures .1 .0) in (
+      (c .before .before .append .ensures .0, omega (arith, few, c .before .before .append .ensures .1 .end, d .ensures .0 .0, d .ensures .0 .1)),
+      appended-as (d .ensures .1 .1 ∙ digits-decimal 20 (d .result) n few (d .ensures .1 .0)) (c .before .before .append .ensures .1),
+    )
+
+pub append-decimal-spec : {M : Type 1} → statement M
+append-decimal-spec =
+    tie.close
+    (tie.spec
+    decimal-requires
+    array-share-prefix-digits
+    slice-aggregate-append
+    append-requires
+    same-length
+    returns)

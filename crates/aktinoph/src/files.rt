@@ -1,0 +1,273 @@
+// Files, by the places of their names among the arguments: read whole, and replaced whole by rename.
+ghost use mathlib.Core.Path.{_≡_};
+ghost use mathlib.Core.List.{_++_};
+ghost use Prim.Native.Nat.{_+_, _≤_};
+ghost use lib.ListN.{length, take};
+ghost use Rattle.io.specs.Counts.{Counts};
+ghost use Rattle.libc.specs.Io.{Ended};
+use crate::text::append;
+use crate::text::append_decimal;
+
+// Where it is read, `len` bytes of it, at most one above the limit.
+pub struct Contents {
+    pub is_read: bool,
+    pub len: usize,
+}
+
+// Reads the file that argument i names, or says why it cannot.
+pub fn read(i: usize, buf: &mut [u8]) -> Contents
+    ensures { λ r. ⌜ Counts (r .len) (now (buf .exit)) ⌝ }
+{
+    let mut path = io::buffer();
+    let n = os::arg(i, &mut path);
+    if os::errno() != 0 {
+        os::fail(&path);
+        return unread();
+    }
+    read_path(&path[..n], buf)
+}
+
+fn unread() -> Contents
+    ensures { λ r. ⌜ r .len ≡ 0 ⌝ }
+{
+    Contents {
+        is_read: false,
+        len: 0,
+    }
+}
+
+fn read_path(path: &[u8], buf: &mut [u8]) -> Contents
+    ensures { λ r. ⌜ Counts (r .len) (now (buf .exit)) ⌝ }
+{
+    let fd = os::open_read(path);
+    if fd < 0 {
+        os::fail(path);
+        return unread();
+    }
+    let contents = read_all(fd, buf);
+    if !contents.is_read {
+        os::fail(path);
+    }
+    libc::close(fd);
+    contents
+}
+
+// Reads until the file ends or buf is full, so that an endless file is too long and not a hang.
+fn read_all(fd: i32, buf: &mut [u8]) -> Contents
+    ensures { λ r. ⌜ Counts (r .len) (now (buf .exit)) ⌝ }
+{
+    let mut done: usize = 0;
+    while done < buf.len() {
+        let more = read_some(fd, &mut buf[done..]);
+        if !more.is_read {
+            return unread();
+        }
+        if more.len == 0 {
+            break;
+        }
+        done += more.len;
+    }
+    Contents {
+        is_read: true,
+        len: done,
+    }
+}
+
+fn read_some(fd: i32, buf: &mut [u8]) -> Contents
+    ensures { λ r. ⌜ Counts (r .len) (now (buf .exit)) ⌝ }
+{
+    let got = libc::read(fd, buf);
+    let n = io::count(got, buf);
+    Contents {
+        is_read: got >= 0,
+        len: n,
+    }
+}
+
+// Replaces the file of argument `first`, then that of argument `second`. Both new files are written before either takes its name.
+// Where the second cannot, the first is put back.
+pub fn replace_both(first: usize, new: &[u8], old: &[u8], second: usize, other: &[u8]) -> bool {
+    let tag = tag();
+    let mut a = [0u8; 4105];
+    let m = write_beside(first, tag, new, &mut a);
+    if m == 0 {
+        return false;
+    }
+    let mut b = [0u8; 4105];
+    let n = write_beside(second, tag, other, &mut b);
+    let a_end = m + 9;
+    let b_end = n + 9;
+    if n == 0 {
+        os::unlink(&a[..a_end]);
+        return false;
+    }
+    if !put(&a[..a_end], m) {
+        os::unlink(&b[..b_end]);
+        return false;
+    }
+    if put(&b[..b_end], n) {
+        return true;
+    }
+    replace(first, tag, old);
+    false
+}
+
+fn replace(i: usize, tag: [u8; 9], bytes: &[u8]) {
+    let mut name = [0u8; 4105];
+    let n = write_beside(i, tag, bytes, &mut name);
+    let end = n + 9;
+    if n > 0 {
+        put(&name[..end], n);
+    }
+}
+
+// Gives a new file the name of the one that it is to replace, or removes it and says why.
+fn put(name: &[u8], target: usize) -> bool
+    requires { ⌜ target ≤ length (now name) ⌝ }
+{
+    if os::rename(name, &name[..target]) == 0 {
+        return true;
+    }
+    os::fail(&name[..target]);
+    os::unlink(name);
+    false
+}
+
+// Writes a new file beside the one that argument i names, or says why it cannot. The new file's name is put into `name`; the
+// answer is the length of the old one's, without the tag, and 0 where there is no new file.
+fn write_beside(i: usize, tag: [u8; 9], bytes: &[u8], name: &mut [u8]) -> usize
+    requires { ⌜ length (now name) ≡ 4105 ⌝ }
+    ensures { λ r. ⌜ Counts (r + 9) (now (name .exit)) ⌝ }
+{
+    let mut given = io::buffer();
+    let g = os::arg(i, &mut given);
+    let mut path = io::buffer();
+    let n = target(&given[..g], &mut path);
+    if n == 0 {
+        return 0;
+    }
+    let end = beside(&path[..n], tag, name);
+    if write_new(&given[..g], &name[..end], bytes) {
+        return n;
+    }
+    0
+}
+
+// The name of the new file beside the one at `path`. One that is too long is refused where the file is made.
+fn beside(path: &[u8], tag: [u8; 9], name: &mut [u8]) -> usize
+    requires { ⌜ length (now path) + 9 ≤ length (now name) ⌝ }
+    ensures { λ r. ⌜ Counts r (now (name .exit)) ⌝ }
+    ensures { λ r. ⌜ take r (now (name .exit)) ≡ now (path .entry) ++ tag ⌝ }
+{
+    let n = append(name, 0, path);
+    append(name, n, &tag)
+}
+
+// A dot and eight random letters. Both new files of a call have the same, so that one file in two places is found: the second
+// cannot be made.
+fn tag() -> [u8; 9] {
+    let mut b = [0u8; 8];
+    libc::getentropy(&mut b);
+    [
+        b'.',
+        letter(b[0]),
+        letter(b[1]),
+        letter(b[2]),
+        letter(b[3]),
+        letter(b[4]),
+        letter(b[5]),
+        letter(b[6]),
+        letter(b[7]),
+    ]
+}
+
+fn letter(b: u8) -> u8 {
+    b'a' + b % 26
+}
+
+// Makes the file `name` with the bytes, or says of the file `given` why it cannot. It is then on its device.
+fn write_new(given: &[u8], name: &[u8], bytes: &[u8]) -> bool {
+    let fd = os::create(name);
+    if fd < 0 {
+        os::fail(given);
+        return false;
+    }
+    let is_stored = store(fd, bytes);
+    if !is_stored {
+        os::fail(given);
+        os::unlink(name);
+    }
+    libc::close(fd);
+    is_stored
+}
+
+fn store(fd: i32, bytes: &[u8]) -> bool {
+    if !io::write_all(fd, bytes) {
+        return false;
+    }
+    libc::fsync(fd) == 0
+}
+
+// Puts the path of the file that is to be replaced into `path`, and answers its length; or says why there is none, and answers 0.
+// Through a link, it is the file behind it.
+fn target(given: &[u8], path: &mut [u8]) -> usize
+    requires { ⌜ length (now given) ≤ length (now path) ⌝ }
+    ensures { λ r. ⌜ Counts r (now (path .exit)) ⌝ }
+{
+    let fd = os::open_read(given);
+    if fd < 0 {
+        os::fail(given);
+        return 0;
+    }
+    let can_seek = libc::lseek(fd, 1, libc::SEEK_SET) == 1;
+    let n = own_path(fd, path);
+    libc::close(fd);
+    if !can_seek {
+        io::write_all(libc::STDERR_FILENO, given);
+        io::write_all(
+            libc::STDERR_FILENO,
+            b": is not a plain file and cannot be replaced\n",
+        );
+        return 0;
+    }
+    if is_there(&path[..n]) {
+        return n;
+    }
+    append(path, 0, given)
+}
+
+// The path of an open file, as Linux has it: absolute and with every link followed. 0 where it cannot be told.
+fn own_path(fd: i32, path: &mut [u8]) -> usize
+    ensures { λ r. ⌜ Counts r (now (path .exit)) ⌝ }
+{
+    let link = link_of(descriptor(fd));
+    let got = libc::readlink(&link, path);
+    io::count(got, path)
+}
+
+// A descriptor of an open file as a number.
+fn descriptor(fd: i32) -> u64 {
+    if fd < 0 {
+        return 0;
+    }
+    fd as u64
+}
+
+fn link_of(fd: u64) -> [u8; 4096]
+    ensures { λ r. ⌜ Ended r ⌝ }
+{
+    let mut link = io::buffer();
+    let at = append(&mut link, 0, b"/proc/self/fd/");
+    append_decimal(&mut link, at, fd);
+    link[4095] = 0;
+    link
+}
+
+fn is_there(path: &[u8]) -> bool {
+    let fd = os::open_read(path);
+    if fd < 0 {
+        return false;
+    }
+    libc::close(fd);
+    true
+}

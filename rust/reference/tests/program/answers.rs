@@ -1,0 +1,118 @@
+//! Calls that are answered: the line, and the files after.
+
+use std::fs;
+use std::os::unix::fs::MetadataExt;
+
+use crate::bench::{good, line, on_both, Bench};
+use crate::common::build::journal;
+
+#[test]
+fn done_and_taken_back() {
+    on_both(|program| {
+        let fit = good();
+        let bench = Bench::new(program, &fit);
+        assert_eq!(line(&bench.fit()), "0 0\n");
+        let (_, image, ledger) = fit.run();
+        assert_eq!(bench.read("image"), image);
+        assert_eq!(bench.read("ledger"), ledger);
+        assert_eq!(bench.read("image")[64..68], [1, 2, 3, 4]);
+        assert_eq!(bench.files().len(), 4, "no file is left over");
+        assert_eq!(line(&bench.fit()), "15 0\n");
+        assert_eq!(line(&bench.take_back()), "0 0\n");
+        assert_eq!(bench.read("image"), fit.image);
+        assert_eq!(bench.read("ledger"), fit.journal);
+        assert_eq!(line(&bench.take_back()), "16 0\n");
+        assert_eq!(bench.files().len(), 4, "no file is left over");
+    });
+}
+
+#[test]
+fn a_refusal_touches_no_file() {
+    on_both(|program| {
+        let mut fit = good();
+        fit.placements.clear();
+        let bench = Bench::new(program, &fit);
+        let inode = |name: &str| fs::metadata(bench.path(name)).map(|file| file.ino());
+        let inodes = || ["image", "ledger"].map(|name| inode(name).expect("the file is there"));
+        let (before, inodes_before) = (bench.files(), inodes());
+        assert_eq!(line(&bench.fit()), "6 1\n");
+        assert_eq!(line(&bench.take_back()), "16 0\n");
+        assert_eq!(bench.files(), before);
+        assert_eq!(inodes(), inodes_before);
+    });
+}
+
+#[test]
+fn too_long() {
+    on_both(|program| {
+        for name in ["object", "order", "image", "ledger"] {
+            let bench = Bench::new(program, &good());
+            bench.write(name, &vec![0; 65_537]);
+            let before = bench.files();
+            assert_eq!(line(&bench.fit()), "too long\n", "{name}");
+            assert_eq!(bench.files(), before);
+            bench.write(name, &vec![0; 65_536]);
+            assert_ne!(line(&bench.fit()), "too long\n", "{name}");
+        }
+        for name in ["image", "ledger"] {
+            let bench = Bench::new(program, &good());
+            bench.write(name, &vec![0; 65_537]);
+            let before = bench.files();
+            assert_eq!(line(&bench.take_back()), "too long\n", "{name}");
+            assert_eq!(bench.files(), before);
+        }
+    });
+}
+
+/// A file without an end is too long too.
+#[test]
+fn endless() {
+    on_both(|program| {
+        let bench = Bench::new(program, &good());
+        let endless = ["fit", "/dev/zero", "order", "image", "ledger"];
+        assert_eq!(line(&bench.run(&endless)), "too long\n");
+    });
+}
+
+/// Files of the greatest length, and empty ones.
+#[test]
+fn lengths_at_the_limits() {
+    on_both(|program| {
+        let mut fit = good();
+        fit.journal = journal(65_536 - 136);
+        fit.image.resize(65_536, 0xA5);
+        let bench = Bench::new(program, &fit);
+        assert_eq!(line(&bench.fit()), "0 0\n");
+        let (_, image, ledger) = fit.run();
+        assert_eq!((bench.read("image"), bench.read("ledger")), (image, ledger));
+        assert_eq!(line(&bench.take_back()), "0 0\n");
+        assert_eq!(bench.read("image"), fit.image);
+        bench.write("object", &[]);
+        assert_eq!(line(&bench.fit()), "4 0\n");
+        bench.write("order", &[]);
+        assert_eq!(line(&bench.fit()), "2 0\n");
+        bench.write("image", &[]);
+        assert_eq!(line(&bench.take_back()), "16 0\n");
+        bench.write("ledger", &[]);
+        assert_eq!(line(&bench.fit()), "1 0\n");
+        assert_eq!(line(&bench.take_back()), "1 0\n");
+    });
+}
+
+#[test]
+fn names_with_spaces() {
+    on_both(|program| {
+        let bench = Bench::new(program, &good());
+        fs::create_dir(bench.path("a box")).expect("a directory");
+        for name in ["object", "order", "image", "ledger"] {
+            let spaced = bench.path(&format!("a box/the  {name}"));
+            fs::rename(bench.path(name), spaced).expect("a rename");
+        }
+        let [image, ledger] = ["a box/the  image", "a box/the  ledger"];
+        let fit = ["fit", "a box/the  object", "a box/the  order", image, ledger];
+        assert_eq!(line(&bench.run(&fit)), "0 0\n");
+        assert_eq!(bench.read(image)[64..68], [1, 2, 3, 4]);
+        assert_eq!(line(&bench.run(&["take-back", image, ledger])), "0 0\n");
+        assert_eq!(bench.read(image), good().image);
+    });
+}

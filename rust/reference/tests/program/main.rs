@@ -1,0 +1,13 @@
+//! The programs on files: what they write, what they leave alone, and how they
+//! end. One list of tests, run with both programs: `aktinoph`, which is proved,
+//! and this package's own.
+
+#[path = "../common/mod.rs"]
+mod common;
+
+mod answers;
+mod bench;
+mod cuts;
+mod errors;
+mod links;
+mod vectors;

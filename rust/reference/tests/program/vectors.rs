@@ -1,0 +1,69 @@
+//! Every line of the shared vectors, through files: the line, the image after
+//! and the ledger after.
+
+use std::collections::BTreeSet;
+
+use crate::bench::{empty, line, on_both, Bench, FIT, TAKE_BACK};
+use crate::common::vectors::{bytes, bytes_after, lines};
+
+/// Runs a call over the bench's files and compares its line.
+fn call(bench: &Bench, at: usize, command: &str, inputs: &[&str], expected: [&str; 2]) {
+    let names = if command == "fit" {
+        &FIT[1..]
+    } else {
+        &TAKE_BACK[1..]
+    };
+    for (name, input) in names.iter().zip(inputs) {
+        bench.write(name, &bytes(input));
+    }
+    let output = bench.run(if command == "fit" { &FIT } else { &TAKE_BACK });
+    assert_eq!(
+        line(&output),
+        format!("{} {}\n", expected[0], expected[1]),
+        "line {at}"
+    );
+    assert_eq!(bench.files().len(), 4, "line {at}");
+}
+
+#[test]
+fn calls() {
+    on_both(|program| {
+        let bench = Bench::new(program, &empty());
+        let mut numbers = BTreeSet::new();
+        for (at, words) in lines("calls.txt") {
+            let words: Vec<&str> = words.iter().map(String::as_str).collect();
+            let (inputs, expected) = words.split_at(words.len() - 4);
+            call(&bench, at, inputs[0], &inputs[1..], [expected[0], expected[1]]);
+            numbers.insert(expected[0].to_string());
+            let [image, ledger] = [inputs.len() - 2, inputs.len() - 1].map(|i| bytes(inputs[i]));
+            assert!(bench.read("image") == bytes_after(expected[2], &image), "line {at}");
+            assert!(bench.read("ledger") == bytes_after(expected[3], &ledger), "line {at}");
+        }
+        assert_eq!(numbers.len(), 17, "each number from 0 to 16");
+    });
+}
+
+#[test]
+fn histories() {
+    on_both(|program| {
+        let bench = Bench::new(program, &empty());
+        for (at, words) in lines("histories.txt") {
+            let words: Vec<&str> = words.iter().map(String::as_str).collect();
+            match words[..] {
+                ["start", image, ledger] => {
+                    bench.write("image", &bytes(image));
+                    bench.write("ledger", &bytes(ledger));
+                }
+                ["end", image, ledger] => {
+                    assert!(bench.read("image") == bytes(image), "line {at}");
+                    assert!(bench.read("ledger") == bytes(ledger), "line {at}");
+                }
+                ["fit", object, order, number, place] => {
+                    call(&bench, at, "fit", &[object, order], [number, place]);
+                }
+                ["take-back", number, place] => call(&bench, at, "take-back", &[], [number, place]),
+                _ => panic!("a line that is no call"),
+            }
+        }
+    });
+}
