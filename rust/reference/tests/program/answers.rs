@@ -109,7 +109,13 @@ fn names_with_spaces() {
             fs::rename(bench.path(name), spaced).expect("a rename");
         }
         let [image, ledger] = ["a box/the  image", "a box/the  ledger"];
-        let fit = ["fit", "a box/the  object", "a box/the  order", image, ledger];
+        let fit = [
+            "fit",
+            "a box/the  object",
+            "a box/the  order",
+            image,
+            ledger,
+        ];
         assert_eq!(line(&bench.run(&fit)), "0 0\n");
         assert_eq!(bench.read(image)[64..68], [1, 2, 3, 4]);
         assert_eq!(line(&bench.run(&["take-back", image, ledger])), "0 0\n");

@@ -60,7 +60,11 @@ fn ended_at_every_call_of_a_fit() {
             assert_eq!(output.stdout, b"");
             let state = states.iter().position(|state| *state == pair(&bench));
             seen.push(state.expect("each file is old or new, and not only the image is new"));
-            let expected = if seen.last() == Some(&0) { "16 0\n" } else { "0 0\n" };
+            let expected = if seen.last() == Some(&0) {
+                "16 0\n"
+            } else {
+                "0 0\n"
+            };
             assert_eq!(line(&bench.take_back()), expected);
             assert_eq!(pair(&bench), old);
         }
@@ -84,7 +88,11 @@ fn ended_at_every_call_of_a_taking_back() {
             assert_eq!(output.stdout, b"");
             let state = states.iter().position(|state| *state == pair(&bench));
             seen.push(state.expect("each file is old or new, and not only the ledger is new"));
-            let expected = if seen.last() == Some(&2) { "16 0\n" } else { "0 0\n" };
+            let expected = if seen.last() == Some(&2) {
+                "16 0\n"
+            } else {
+                "0 0\n"
+            };
             assert_eq!(line(&bench.take_back()), expected);
             assert_eq!(pair(&bench), old);
         }

@@ -7,7 +7,7 @@ use std::os::unix::process::CommandExt;
 use std::path::Path;
 use std::process::Command;
 
-use crate::bench::{empty, good, line, on_both, Bench, Program, FIT, TAKE_BACK};
+use crate::bench::{empty, good, line, on_both, Bench, FIT, TAKE_BACK};
 
 /// A user that owns no file.
 const NOBODY: u32 = 65_534;
@@ -79,15 +79,21 @@ fn wrong_arguments() {
 fn long_names() {
     on_both(|program| {
         let bench = Bench::new(program, &good());
-        let padded = |length: usize, name: &str| "./".repeat((length - name.len()) / 2) + name;
+        let padded = |length: usize, name: &str| {
+            let slashes = "/".repeat(length - 1 - name.len());
+            format!(".{slashes}{name}")
+        };
         for place in 0..4 {
-            for length in [4_096, 4_098, 8_000] {
-                bench.fails(&fit_with(place, &padded(length, NAMES[place])), "./././.");
+            for length in [4_096, 4_097, 8_000] {
+                bench.fails(&fit_with(place, &padded(length, NAMES[place])), ".////");
             }
             bench.fails(&fit_with(place, &"n".repeat(256)), "nnnn");
         }
         let [image, ledger] = [padded(4_095, "image"), padded(4_094, "ledger")];
-        assert_eq!(line(&bench.run(&["fit", "object", "order", &image, &ledger])), "0 0\n");
+        assert_eq!(
+            line(&bench.run(&["fit", "object", "order", &image, &ledger])),
+            "0 0\n"
+        );
         assert_eq!(line(&bench.run(&["take-back", &image, &ledger])), "0 0\n");
         let widest = "n".repeat(255);
         fs::copy(bench.path("image"), bench.path(&widest)).expect("a copy");
@@ -179,7 +185,10 @@ fn read_only_files() {
         set_mode(&bench.path("image"), 0o444);
         set_mode(&bench.path("ledger"), 0o444);
         let mut command = unprivileged(&bench, &programs, &FIT);
-        assert_eq!(line(&command.output().expect("the program starts")), "0 0\n");
+        assert_eq!(
+            line(&command.output().expect("the program starts")),
+            "0 0\n"
+        );
         assert_eq!(bench.read("image")[64..68], [1, 2, 3, 4]);
     });
 }
@@ -236,11 +245,4 @@ fn full_files() {
         assert_eq!(line(&bench.fit()), "0 0\n");
         bench.command_fails(&mut limited(&TAKE_BACK), "image: ");
     });
-}
-
-/// The status tells a failed call from an answered one, where there is one.
-#[test]
-fn statuses() {
-    assert_eq!(Program::Reference.failed(), 1);
-    assert_eq!(Program::Aktinoph.failed(), 0);
 }

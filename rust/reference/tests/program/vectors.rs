@@ -6,7 +6,8 @@ use std::collections::BTreeSet;
 use crate::bench::{empty, line, on_both, Bench, FIT, TAKE_BACK};
 use crate::common::vectors::{bytes, bytes_after, lines};
 
-/// Runs a call over the bench's files and compares its line.
+/// Runs a call over the bench's files and compares its line. A file that is
+/// longer than the program takes gives another.
 fn call(bench: &Bench, at: usize, command: &str, inputs: &[&str], expected: [&str; 2]) {
     let names = if command == "fit" {
         &FIT[1..]
@@ -17,11 +18,10 @@ fn call(bench: &Bench, at: usize, command: &str, inputs: &[&str], expected: [&st
         bench.write(name, &bytes(input));
     }
     let output = bench.run(if command == "fit" { &FIT } else { &TAKE_BACK });
-    assert_eq!(
-        line(&output),
-        format!("{} {}\n", expected[0], expected[1]),
-        "line {at}"
-    );
+    let too_long = names.iter().any(|name| bench.read(name).len() > 65_536);
+    let answer = format!("{} {}\n", expected[0], expected[1]);
+    let asked = if too_long { "too long\n" } else { &answer };
+    assert_eq!(line(&output), asked, "line {at}");
     assert_eq!(bench.files().len(), 4, "line {at}");
 }
 
@@ -33,11 +33,23 @@ fn calls() {
         for (at, words) in lines("calls.txt") {
             let words: Vec<&str> = words.iter().map(String::as_str).collect();
             let (inputs, expected) = words.split_at(words.len() - 4);
-            call(&bench, at, inputs[0], &inputs[1..], [expected[0], expected[1]]);
+            call(
+                &bench,
+                at,
+                inputs[0],
+                &inputs[1..],
+                [expected[0], expected[1]],
+            );
             numbers.insert(expected[0].to_string());
             let [image, ledger] = [inputs.len() - 2, inputs.len() - 1].map(|i| bytes(inputs[i]));
-            assert!(bench.read("image") == bytes_after(expected[2], &image), "line {at}");
-            assert!(bench.read("ledger") == bytes_after(expected[3], &ledger), "line {at}");
+            assert!(
+                bench.read("image") == bytes_after(expected[2], &image),
+                "line {at}"
+            );
+            assert!(
+                bench.read("ledger") == bytes_after(expected[3], &ledger),
+                "line {at}"
+            );
         }
         assert_eq!(numbers.len(), 17, "each number from 0 to 16");
     });
