@@ -85,30 +85,58 @@ fn read_some(fd: i32, buf: &mut [u8]) -> Contents
 }
 
 // Replaces the file of argument `first`, then that of argument `second`. Both new files are written before either takes its name.
-// Where the second cannot, the first is put back.
-pub fn replace_both(first: usize, new: &[u8], old: &[u8], second: usize, other: &[u8]) -> bool {
+pub fn replace_both(first: usize, new: &[u8], second: usize, other: &[u8]) -> bool {
     let tag = tag();
-    let mut a = [0u8; 4105];
-    let m = write_beside(first, tag, new, &mut a);
-    if m == 0 {
+    let mut name = [0u8; 4105];
+    let target = write_beside(first, tag, new, &mut name);
+    let end = target + 9;
+    if target == 0 {
         return false;
     }
+    replace_second(first, tag, &name[..end], target, second, other)
+}
+
+// The same, from where the first new file is written.
+fn replace_second(
+    first: usize,
+    tag: [u8; 9],
+    name: &[u8],
+    target: usize,
+    second: usize,
+    other: &[u8],
+) -> bool
+    requires { ⌜ target ≤ length (now name) ⌝ }
+{
     let mut b = [0u8; 4105];
     let n = write_beside(second, tag, other, &mut b);
-    let a_end = m + 9;
-    let b_end = n + 9;
+    let end = n + 9;
     if n == 0 {
-        os::unlink(&a[..a_end]);
+        os::unlink(name);
         return false;
     }
-    if !put(&a[..a_end], m) {
-        os::unlink(&b[..b_end]);
+    put_both(first, tag, name, target, &b[..end], n)
+}
+
+// The same, from where both are. Where the second cannot take its name, the first file is put back.
+fn put_both(first: usize, tag: [u8; 9], a: &[u8], m: usize, b: &[u8], n: usize) -> bool
+    requires { ⌜ (m ≤ length (now a)) × (n ≤ length (now b)) ⌝ }
+{
+    let mut old = [0u8; 65537];
+    let contents = read(first, &mut old);
+    let k = contents.len;
+    if !contents.is_read {
+        os::unlink(a);
+        os::unlink(b);
         return false;
     }
-    if put(&b[..b_end], n) {
+    if !put(a, m) {
+        os::unlink(b);
+        return false;
+    }
+    if put(b, n) {
         return true;
     }
-    replace(first, tag, old);
+    replace(first, tag, &old[..k]);
     false
 }
 
@@ -209,9 +237,7 @@ fn store(fd: i32, bytes: &[u8]) -> bool {
 }
 
 // Puts the path of the file that is to be replaced into `path`, and answers its length; or says why there is none, and answers 0.
-// Through a link, it is the file behind it.
 fn target(given: &[u8], path: &mut [u8]) -> usize
-    requires { ⌜ length (now given) ≤ length (now path) ⌝ }
     ensures { λ r. ⌜ Counts r (now (path .exit)) ⌝ }
 {
     let fd = os::open_read(given);
@@ -219,30 +245,32 @@ fn target(given: &[u8], path: &mut [u8]) -> usize
         os::fail(given);
         return 0;
     }
-    let can_seek = libc::lseek(fd, 1, libc::SEEK_SET) == 1;
     let n = own_path(fd, path);
     libc::close(fd);
-    if !can_seek {
+    if n == 0 {
         io::write_all(libc::STDERR_FILENO, given);
         io::write_all(
             libc::STDERR_FILENO,
-            b": is not a plain file and cannot be replaced\n",
+            b": not a plain file that can be replaced\n",
         );
-        return 0;
     }
-    if is_there(&path[..n]) {
-        return n;
-    }
-    append(path, 0, given)
+    n
 }
 
-// The path of an open file, as Linux has it: absolute and with every link followed. 0 where it cannot be told.
+// The path of an open file, as Linux has it: absolute and with every link followed. 0 where there is none: a device cannot be
+// sought in, a pipe has no path, and a file may be gone.
 fn own_path(fd: i32, path: &mut [u8]) -> usize
     ensures { λ r. ⌜ Counts r (now (path .exit)) ⌝ }
 {
+    if libc::lseek(fd, 1, libc::SEEK_SET) != 1 {
+        return 0;
+    }
     let link = link_of(descriptor(fd));
-    let got = libc::readlink(&link, path);
-    io::count(got, path)
+    let n = io::count(libc::readlink(&link, path), path);
+    if is_there(&path[..n]) {
+        return n;
+    }
+    0
 }
 
 // A descriptor of an open file as a number.

@@ -13,19 +13,6 @@ ghost use Rattle.aktinoph.specs.Commands.{Asks};
 use files::replace_both;
 use fitter::Answer;
 
-// The places of the file names among the arguments.
-const FIT_OBJECT: usize = 2;
-
-const FIT_ORDER: usize = 3;
-
-const FIT_IMAGE: usize = 4;
-
-const FIT_LEDGER: usize = 5;
-
-const BACK_IMAGE: usize = 2;
-
-const BACK_LEDGER: usize = 3;
-
 pub enum Command {
     Fit,
     TakeBack,
@@ -74,79 +61,84 @@ fn usage() {
 
 fn fit() {
     let mut object = [0u8; 65537];
-    let mut order = [0u8; 65537];
-    let a = files::read(FIT_OBJECT, &mut object);
-    if !a.is_read {
-        return;
+    let a = files::read(2, &mut object);
+    let n = a.len;
+    if a.is_read {
+        fit_object(&object[..n]);
     }
-    let b = files::read(FIT_ORDER, &mut order);
-    if !b.is_read {
-        return;
-    }
-    let m = a.len;
-    let n = b.len;
-    fit_by(&object[..m], &order[..n]);
 }
 
-// The fit of an object by an order, over the files of image and ledger.
-fn fit_by(object: &[u8], order: &[u8]) {
+fn fit_object(object: &[u8]) {
+    let mut order = [0u8; 65537];
+    let a = files::read(3, &mut order);
+    let n = a.len;
+    if a.is_read {
+        over_files(Command::Fit, object, &order[..n], 4, 5);
+    }
+}
+
+fn take_back() {
+    over_files(Command::TakeBack, b"", b"", 2, 3);
+}
+
+// A call over the files of image and ledger, which the arguments at these places name.
+fn over_files(command: Command, object: &[u8], order: &[u8], image_at: usize, ledger_at: usize) {
     let mut image = [0u8; 65537];
+    let a = files::read(image_at, &mut image);
+    let n = a.len;
+    if a.is_read {
+        over_image(command, object, order, image_at, &mut image[..n], ledger_at);
+    }
+}
+
+fn over_image(
+    command: Command,
+    object: &[u8],
+    order: &[u8],
+    image_at: usize,
+    image: &mut [u8],
+    ledger_at: usize,
+) {
     let mut ledger = [0u8; 65537];
-    let a = files::read(FIT_IMAGE, &mut image);
+    let a = files::read(ledger_at, &mut ledger);
+    let n = a.len;
     if !a.is_read {
         return;
     }
-    let b = files::read(FIT_LEDGER, &mut ledger);
-    if !b.is_read {
-        return;
-    }
-    let m = a.len;
-    let n = b.len;
-    if is_long(object.len()) | is_long(order.len()) | is_long(m) | is_long(n) {
+    if is_long(object.len()) | is_long(order.len()) | is_long(image.len()) | is_long(n) {
         print(b"too long\n");
         return;
     }
-    let old = ledger;
-    fit_bytes(object, order, &mut image[..m], &mut ledger[..n], &old[..n]);
+    match command {
+        Command::Fit => fit_bytes(object, order, image_at, image, ledger_at, &mut ledger[..n]),
+        Command::TakeBack => take_back_bytes(image_at, image, ledger_at, &mut ledger[..n]),
+        Command::Unknown => usage(),
+    }
 }
 
 // The ledger first: a cut between the two leaves one that still holds the image's old bytes.
-fn fit_bytes(object: &[u8], order: &[u8], image: &mut [u8], ledger: &mut [u8], old: &[u8]) {
+fn fit_bytes(
+    object: &[u8],
+    order: &[u8],
+    image_at: usize,
+    image: &mut [u8],
+    ledger_at: usize,
+    ledger: &mut [u8],
+) {
     let answer = fitter::install(object, order, image, ledger);
     if fitter::code_of(answer) == 0 {
-        if !replace_both(FIT_LEDGER, ledger, old, FIT_IMAGE, image) {
+        if !replace_both(ledger_at, ledger, image_at, image) {
             return;
         }
     }
     print_answer(answer);
 }
 
-fn take_back() {
-    let mut image = [0u8; 65537];
-    let mut ledger = [0u8; 65537];
-    let a = files::read(BACK_IMAGE, &mut image);
-    if !a.is_read {
-        return;
-    }
-    let b = files::read(BACK_LEDGER, &mut ledger);
-    if !b.is_read {
-        return;
-    }
-    let m = a.len;
-    let n = b.len;
-    if is_long(m) | is_long(n) {
-        print(b"too long\n");
-        return;
-    }
-    let old = image;
-    take_back_bytes(&mut image[..m], &mut ledger[..n], &old[..m]);
-}
-
 // The image first: a cut between the two leaves a fit that can be taken back again.
-fn take_back_bytes(image: &mut [u8], ledger: &mut [u8], old: &[u8]) {
+fn take_back_bytes(image_at: usize, image: &mut [u8], ledger_at: usize, ledger: &mut [u8]) {
     let answer = fitter::rollback(image, ledger);
     if fitter::code_of(answer) == 0 {
-        if !replace_both(BACK_IMAGE, image, old, BACK_LEDGER, ledger) {
+        if !replace_both(image_at, image, ledger_at, ledger) {
             return;
         }
     }

@@ -2,7 +2,7 @@
 //! names the file, nothing on standard output, and no file changes.
 
 use std::fs;
-use std::os::unix::fs::PermissionsExt;
+use std::os::unix::fs::{FileTypeExt, PermissionsExt};
 use std::os::unix::process::CommandExt;
 use std::path::Path;
 use std::process::Command;
@@ -211,8 +211,10 @@ fn unwritable_places() {
 fn devices() {
     on_both(|program| {
         let bench = Bench::new(program, &empty());
-        let device = "/dev/null: is not a plain file and cannot be replaced\n";
-        bench.fails(&["fit", "object", "order", "/dev/null", "ledger"], device);
+        let mut fit = bench.command(&["fit", "object", "order", "/dev/null", "ledger"]);
+        bench.command_fails(&mut fit, "/dev/null: ");
+        let device = fs::metadata("/dev/null").expect("the device is there");
+        assert!(device.file_type().is_char_device());
     });
 }
 
