@@ -87,9 +87,9 @@ fn read_some(fd: i32, buf: &mut [u8]) -> Contents
 // Replaces the file of argument `first`, then that of argument `second`. Both new files are written before either takes its name.
 pub fn replace_both(first: usize, new: &[u8], second: usize, other: &[u8]) -> bool {
     let tag = tag();
-    let mut name = [0u8; 4105];
+    let mut name = [0u8; 4103];
     let target = write_beside(first, tag, new, &mut name);
-    let end = target + 9;
+    let end = target + 7;
     if target == 0 {
         return false;
     }
@@ -99,7 +99,7 @@ pub fn replace_both(first: usize, new: &[u8], second: usize, other: &[u8]) -> bo
 // The same, from where the first new file is written.
 fn replace_second(
     first: usize,
-    tag: [u8; 9],
+    tag: [u8; 7],
     name: &[u8],
     target: usize,
     second: usize,
@@ -107,9 +107,9 @@ fn replace_second(
 ) -> bool
     requires { ⌜ target ≤ length (now name) ⌝ }
 {
-    let mut b = [0u8; 4105];
+    let mut b = [0u8; 4103];
     let n = write_beside(second, tag, other, &mut b);
-    let end = n + 9;
+    let end = n + 7;
     if n == 0 {
         os::unlink(name);
         return false;
@@ -118,7 +118,7 @@ fn replace_second(
 }
 
 // The same, from where both are. Where the second cannot take its name, the first file is put back.
-fn put_both(first: usize, tag: [u8; 9], a: &[u8], m: usize, b: &[u8], n: usize) -> bool
+fn put_both(first: usize, tag: [u8; 7], a: &[u8], m: usize, b: &[u8], n: usize) -> bool
     requires { ⌜ (m ≤ length (now a)) × (n ≤ length (now b)) ⌝ }
 {
     let mut old = [0u8; 65537];
@@ -140,10 +140,10 @@ fn put_both(first: usize, tag: [u8; 9], a: &[u8], m: usize, b: &[u8], n: usize) 
     false
 }
 
-fn replace(i: usize, tag: [u8; 9], bytes: &[u8]) {
-    let mut name = [0u8; 4105];
+fn replace(i: usize, tag: [u8; 7], bytes: &[u8]) {
+    let mut name = [0u8; 4103];
     let n = write_beside(i, tag, bytes, &mut name);
-    let end = n + 9;
+    let end = n + 7;
     if n > 0 {
         put(&name[..end], n);
     }
@@ -163,9 +163,9 @@ fn put(name: &[u8], target: usize) -> bool
 
 // Writes a new file beside the one that argument i names, or says why it cannot. The new file's name is put into `name`; the
 // answer is the length of the old one's, without the tag, and 0 where there is no new file.
-fn write_beside(i: usize, tag: [u8; 9], bytes: &[u8], name: &mut [u8]) -> usize
-    requires { ⌜ length (now name) ≡ 4105 ⌝ }
-    ensures { λ r. ⌜ Counts (r + 9) (now (name .exit)) ⌝ }
+fn write_beside(i: usize, tag: [u8; 7], bytes: &[u8], name: &mut [u8]) -> usize
+    requires { ⌜ length (now name) ≡ 4103 ⌝ }
+    ensures { λ r. ⌜ Counts (r + 7) (now (name .exit)) ⌝ }
 {
     let mut given = io::buffer();
     let g = os::arg(i, &mut given);
@@ -182,8 +182,8 @@ fn write_beside(i: usize, tag: [u8; 9], bytes: &[u8], name: &mut [u8]) -> usize
 }
 
 // The name of the new file beside the one at `path`. One that is too long is refused where the file is made.
-fn beside(path: &[u8], tag: [u8; 9], name: &mut [u8]) -> usize
-    requires { ⌜ length (now path) + 9 ≤ length (now name) ⌝ }
+fn beside(path: &[u8], tag: [u8; 7], name: &mut [u8]) -> usize
+    requires { ⌜ length (now path) + 7 ≤ length (now name) ⌝ }
     ensures { λ r. ⌜ Counts r (now (name .exit)) ⌝ }
     ensures { λ r. ⌜ take r (now (name .exit)) ≡ now (path .entry) ++ tag ⌝ }
 {
@@ -191,10 +191,10 @@ fn beside(path: &[u8], tag: [u8; 9], name: &mut [u8]) -> usize
     append(name, n, &tag)
 }
 
-// A dot and eight random letters. Both new files of a call have the same, so that one file in two places is found: the second
+// A dot and six random letters. Both new files of a call have the same, so that one file in two places is found: the second
 // cannot be made.
-fn tag() -> [u8; 9] {
-    let mut b = [0u8; 8];
+fn tag() -> [u8; 7] {
+    let mut b = [0u8; 6];
     libc::getentropy(&mut b);
     [
         b'.',
@@ -204,8 +204,6 @@ fn tag() -> [u8; 9] {
         letter(b[3]),
         letter(b[4]),
         letter(b[5]),
-        letter(b[6]),
-        letter(b[7]),
     ]
 }
 

@@ -51,11 +51,7 @@ fn asked(word: &[u8], count: usize) -> Command
 fn usage() {
     io::write_all(
         libc::STDERR_FILENO,
-        b"usage: aktinoph fit OBJECT ORDER IMAGE LEDGER\n",
-    );
-    io::write_all(
-        libc::STDERR_FILENO,
-        b"       aktinoph take-back IMAGE LEDGER\n",
+        b"usage: aktinoph fit OBJECT ORDER IMAGE LEDGER\n       aktinoph take-back IMAGE LEDGER\n",
     );
 }
 
@@ -73,26 +69,26 @@ fn fit_object(object: &[u8]) {
     let a = files::read(3, &mut order);
     let n = a.len;
     if a.is_read {
-        over_files(Command::Fit, object, &order[..n], 4, 5);
+        over_files(true, object, &order[..n], 4, 5);
     }
 }
 
 fn take_back() {
-    over_files(Command::TakeBack, b"", b"", 2, 3);
+    over_files(false, b"", b"", 2, 3);
 }
 
 // A call over the files of image and ledger, which the arguments at these places name.
-fn over_files(command: Command, object: &[u8], order: &[u8], image_at: usize, ledger_at: usize) {
+fn over_files(is_fit: bool, object: &[u8], order: &[u8], image_at: usize, ledger_at: usize) {
     let mut image = [0u8; 65537];
     let a = files::read(image_at, &mut image);
     let n = a.len;
     if a.is_read {
-        over_image(command, object, order, image_at, &mut image[..n], ledger_at);
+        over_image(is_fit, object, order, image_at, &mut image[..n], ledger_at);
     }
 }
 
 fn over_image(
-    command: Command,
+    is_fit: bool,
     object: &[u8],
     order: &[u8],
     image_at: usize,
@@ -109,10 +105,10 @@ fn over_image(
         print(b"too long\n");
         return;
     }
-    match command {
-        Command::Fit => fit_bytes(object, order, image_at, image, ledger_at, &mut ledger[..n]),
-        Command::TakeBack => take_back_bytes(image_at, image, ledger_at, &mut ledger[..n]),
-        Command::Unknown => usage(),
+    if is_fit {
+        fit_bytes(object, order, image_at, image, ledger_at, &mut ledger[..n]);
+    } else {
+        take_back_bytes(image_at, image, ledger_at, &mut ledger[..n]);
     }
 }
 
@@ -126,19 +122,19 @@ fn fit_bytes(
     ledger: &mut [u8],
 ) {
     let answer = fitter::install(object, order, image, ledger);
-    if fitter::code_of(answer) == 0 {
-        if !replace_both(ledger_at, ledger, image_at, image) {
-            return;
-        }
-    }
-    print_answer(answer);
+    keep(answer, ledger_at, ledger, image_at, image);
 }
 
 // The image first: a cut between the two leaves a fit that can be taken back again.
 fn take_back_bytes(image_at: usize, image: &mut [u8], ledger_at: usize, ledger: &mut [u8]) {
     let answer = fitter::rollback(image, ledger);
+    keep(answer, image_at, image, ledger_at, ledger);
+}
+
+// Replaces both files where the call was done, and then gives its answer.
+fn keep(answer: Answer, first: usize, new: &[u8], second: usize, other: &[u8]) {
     if fitter::code_of(answer) == 0 {
-        if !replace_both(image_at, image, ledger_at, ledger) {
+        if !replace_both(first, new, second, other) {
             return;
         }
     }

@@ -30,7 +30,7 @@ target-requires : tie.Need-target-requires
 target-requires c κs = search needs
 
 returns : tie.Need-returns
-returns c = counts 9 (c .before .before .before .before .before .before .before .before .before .before .before .before .args .name .now) (omega arith)
+returns c = counts 7 (c .before .before .before .before .before .before .before .before .before .before .before .before .args .name .now) (omega arith)
 
 array-share-prefix-path : tie.Need-array-share-prefix-path
 array-share-prefix-path c = search needs
@@ -66,7 +66,7 @@ same-length-2 : tie.Need-same-length-2
 same-length-2 c = search needs
 
 returns-3 : tie.Need-returns-3
-returns-3 c = counts 9 (c .before .before .before .before .before .before .beside .last .1 .1 .0) (omega arith)
+returns-3 c = counts 7 (c .before .before .before .before .before .before .beside .last .1 .1 .0) (omega arith)
 
 pub write-beside-spec : {M : Type 1} → statement M
 write-beside-spec =
