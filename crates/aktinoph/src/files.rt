@@ -1,12 +1,11 @@
 // Files, by the places of their names among the arguments: read whole, and replaced whole by rename.
 ghost use mathlib.Core.Path.{_≡_};
-ghost use mathlib.Core.List.{_++_};
 ghost use Prim.Native.Nat.{_+_, _≤_};
-ghost use lib.ListN.{length, take};
+ghost use lib.ListN.{length};
 ghost use Rattle.io.specs.Counts.{Counts};
 ghost use Rattle.libc.specs.Io.{Ended};
-use crate::text::append;
-use crate::text::append_decimal;
+use text::append;
+use text::append_decimal;
 
 // Where it is read, `len` bytes of it, at most one above the limit.
 pub struct Contents {
@@ -174,21 +173,11 @@ fn write_beside(i: usize, tag: [u8; 7], bytes: &[u8], name: &mut [u8]) -> usize
     if n == 0 {
         return 0;
     }
-    let end = beside(&path[..n], tag, name);
+    let end = text::beside(&path[..n], tag, name);
     if write_new(&given[..g], &name[..end], bytes) {
         return n;
     }
     0
-}
-
-// The name of the new file beside the one at `path`. One that is too long is refused where the file is made.
-fn beside(path: &[u8], tag: [u8; 7], name: &mut [u8]) -> usize
-    requires { ⌜ length (now path) + 7 ≤ length (now name) ⌝ }
-    ensures { λ r. ⌜ Counts r (now (name .exit)) ⌝ }
-    ensures { λ r. ⌜ take r (now (name .exit)) ≡ now (path .entry) ++ tag ⌝ }
-{
-    let n = append(name, 0, path);
-    append(name, n, &tag)
 }
 
 // A dot and six random letters. Both new files of a call have the same, so that one file in two places is found: the second

@@ -6,46 +6,19 @@
 // Number and place go to standard output. What keeps the call from being made or its result from being kept gives a message on
 // standard error that names the file, nothing on standard output, and changes no file. The exit status is always 0: Rattle has no other.
 mod files;
-mod text;
 
-ghost use mathlib.Core.Path.{_≡_};
-ghost use Rattle.aktinoph.specs.Commands.{Asks};
 use files::replace_both;
 use fitter::Answer;
-
-pub enum Command {
-    Fit,
-    TakeBack,
-    Unknown,
-}
+use text::Command;
 
 fn main() {
     let mut word = [0u8; 9];
     let n = os::arg(1, &mut word);
-    match asked(&word[..n], os::arg_count()) {
+    match text::asked(&word[..n], os::arg_count()) {
         Command::Fit => fit(),
         Command::TakeBack => take_back(),
         Command::Unknown => usage(),
     }
-}
-
-// The command that a first word and a number of arguments ask for, the program's own name among them.
-fn asked(word: &[u8], count: usize) -> Command
-    ensures { λ r. ⌜ Asks (now (word .entry)) count r ⌝ }
-{
-    if count == 6 {
-        if check::same(word, b"fit") {
-            return Command::Fit;
-        }
-        return Command::Unknown;
-    }
-    if count == 4 {
-        if check::same(word, b"take-back") {
-            return Command::TakeBack;
-        }
-        return Command::Unknown;
-    }
-    Command::Unknown
 }
 
 fn usage() {

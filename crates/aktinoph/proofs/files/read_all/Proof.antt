@@ -1,5 +1,5 @@
 -- `aktinoph::files::read_all` meets its contract. The measure is what is left of the buffer. Assumes nothing.
-use Rattle.aktinoph.proofs.Laws.Lines.{counts}
+use Rattle.text.proofs.Laws.Lines.{counts}
 use mathlib.Core.Path.{_≡_, sym}
 use Prim.Native.Nat.{_-_, _≤_}
 use native.Mathlib.Omega.{arith}

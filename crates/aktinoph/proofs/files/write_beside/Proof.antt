@@ -1,6 +1,6 @@
 -- `aktinoph::files::write_beside` meets its contract. Assumes nothing.
 use native.Mathlib.Omega.{arith}
-use Rattle.aktinoph.proofs.Laws.Lines.{counts}
+use Rattle.text.proofs.Laws.Lines.{counts}
 use borrow.Author.Needs.{needs}
 use Rattle.aktinoph.proofs.files.write_beside.Statement.{statement}
 use Rattle.aktinoph.proofs.files.write_beside.Tie as tie

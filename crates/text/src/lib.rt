@@ -1,12 +1,38 @@
-// Texts that the program writes or names files by.
+// Texts that the program `aktinoph` reads, writes, or names files by.
 ghost use mathlib.Core.Path.{_≡_};
 ghost use mathlib.Core.List.{_++_};
 ghost use Prim.Native.Nat.{_+_, _≤_};
 ghost use lib.ListN.{length, take};
 ghost use Rattle.io.specs.Counts.{Counts};
 ghost use Rattle.fitter.specs.Answers.{answerOf};
-ghost use Rattle.aktinoph.specs.Lines.{Appended, decimal, line};
+ghost use Rattle.text.specs.Commands.{Asks};
+ghost use Rattle.text.specs.Lines.{Appended, decimal, line};
 use fitter::Answer;
+
+pub enum Command {
+    Fit,
+    TakeBack,
+    Unknown,
+}
+
+// The command that a first word and a number of arguments ask for, the program's own name among them.
+pub fn asked(word: &[u8], count: usize) -> Command
+    ensures { λ r. ⌜ Asks (now (word .entry)) count r ⌝ }
+{
+    if count == 6 {
+        if check::same(word, b"fit") {
+            return Command::Fit;
+        }
+        return Command::Unknown;
+    }
+    if count == 4 {
+        if check::same(word, b"take-back") {
+            return Command::TakeBack;
+        }
+        return Command::Unknown;
+    }
+    Command::Unknown
+}
 
 // Puts bytes behind the first `at` of out, and answers where they end.
 pub fn append(out: &mut [u8], at: usize, bytes: &[u8]) -> usize
@@ -40,4 +66,14 @@ pub fn answer_line(answer: Answer, out: &mut [u8; 42]) -> usize
     let b = append(out, a, b" ");
     let c = append_decimal(out, b, code / 4294967296);
     append(out, c, b"\n")
+}
+
+// The name of a new file beside the one at `path`: the tag stands behind it.
+pub fn beside(path: &[u8], tag: [u8; 7], name: &mut [u8]) -> usize
+    requires { ⌜ length (now path) + 7 ≤ length (now name) ⌝ }
+    ensures { λ r. ⌜ Counts r (now (name .exit)) ⌝ }
+    ensures { λ r. ⌜ take r (now (name .exit)) ≡ now (path .entry) ++ tag ⌝ }
+{
+    let n = append(name, 0, path);
+    append(name, n, &tag)
 }

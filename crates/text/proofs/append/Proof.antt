@@ -1,9 +1,9 @@
--- `aktinoph::text::append` meets its contract. Assumes nothing.
+-- `text::append` meets its contract. Assumes nothing.
 use native.Mathlib.Omega.{arith}
-use Rattle.aktinoph.proofs.Laws.Lines.{appended-read}
+use Rattle.text.proofs.Laws.Lines.{appended-read}
 use borrow.Author.Needs.{needs}
-use Rattle.aktinoph.proofs.text.append.Statement.{statement}
-use Rattle.aktinoph.proofs.text.append.Tie as tie
+use Rattle.text.proofs.append.Statement.{statement}
+use Rattle.text.proofs.append.Tie as tie
 
 copy-requires : tie.Need-copy-requires
 copy-requires c κs = search needs

@@ -1,8 +1,8 @@
--- `aktinoph::files::beside` meets its contract. Assumes nothing.
-use Rattle.aktinoph.proofs.Laws.Lines.{two}
+-- `text::beside` meets its contract. Assumes nothing.
+use Rattle.text.proofs.Laws.Lines.{two}
 use borrow.Author.Needs.{needs}
-use Rattle.aktinoph.proofs.files.beside.Statement.{statement}
-use Rattle.aktinoph.proofs.files.beside.Tie as tie
+use Rattle.text.proofs.beside.Statement.{statement}
+use Rattle.text.proofs.beside.Tie as tie
 
 append-requires : tie.Need-append-requires
 append-requires c κs = search needs

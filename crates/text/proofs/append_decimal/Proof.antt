@@ -1,12 +1,12 @@
--- `aktinoph::text::append_decimal` meets its contract: the fewest digits are the decimal. Assumes nothing.
-use Rattle.aktinoph.specs.Lines.{decimal}
+-- `text::append_decimal` meets its contract: the fewest digits are the decimal. Assumes nothing.
+use Rattle.text.specs.Lines.{decimal}
 use lib.ListN.{length}
 use mathlib.Core.Path.{_≡_, _∙_}
 use native.Mathlib.Omega.{arith}
-use Rattle.aktinoph.proofs.Laws.Lines.{appended-as, digits-decimal, fewest-most}
+use Rattle.text.proofs.Laws.Lines.{appended-as, digits-decimal, fewest-most}
 use borrow.Author.Needs.{needs}
-use Rattle.aktinoph.proofs.text.append_decimal.Statement.{statement}
-use Rattle.aktinoph.proofs.text.append_decimal.Tie as tie
+use Rattle.text.proofs.append_decimal.Statement.{statement}
+use Rattle.text.proofs.append_decimal.Tie as tie
 
 decimal-requires : tie.Need-decimal-requires
 decimal-requires c κs = search needs

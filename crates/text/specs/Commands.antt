@@ -2,8 +2,8 @@
 use Prim.Native.Nat.{ℕ}
 use mathlib.Core.Path.{_≡_}
 use mathlib.Core.List.{List, [], _∷_}
-use Rattle.aktinoph.specs.declared.Command.{Command}
-use Rattle.aktinoph.specs.declared.Command.the-variants.{Fit, TakeBack, Unknown}
+use Rattle.text.specs.declared.Command.{Command}
+use Rattle.text.specs.declared.Command.the-variants.{Fit, TakeBack, Unknown}
 
 -- "fit", in ASCII
 abbrev pub «the-fit» : List ℕ

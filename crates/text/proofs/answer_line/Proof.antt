@@ -1,8 +1,8 @@
--- `aktinoph::text::answer_line` meets its contract: four pieces, each behind the one before. Assumes nothing.
-use Rattle.aktinoph.proofs.Laws.Lines.{line-of}
+-- `text::answer_line` meets its contract: four pieces, each behind the one before. Assumes nothing.
+use Rattle.text.proofs.Laws.Lines.{line-of}
 use borrow.Author.Needs.{needs}
-use Rattle.aktinoph.proofs.text.answer_line.Statement.{statement}
-use Rattle.aktinoph.proofs.text.answer_line.Tie as tie
+use Rattle.text.proofs.answer_line.Statement.{statement}
+use Rattle.text.proofs.answer_line.Tie as tie
 
 code-of-requires : tie.Need-code-of-requires
 code-of-requires c κs = search needs

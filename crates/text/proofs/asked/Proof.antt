@@ -1,12 +1,12 @@
--- `aktinoph::asked` meets its contract. Assumes nothing.
+-- `text::asked` meets its contract. Assumes nothing.
 use mathlib.Core.Path.{sym, _∙_}
 use native.Mathlib.Omega.{arith}
 use Prim.Native.Nat.{ℕ}
 use mathlib.Core.Path.{_≡_, ap}
 use mathlib.Core.Bool.{Bool, true, false, cond}
 use borrow.Author.Needs.{needs}
-use Rattle.aktinoph.proofs.asked.Statement.{statement}
-use Rattle.aktinoph.proofs.asked.Tie as tie
+use Rattle.text.proofs.asked.Statement.{statement}
+use Rattle.text.proofs.asked.Tie as tie
 
 never : _≡_ {A = Bool} false true → ⊥
 never e = let z : _≡_ {A = ℕ} 0 1 = ap (λ b. cond b 1 0) e in omega arith

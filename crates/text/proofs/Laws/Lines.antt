@@ -18,7 +18,7 @@ use Rattle.journal.specs.Calls.{Answer as Numbered}
 use Rattle.fitter.specs.Answers.{answerOf, packed}
 use Rattle.fitter.specs.declared.Answer.{Answer}
 use Rattle.fitter.specs.declared.Answer.the-variants.{Done, JournalUnsound, OrderMalformed, WindowBroken, BadHeader, BadSection, PlacementsDiffer, WrongExternal, Misplaced, RelocationShape, SymbolUnresolved, WrongInstruction, NotOnePair, OutOfReach, PaddingOffBoundary, JournalFull, NothingStands}
-use Rattle.aktinoph.specs.Lines.{Appended, decimalIn, decimal, line}
+use Rattle.text.specs.Lines.{Appended, decimalIn, decimal, line}
 
 -- ---- appended bytes
 
