@@ -41,7 +41,7 @@ pub fn append(out: &mut [u8], at: usize, bytes: &[u8]) -> usize
     ensures { λ r. ⌜ Appended (now (out .entry)) at (now (bytes .entry)) r (now (out .exit)) ⌝ }
 {
     let n = bytes.len();
-    journal::copy(out, at, bytes, 0, n);
+    undo::copy(out, at, bytes, 0, n);
     at + n
 }
 

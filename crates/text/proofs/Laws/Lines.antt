@@ -14,7 +14,7 @@ use Rattle.io.specs.Counts.{Counts}
 use Rattle.io.specs.Digits.{glyph, digits, Fewest}
 use Rattle.word.specs.Bytes.{part}
 use Rattle.word.proofs.Laws.Lists.{part-whole}
-use Rattle.journal.specs.Calls.{Answer as Numbered}
+use Rattle.undo.specs.Calls.{Answer as Numbered}
 use Rattle.fitter.specs.Answers.{answerOf, packed}
 use Rattle.fitter.specs.declared.Answer.{Answer}
 use Rattle.fitter.specs.declared.Answer.the-variants.{Done, JournalUnsound, OrderMalformed, WindowBroken, BadHeader, BadSection, PlacementsDiffer, WrongExternal, Misplaced, RelocationShape, SymbolUnresolved, WrongInstruction, NotOnePair, OutOfReach, PaddingOffBoundary, JournalFull, NothingStands}

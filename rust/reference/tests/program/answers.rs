@@ -4,7 +4,7 @@ use std::fs;
 use std::os::unix::fs::MetadataExt;
 
 use crate::bench::{good, line, on_both, Bench};
-use crate::common::build::journal;
+use testing::build::journal;
 
 #[test]
 fn done_and_taken_back() {

@@ -6,7 +6,7 @@ use std::path::{Path, PathBuf};
 use std::process::{Command, Output};
 use std::sync::atomic::{AtomicU32, Ordering};
 
-use crate::common::build::{Fit, Relocation, Symbol};
+use testing::build::{Fit, Relocation, Symbol};
 
 #[derive(Clone, Copy, Debug, PartialEq)]
 pub enum Program {

@@ -2,9 +2,6 @@
 //! end. One list of tests, run with both programs: `aktinoph`, which is proved,
 //! and this package's own.
 
-#[path = "../common/mod.rs"]
-mod common;
-
 mod answers;
 mod bench;
 mod cuts;

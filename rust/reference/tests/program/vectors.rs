@@ -4,7 +4,7 @@
 use std::collections::BTreeSet;
 
 use crate::bench::{empty, line, on_both, Bench, FIT, TAKE_BACK};
-use crate::common::vectors::{bytes, bytes_after, lines};
+use testing::vectors::{bytes, bytes_after, lines};
 
 /// Runs a call over the bench's files and compares its line. A file that is
 /// longer than the program takes gives another.
