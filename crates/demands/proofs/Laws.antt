@@ -1,6 +1,7 @@
 -- The laws of the definitions in specs/.
 pub mod First
 pub mod Rules
+pub mod Relocations
 pub mod Told
 pub mod Images
 pub mod Laid

@@ -4,29 +4,40 @@ use mathlib.Core.Logic.{_⊎_}
 use mathlib.Core.Path.{_≡_}
 use mathlib.Core.Bool.{true, false}
 use mathlib.Core.List.{List}
-use Prim.Native.Nat.{ℕ, suc, _+_, _*_, _%_, _^_, _≤_, _<_}
+use Prim.Native.Nat.{ℕ, suc, _+_, _*_, _/_, _%_, _^_, _≤_, _<_}
 use lib.ListN.{length, getD}
+use lib.IntN.{natAbs}
 use Rattle.word.specs.Bytes.{leAt}
+use Rattle.word.specs.Whole.{within, even}
+use Rattle.word.specs.Powers.{ceilPower}
+use Rattle.fields.specs.declared.Field.{Field}
+use Rattle.riscv.specs.declared.forms.Form.{Form}
+use Rattle.riscv.specs.Forms.{hasForm}
+use Rattle.types.specs.declared.Calculation.{Calculation}
+use Rattle.types.specs.declared.Decision.the-variants.{Align, Store}
 use Rattle.elf.specs.Headers.{sectionTable, sectionCount}
 use Rattle.elf.specs.Sections.{sectionAt, allocated, symbolTable}
 use Rattle.elf.specs.Entries.{symbolAt, symbolCount, relocationCount, locationOf}
 use Rattle.header.specs.Headers.{maxObject, maxSections}
 use Rattle.validate.specs.Sound.{SoundSection}
 use Rattle.order.specs.Orders.{maxPlacements, maxExternals, base, placementCount, placement, externalsStart, externalCount, external}
-use Rattle.lookup.specs.Values.{externalValue}
 use Rattle.order.specs.Windows.{maxImage}
+use Rattle.lookup.specs.Values.{externalValue}
 use Rattle.lookup.specs.Addresses.{addresses, placedAt}
-use Rattle.journal.specs.Journals.{maxEntries, oldAt, count, held, Sound}
+use Rattle.journal.specs.Journals.{maxEntries, oldAt, count as countOf, held, Sound}
 use Rattle.journal.specs.Plans.{spanOf}
 use Rattle.undo.specs.Calls.{Files}
 use Rattle.place.specs.Placements.{isGiven, isAllocated}
 use Rattle.placing.specs.Placing.{endOf, unit, hasBytes}
+use Rattle.symbols.specs.declared.SymbolValue.{SymbolValue}
 use Rattle.rela.specs.declared.sites.Site.{Site}
-use Rattle.rela.specs.Sites.{siteAt, effect, offset, A, P}
-use Rattle.rela.specs.Effects.{isRefused}
-use Rattle.rela.specs.Shape.{neverFalls, staysInside, noOverlap, addendWell}
+use Rattle.rela.specs.declared.shape.Previous.the-variants.{Entry}
+use Rattle.rela.specs.Sites.{siteAt, count, entry, effect, offset, A, P, found}
+use Rattle.rela.specs.Effects.{isStore, isRefused, stackWidth, needsPair}
+use Rattle.rela.specs.Shape.{end, previous}
 use Rattle.rules.specs.Values.{valueAt, S, T}
-use Rattle.rules.specs.Rules.{symbolWell, formWell, pairWell, distanceWell, boundaryWell}
+use Rattle.rules.specs.Pairs.{isPair, howMany}
+use Rattle.rules.specs.Rules.{isResolved, symbol, isData, distanceWell}
 use Rattle.fitter.specs.Judgement.{planOf}
 
 -- ---- 1 "ledger unsound": `Sound` of the journal
@@ -112,54 +123,100 @@ pub record PlacedWell (object a : List ℕ) (start len i : ℕ) : Type 0 where
 abbrev pub PlacedIfAllocated : List ℕ → List ℕ → ℕ → ℕ → Type 0
 PlacedIfAllocated object order len i = allocated (sectionAt object i) ≡ true → PlacedWell object (addresses order) (base order) len i
 
--- ---- 9 to 14, of relocation j of a site; each test is a sentence of document 01
+-- ---- 9 "type, offset, overlap, addend rule", of relocation j of a site
 
--- 9 "type, offset, overlap, addend rule"
+-- "both are of 33..40, 52..56 with equal offset and width (SUB6 and SET6 have a width of their own)"
+pub record SharePlace (object : List ℕ) (x : Site) (i j : ℕ) : Type 0 where
+  pub same-offset : offset object x i ≡ offset object x j
+  pub stacked : 0 < stackWidth (effect object x i)
+  pub same-width : stackWidth (effect object x i) ≡ stackWidth (effect object x j)
+
+-- ALIGN: "A even, 0 to 4,094, offset + A inside the row"
+pub record PaddingWell (object : List ℕ) (x : Site) (j : ℕ) : Type 0 where
+  pub in-range : within 0 4094 (A object x j) ≡ true
+  pub is-even : even (A object x j) ≡ true
+  pub inside : offset object x j + natAbs (A object x j) ≤ x .target .size
+
 pub record ShapeWell (object : List ℕ) (x : Site) (j : ℕ) : Type 0 where
+  -- "all others | refused"
   pub known : isRefused (effect object x j) ≡ false
-  pub rising : neverFalls object x j ≡ true
-  pub inside : staysInside object x j ≡ true
-  pub clear : noOverlap object x j ≡ true
-  pub addend : addendWell (effect object x j) (offset object x j) (x .target .size) (A object x j) ≡ true
+  -- "Record offsets never fall."
+  pub rising : (i : ℕ) → suc i ≡ j → offset object x i ≤ offset object x j
+  -- "The bytes touched lie in the row; a marker's offset is at most the row size."
+  pub inside : end object x j ≤ x .target .size
+  -- "A non-marker starts at or after the end of the previous non-marker, or" shares its place
+  pub clear : isStore (effect object x j) ≡ true → (i : ℕ) → previous object x j ≡ Entry i → (end object x i ≤ offset object x j) ⊎ SharePlace object x i j
+  -- the addend rules of 43, and of 24 and 25: "A must be 0"
+  pub padding : effect object x j ≡ Align → PaddingWell object x j
+  pub no-addend : needsPair (effect object x j) ≡ true → natAbs (A object x j) ≡ 0
+
+-- ---- 10 "symbol does not resolve (24, 25: or is not in the target row)", for S
+
+pub record SymbolWell (object : List ℕ) (x : Site) (j : ℕ) (value : SymbolValue) : Type 0 where
+  -- "Markers skip 10."
+  pub resolves : isStore (effect object x j) ≡ true → isResolved value ≡ true
+  -- "A PCREL_LO12 symbol is above 0 and defined in the record's own target row"
+  pub above : needsPair (effect object x j) ≡ true → 0 < entry object x j .symbol
+  pub in-target : needsPair (effect object x j) ≡ true → symbol object x j .section ≡ x .index
+
+-- ---- 11 "instruction form": "at an even address, as found in the object"; data may be anything anywhere
+
+abbrev pub FormWell : List ℕ → Site → ℕ → Type 0
+FormWell object x j =
+    (c : Calculation) (f : Field) (form : Form) (n : ℕ) → effect object x j ≡ Store c f form n → isData form ≡ false
+    → (P object x j % 2 ≡ 0) × (hasForm form (leAt n (found object x) (offset object x j)) (leAt n (found object x) (offset object x j) / 2 ^ 32) ≡ true)
+
+-- ---- 12 "not exactly one partner": "There must be exactly one PCREL_HI20 record whose offset equals that value, among the same RELA row's
+-- records."
+
+abbrev pub PairWell : List ℕ → Site → ℕ → Type 0
+PairWell object x j = needsPair (effect object x j) ≡ true → howMany (isPair object x (symbol object x j .value)) (count x) ≡ 1
+
+-- ---- 13 "distance odd or too far", for T: `reachesWell` of `rules` has a line for each calculation
+
+abbrev pub ReachWell : List ℕ → Site → ℕ → ℕ → Type 0
+ReachWell object x j t = distanceWell (effect object x j) t (P object x j) ≡ true
+
+-- ---- 14 "padding not on its boundary": "P + A a multiple of the smallest power of two at least A + 2"
+
+abbrev pub BoundaryWell : List ℕ → Site → ℕ → Type 0
+BoundaryWell object x j = effect object x j ≡ Align → (P object x j + natAbs (A object x j)) % ceilPower 32 (natAbs (A object x j) + 2) ≡ 0
+
+-- ---- 9 to 14 of relocation k, "counted from 0 over all"
 
 module _ (object order : List ℕ) where
-  -- relocation k, "counted from 0 over all": its site, and its number there
+  -- its site, and its number there
   abbrev pub site : ℕ → Site
   site k = siteAt object (addresses order) (locationOf object k .section)
 
   abbrev pub entryOf : ℕ → ℕ
   entryOf k = locationOf object k .entry
 
+  abbrev pub valueOf : ℕ → SymbolValue
+  valueOf k = valueAt object order (addresses order) (site k) (entryOf k)
+
   abbrev pub Shape : ℕ → Type 0
   Shape k = ShapeWell object (site k) (entryOf k)
 
-  -- 10 "symbol does not resolve (24, 25: or is not in the target row)"
   abbrev pub SymbolResolves : ℕ → Type 0
-  SymbolResolves k = symbolWell object (site k) (entryOf k) (valueAt object order (addresses order) (site k) (entryOf k)) ≡ true
+  SymbolResolves k = SymbolWell object (site k) (entryOf k) (valueOf k)
 
-  -- 11 "instruction form"
   abbrev pub FormIs : ℕ → Type 0
-  FormIs k = formWell object (site k) (entryOf k) ≡ true
+  FormIs k = FormWell object (site k) (entryOf k)
 
-  -- 12 "not exactly one partner"
   abbrev pub OnePair : ℕ → Type 0
-  OnePair k = pairWell object (site k) (entryOf k) ≡ true
+  OnePair k = PairWell object (site k) (entryOf k)
 
-  -- 13 "distance odd or too far"
   abbrev pub Reaches : ℕ → Type 0
-  Reaches k =
-      distanceWell (effect object (site k) (entryOf k)) (T (S (valueAt object order (addresses order) (site k) (entryOf k))) (A object (site k) (entryOf k)))
-      (P object (site k) (entryOf k))
-      ≡ true
+  Reaches k = ReachWell object (site k) (entryOf k) (T (S (valueOf k)) (A object (site k) (entryOf k)))
 
-  -- 14 "padding not on its boundary"
   abbrev pub OnBoundary : ℕ → Type 0
-  OnBoundary k = boundaryWell (effect object (site k) (entryOf k)) (P object (site k) (entryOf k)) (A object (site k) (entryOf k)) ≡ true
+  OnBoundary k = BoundaryWell object (site k) (entryOf k)
 
 -- ---- 15 "n is 16, or 136 + k + span above ledger length"
 
 pub record Room (object order journal : List ℕ) : Type 0 where
-  pub entry-free : count journal ≡ maxEntries → ⊥
+  pub entry-free : countOf journal ≡ maxEntries → ⊥
   pub bytes-free : oldAt + held journal + spanOf (planOf object order) .size ≤ length journal
 
 -- ---- all of them

@@ -42,7 +42,8 @@ use Rattle.fitter.specs.Judgement.{planOf}
 use Rattle.fitter.specs.Facts.{Fitting}
 use Rattle.fitter.proofs.Laws.Laying.{is-sound, is-placed}
 use Rattle.demands.specs.Laid.{start, sectionIn, Covers, siteOf, Untouched, bytesAt, target, Laid}
-use Rattle.demands.proofs.Laws.Rules.{clash, shape-well}
+use Rattle.demands.proofs.Laws.Rules.{clash}
+use Rattle.demands.proofs.Laws.Relocations.{shape-well}
 use Rattle.demands.proofs.Laws.Images.{installed-length, installed-section, installed-others}
 
 -- a byte of a part
@@ -142,9 +143,9 @@ module _ (object order : List ℕ) (counts : Counts) (image : List ℕ) (fit : F
         let h = sectionAt object (sectionAt object i .info) in
         let there = is-sound object order counts (length image) fit .sections i h-there .rela c .target-loaded in
         let empty : ltb 0 (h .size) ≡ false = rw there at e in
-        let inside : leb (end object x j) (h .size) ≡ true = shape-well object x j (kept-rules object order a x j (is-checked .kept j l) .shape) .inside in
+        let inside : end object x j ≤ h .size = shape-well object x j (kept-rules object order a x j (is-checked .kept j l) .shape) .inside in
         let touches-n : touched (effect object x j) ≡ n = ap touched p in
-        omega (arith, width-some n (store-width (entry object x j .kind) k f form n p), leb-true (end object x j) (h .size) inside, ltb-false 0 (h .size) empty)
+        omega (arith, width-some n (store-width (entry object x j .kind) k f form n p), inside, ltb-false 0 (h .size) empty)
     no-store j l e Marker p s = clash false refl s
     no-store j l e Align p s = clash false refl s
     no-store j l e Refused p s = clash false refl s

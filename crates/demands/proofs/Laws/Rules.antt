@@ -24,23 +24,20 @@ use Rattle.place.specs.declared.Fault.the-variants.{Nowhere, At}
 use Rattle.place.specs.Placements.{lowest, isGiven, isAllocated, differs}
 use Rattle.place.specs.Externals.{isUndefined}
 use Rattle.placing.specs.Placing.{endOf, aligned, endsInMemory, hasBytes, inWindow, share, apart, misplaced}
-use Rattle.rela.specs.declared.sites.Site.{Site}
-use Rattle.rela.specs.Sites.{effect, A}
-use Rattle.rela.specs.Effects.{isRefused}
-use Rattle.rela.specs.Shape.{shapeWell}
+use Rattle.rela.specs.Sites.{A}
 use Rattle.fitter.specs.Judgement.{planOf}
-use Rattle.demands.specs.Rules.{OrderWell, WindowWell, HeaderWell, TableWell, PlacedAsAllocated, Undefined, ValuedIfUndefined, PlacedWell, ShapeWell, Room}
+use Rattle.demands.specs.Rules.{OrderWell, WindowWell, HeaderWell, TableWell, PlacedAsAllocated, Undefined, ValuedIfUndefined, PlacedWell, Room}
 
 -- ---- tests
 
-both : (a b : Bool) → a ≡ true → b ≡ true → a && b ≡ true
+pub both : (a b : Bool) → a ≡ true → b ≡ true → a && b ≡ true
 both a b p q = rw (p, q)
 
-given : (a b : Bool) → (not a || b) ≡ true → a ≡ true → b ≡ true
+pub given : (a b : Bool) → (not a || b) ≡ true → a ≡ true → b ≡ true
 given true b e h = e
 given false b e h = cc
 
-implied : (a b : Bool) → (a ≡ true → b ≡ true) → (not a || b) ≡ true
+pub implied : (a b : Bool) → (a ≡ true → b ≡ true) → (not a || b) ≡ true
 implied true b h = h refl
 implied false b h = refl
 
@@ -291,24 +288,6 @@ module _ (object a : List ℕ) (start len i : ℕ) where
   pub placed-wrong : misplaced object a start len i ≡ true → (allocated (sectionAt object i) ≡ true → PlacedWell object a start len i) → ⊥
   unfolding misplaced
   placed-wrong e w = clash keeps (wrong-right (allocated (sectionAt object i)) keeps e) (keeps-placed (w (wrong-left (allocated (sectionAt object i)) keeps e)))
-
--- ---- 9
-
-pub shape-well : (object : List ℕ) (x : Site) (j : ℕ) → shapeWell object x j ≡ true → ShapeWell object x j
-unfolding shapeWell
-shape-well object x j e =
-    let known : not (isRefused (effect object x j)) ≡ true = search (and-left, and-right) in
-    record {
-      known = not-true _ known;
-      rising = search (and-left, and-right);
-      inside = search (and-left, and-right);
-      clear = search (and-left, and-right);
-      addend = search (and-left, and-right);
-    }
-
-pub well-shape : (object : List ℕ) (x : Site) (j : ℕ) → ShapeWell object x j → shapeWell object x j ≡ true
-unfolding shapeWell
-well-shape object x j s = both _ _ (both _ _ (both _ _ (both _ _ (ap not (s .known)) (s .rising)) (s .inside)) (s .clear)) (s .addend)
 
 -- ---- 15
 

@@ -49,7 +49,8 @@ use Rattle.fitter.specs.Judgement.{afterObject, afterFault, afterRelocations, p
 use Rattle.demands.specs.Rules.{OrderWell, WindowWell, HeaderWell, TableWell, PlacedAsAllocated, ValuedIfUndefined, PlacedIfAllocated, site, entryOf, Shape, SymbolResolves, FormIs, OnePair, Reaches, OnBoundary, Room}
 use Rattle.demands.specs.First.{Line, nil, rule, Checks, none, check, HoldAt, BrokenAt, one, each, table}
 use Rattle.demands.proofs.Laws.First.{Told, later, at-once, at-each, broken-once, broken-at}
-use Rattle.demands.proofs.Laws.Rules.{clash, lowest-found, order-well, well-order, window-well, well-window, header-well, well-header, table-well, well-table, matches, no-match, valued, not-valued, placed-well, placed-wrong, shape-well, well-shape, has-room, room-left}
+use Rattle.demands.proofs.Laws.Rules.{clash, lowest-found, order-well, well-order, window-well, well-window, header-well, well-header, table-well, well-table, matches, no-match, valued, not-valued, placed-well, placed-wrong, has-room, room-left}
+use Rattle.demands.proofs.Laws.Relocations.{shape-well, well-shape, symbol-well, well-symbol, form-well, well-form, pair-well, well-pair, boundary-well, well-boundary}
 
 -- ---- checks 9 to 14 of relocation k
 
@@ -96,12 +97,19 @@ module _ (object order : List ℕ) where
           → (q : Bool) → distanceWell d t (P object x j) ≡ q → (r : Bool) → boundaryWell d (P object x j) (A object x j) ≡ r
           → Means k (cond a (cond b (cond c (cond p (cond q (cond r Kept OffBoundary) OutOfReach) NoPair) BadForm) BadSymbol) BadShape)
       go false e₁ b e₂ c e₃ p e₄ q e₅ r e₆ = inl (refl, λ s. clash _ e₁ (well-shape object x j s))
-      go true e₁ false e₂ c e₃ p e₄ q e₅ r e₆ = inr (shape-well object x j e₁, inl (refl, λ s. clash _ e₂ s))
-      go true e₁ true e₂ false e₃ p e₄ q e₅ r e₆ = inr (shape-well object x j e₁, inr (e₂, inl (refl, λ s. clash _ e₃ s)))
-      go true e₁ true e₂ true e₃ false e₄ q e₅ r e₆ = inr (shape-well object x j e₁, inr (e₂, inr (e₃, inl (refl, λ s. clash _ e₄ s))))
-      go true e₁ true e₂ true e₃ true e₄ false e₅ r e₆ = inr (shape-well object x j e₁, inr (e₂, inr (e₃, inr (e₄, inl (refl, λ s. clash _ e₅ s)))))
-      go true e₁ true e₂ true e₃ true e₄ true e₅ false e₆ = inr (shape-well object x j e₁, inr (e₂, inr (e₃, inr (e₄, inr (e₅, inl (refl, λ s. clash _ e₆ s))))))
-      go true e₁ true e₂ true e₃ true e₄ true e₅ true e₆ = (shape-well object x j e₁, (e₂, (e₃, (e₄, (e₅, (e₆, tt))))))
+      go true e₁ false e₂ c e₃ p e₄ q e₅ r e₆ = inr (shape-well object x j e₁, inl (refl, λ s. clash _ e₂ (well-symbol object x j v s)))
+      go true e₁ true e₂ false e₃ p e₄ q e₅ r e₆ = inr (shape-well object x j e₁, inr (symbol-well object x j v e₂, inl (refl, λ s. clash _ e₃ (well-form object x j s))))
+      go true e₁ true e₂ true e₃ false e₄ q e₅ r e₆ =
+          inr (shape-well object x j e₁, inr (symbol-well object x j v e₂, inr (form-well object x j e₃, inl (refl, λ s. clash _ e₄ (well-pair object x j s)))))
+      go true e₁ true e₂ true e₃ true e₄ false e₅ r e₆ =
+          inr (shape-well object x j e₁, inr (symbol-well object x j v e₂, inr (form-well object x j e₃, inr (pair-well object x j e₄, inl (refl, λ s. clash _ e₅ s)))))
+      go true e₁ true e₂ true e₃ true e₄ true e₅ false e₆ =
+          inr (
+            shape-well object x j e₁,
+            inr (symbol-well object x j v e₂, inr (form-well object x j e₃, inr (pair-well object x j e₄, inr (e₅, inl (refl, λ s. clash _ e₆ (well-boundary object x j s)))))),
+          )
+      go true e₁ true e₂ true e₃ true e₄ true e₅ true e₆ =
+          (shape-well object x j e₁, (symbol-well object x j v e₂, (form-well object x j e₃, (pair-well object x j e₄, (e₅, (boundary-well object x j e₆, tt))))))
 
   kept-holds : (k : ℕ) (f : Finding) → isBroken f ≡ false → Means k f → HoldAt line k
   kept-holds k Kept e m = m

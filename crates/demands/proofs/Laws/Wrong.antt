@@ -43,12 +43,13 @@ use Rattle.patch.specs.Promises.{ReadsBack}
 use Rattle.spans.specs.Pieces.{pieces}
 use Rattle.fitter.specs.Judgement.{planOf}
 use Rattle.rela.proofs.Laws.Widths.{never}
-use Rattle.demands.specs.Rules.{Rules, OrderWell, WindowWell, HeaderWell, TableWell, PlacedAsAllocated, ValuedIfUndefined, PlacedIfAllocated, site, entryOf, Shape, SymbolResolves, FormIs, OnePair, Reaches, OnBoundary, Room}
+use Rattle.demands.specs.Rules.{Rules, OrderWell, WindowWell, HeaderWell, TableWell, PlacedAsAllocated, ValuedIfUndefined, PlacedIfAllocated, site, entryOf, valueOf, Shape, SymbolResolves, FormIs, OnePair, Reaches, OnBoundary, Room}
 use Rattle.demands.specs.First.{FirstBroken, table as table-of}
 use Rattle.demands.specs.Laid.{sectionIn}
 use Rattle.demands.proofs.Laws.First.{at-once, at-each}
 use Rattle.demands.specs.Demands.{Fit, Demand2}
-use Rattle.demands.proofs.Laws.Rules.{order-well, window-well, header-well, table-well, placed-well, shape-well, has-room}
+use Rattle.demands.proofs.Laws.Rules.{order-well, window-well, header-well, table-well, placed-well, has-room}
+use Rattle.demands.proofs.Laws.Relocations.{shape-well, symbol-well, form-well, pair-well, boundary-well}
 
 -- ---- an install that can be done: a section of four bytes with one relocation of type 1, whose T is 0x12345678
 
@@ -142,15 +143,15 @@ shape-is = shape-well object (site object order 0) (entryOf object order 0) refl
 
 symbol-is : SymbolResolves object order 0
 unfolding object order words bytes leAt le sum relocationsIn locationOf countingRela targets sectionAt allocated siteAt relocationAt decision table lookup among symbolWell symbolValue first addresses tabulate placedAt valueIn entryAt
-symbol-is = refl
+symbol-is = symbol-well object (site object order 0) (entryOf object order 0) (valueOf object order 0) refl
 
 form-is : FormIs object order 0
 unfolding object order words bytes leAt le sum relocationsIn locationOf countingRela targets sectionAt allocated siteAt relocationAt decision table lookup among formWell standsWell first addresses tabulate placedAt valueIn entryAt
-form-is = refl
+form-is = form-well object (site object order 0) (entryOf object order 0) refl
 
 pair-is : OnePair object order 0
 unfolding object order words bytes leAt le sum relocationsIn locationOf countingRela targets sectionAt allocated siteAt relocationAt decision table lookup among pairWell first addresses tabulate placedAt valueIn entryAt
-pair-is = refl
+pair-is = pair-well object (site object order 0) (entryOf object order 0) refl
 
 reach-is : Reaches object order 0
 unfolding object order words bytes leAt le sum relocationsIn locationOf countingRela targets sectionAt allocated siteAt relocationAt decision table lookup among first addresses tabulate placedAt valueIn entryAt
@@ -158,7 +159,7 @@ reach-is = refl
 
 boundary-is : OnBoundary object order 0
 unfolding object order words bytes leAt le sum relocationsIn locationOf countingRela targets sectionAt allocated siteAt relocationAt decision table lookup among first addresses tabulate placedAt valueIn entryAt
-boundary-is = refl
+boundary-is = boundary-well object (site object order 0) (entryOf object order 0) refl
 
 room-is : Room object order (files .journal)
 unfolding object order files words bytes leAt le noRoom spanOf end lowest planOf pieces hasBytes loaded sectionAt allocated relocated relaOf first countingRela targets siteAt after applied relocationAt decision table lookup among addresses tabulate placedAt valueIn entryAt part bytesOf patched
