@@ -8,6 +8,7 @@ use native.Mathlib.Omega.{arith}
 use lib.ListN.{length}
 use lib.Dec.{leb, eqb}
 use borrow.Author.Tests.{leb-true, le-leb, eqb-true, eqb-false}
+use Rattle.word.proofs.Laws.Tests.{clash}
 use Rattle.order.specs.Orders.{base, wellFormed}
 use Rattle.order.specs.Windows.{lengthAllowed, windowAllowed}
 use Rattle.lookup.specs.Addresses.{addresses}
@@ -38,7 +39,6 @@ use Rattle.demands.specs.First.{nil, rule, Checks, none, one, HoldBelow,
 use Rattle.demands.specs.Laid.{Laid}
 use Rattle.demands.specs.Demands.{Fit, TakeBack, backTable, Demand1, Demand2}
 use Rattle.demands.proofs.Laws.First.{none-broken, one-first, AllAbove, above, Told, later, at-once, broken-once}
-use Rattle.demands.proofs.Laws.Rules.{clash}
 use Rattle.demands.proofs.Laws.Told.{told}
 use Rattle.demands.proofs.Laws.Laid.{laid-well}
 

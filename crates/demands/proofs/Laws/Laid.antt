@@ -10,7 +10,7 @@ use lib.Dec.{leb, ltb, eqb}
 use lib.Seq.{getD-drop, getD-take}
 use borrow.Author.Tests.{leb-true, ltb-true, ltb-false, eqb-true, eq-eqb}
 use Rattle.word.specs.Bytes.{part}
-use Rattle.word.proofs.Laws.Tests.{and-left, and-right}
+use Rattle.word.proofs.Laws.Tests.{and-left, and-right, clash}
 use Rattle.word.proofs.Laws.First.{first-is, everywhere-is}
 use Rattle.word.proofs.Laws.Whole.{residue-lt}
 use Rattle.elf.specs.Headers.{sectionCount}
@@ -42,7 +42,6 @@ use Rattle.fitter.specs.Judgement.{planOf}
 use Rattle.fitter.specs.Facts.{Fitting}
 use Rattle.fitter.proofs.Laws.Laying.{is-sound, is-placed}
 use Rattle.demands.specs.Laid.{start, sectionIn, Covers, siteOf, Untouched, bytesAt, target, Laid}
-use Rattle.demands.proofs.Laws.Rules.{clash}
 use Rattle.demands.proofs.Laws.Relocations.{shape-well}
 use Rattle.demands.proofs.Laws.Images.{installed-length, installed-section, installed-others}
 

@@ -10,7 +10,7 @@ use lib.IntN.{natAbs}
 use borrow.Author.Tests.{leb-true, ltb-true, eqb-true, le-leb, lt-ltb, eq-eqb, not-true}
 use Rattle.word.specs.Bytes.{leAt}
 use Rattle.word.specs.Powers.{ceilPower}
-use Rattle.word.proofs.Laws.Tests.{and-left, and-right}
+use Rattle.word.proofs.Laws.Tests.{and-left, and-right, never, both, one-of-two, or-two, given, implied}
 use Rattle.fields.specs.declared.Field.{Field}
 use Rattle.riscv.specs.declared.forms.Form.{Form}
 use Rattle.riscv.specs.Forms.{hasForm}
@@ -24,21 +24,10 @@ use Rattle.rela.specs.declared.shape.Previous.the-variants.{Nothing, Entry}
 use Rattle.rela.specs.Sites.{entry, effect, offset, A, P, found}
 use Rattle.rela.specs.Effects.{isStore, isRefused, takesPair, needsPair}
 use Rattle.rela.specs.Shape.{neverFalls, end, staysInside, previous, sharesPlace, clears, noOverlap, addendWell, shapeWell}
-use Rattle.rela.proofs.Laws.Widths.{never}
 use Rattle.rules.specs.Pairs.{pairOf}
 use Rattle.rules.specs.declared.pairs.Pair.the-variants.{At, NotOne}
 use Rattle.rules.specs.Rules.{isResolved, symbol, inTarget, symbolWell, isData, standsWell, asksWell, formWell, isOne, pairWell, boundaryWell}
 use Rattle.demands.specs.Rules.{SharePlace, PaddingWell, ShapeWell, SymbolWell, FormWell, PairWell, BoundaryWell}
-use Rattle.demands.proofs.Laws.Rules.{both, given, implied}
-
-either-of : (a b : Bool) → (a || b) ≡ true → (a ≡ true) ⊎ (b ≡ true)
-either-of true b e = inl refl
-either-of false b e = inr e
-
-or-of : (a b : Bool) → (a ≡ true) ⊎ (b ≡ true) → (a || b) ≡ true
-or-of true b h = refl
-or-of false b (inl e) = never e
-or-of false b (inr e) = e
 
 -- 24 and 25 are no markers
 needs-store : (d : Decision) → needsPair d ≡ true → isStore d ≡ true
@@ -78,7 +67,7 @@ module _ (object : List ℕ) (x : Site) where
   unfolding noOverlap
   cleared j e s i p =
       let clear : clears object x j (Entry i) ≡ true = ap (clears object x j) (sym p) ∙ given (isStore (effect object x j)) (clears object x j (previous object x j)) e s in
-      ⊎-elim (λ a. inl (leb-true _ _ a)) (λ a. inr (shares i j a)) (either-of (leb (end object x i) (offset object x j)) (sharesPlace object x i j) clear)
+      ⊎-elim (λ a. inl (leb-true _ _ a)) (λ a. inr (shares i j a)) (one-of-two (leb (end object x i) (offset object x j)) (sharesPlace object x i j) clear)
 
   clear-back : (j : ℕ) → (isStore (effect object x j) ≡ true → (i : ℕ) → previous object x j ≡ Entry i → (end object x i ≤ offset object x j) ⊎ SharePlace object x i j)
       → noOverlap object x j ≡ true
@@ -88,7 +77,7 @@ module _ (object : List ℕ) (x : Site) where
       go : isStore (effect object x j) ≡ true → (p : Previous) → previous object x j ≡ p → clears object x j p ≡ true
       go s Nothing e = refl
       go s (Entry i) e =
-          or-of (leb (end object x i) (offset object x j)) (sharesPlace object x i j)
+          or-two (leb (end object x i) (offset object x j)) (sharesPlace object x i j)
           (⊎-elim (λ a. inl (le-leb _ _ a)) (λ a. inr (shares-back i j a)) (h s i e))
 
   abbrev addendIs : Decision → ℕ → Bool

@@ -9,7 +9,7 @@ use lib.ListN.{length, getD}
 use lib.Dec.{leb, ltb, eqb}
 use borrow.Author.Tests.{leb-true, ltb-true, ltb-false, eqb-true, eqb-false, le-leb, eq-eqb, ne-eqb, lt-ltb, le-ltb, not-true}
 use Rattle.word.specs.First.{first}
-use Rattle.word.proofs.Laws.Tests.{and-left, and-right, neither-left, neither-right}
+use Rattle.word.proofs.Laws.Tests.{and-left, and-right, neither-left, neither-right, clash, both, given, implied, implies, same-tests}
 use Rattle.word.proofs.Laws.First.{first-below, first-at, everywhere-at, everywhere-is}
 use Rattle.elf.specs.Sections.{sectionAt, allocated}
 use Rattle.header.specs.Headers.{headerAllowed, tableAllowed}
@@ -27,25 +27,6 @@ use Rattle.placing.specs.Placing.{endOf, aligned, endsInMemory, hasBytes, inWin
 use Rattle.rela.specs.Sites.{A}
 use Rattle.fitter.specs.Judgement.{planOf}
 use Rattle.demands.specs.Rules.{OrderWell, WindowWell, HeaderWell, TableWell, PlacedAsAllocated, Undefined, ValuedIfUndefined, PlacedWell, Room}
-
--- ---- tests
-
-pub both : (a b : Bool) → a ≡ true → b ≡ true → a && b ≡ true
-both a b p q = rw (p, q)
-
-pub given : (a b : Bool) → (not a || b) ≡ true → a ≡ true → b ≡ true
-given true b e h = e
-given false b e h = cc
-
-pub implied : (a b : Bool) → (a ≡ true → b ≡ true) → (not a || b) ≡ true
-implied true b h = h refl
-implied false b h = refl
-
-pub clash : {R : Type 0} (b : Bool) → b ≡ false → b ≡ true → R
-clash b p q =
-    let z : _≡_ {A = Bool} false true = sym p ∙ q in
-    let one : _≡_ {A = ℕ} 0 1 = ap (λ t. cond t 1 0) z in
-    absurd (omega arith)
 
 -- ---- the lowest place at which a test says broken
 
@@ -157,12 +138,6 @@ well-table s t = both _ _ (both _ _ (both _ _ (eq-eqb _ _ (t .entry-size)) (le-l
 
 -- ---- 6
 
-same : (g a : Bool) → ((g && not a) || (a && not g)) ≡ false → g ≡ a
-same true true e = refl
-same false false e = refl
-same true false e = cc
-same false true e = cc
-
 no-difference : (g a : Bool) → g ≡ a → ((g && not a) || (a && not g)) ≡ false
 no-difference true true e = refl
 no-difference false false e = refl
@@ -171,7 +146,7 @@ no-difference false true e = sym e
 
 pub matches : (object order : List ℕ) (i : ℕ) → differs object order i ≡ false → PlacedAsAllocated object order i
 unfolding differs
-matches object order i e = same _ _ e
+matches object order i e = same-tests _ _ e
 
 pub no-match : (object order : List ℕ) (i : ℕ) → differs object order i ≡ true → PlacedAsAllocated object order i → ⊥
 unfolding differs
@@ -191,11 +166,6 @@ undefined object k e =
 undefined-back : (object : List ℕ) (k : ℕ) → Undefined object k → isUndefined object k ≡ true
 unfolding isUndefined
 undefined-back object k u = both _ _ (both _ _ (lt-ltb _ _ (u .above)) (lt-ltb _ _ (u .there))) (eq-eqb _ _ (u .no-section))
-
-implies : (a b : Bool) → (a && not b) ≡ false → a ≡ true → b ≡ true
-implies true true e h = refl
-implies true false e h = cc
-implies false b e h = cc
 
 wrong-left : (a b : Bool) → (a && not b) ≡ true → a ≡ true
 wrong-left a b e = and-left a (not b) e

@@ -8,6 +8,7 @@ use native.Mathlib.Omega.{arith}
 use lib.ListN.{length}
 use lib.Dec.{ltb}
 use borrow.Author.Tests.{ltb-true, ltb-false, not-true, not-false}
+use Rattle.word.proofs.Laws.Tests.{never, clash}
 use Rattle.word.specs.First.{first}
 use Rattle.word.proofs.Laws.First.{first-below, first-at}
 use Rattle.elf.specs.Headers.{sectionCount}
@@ -36,7 +37,6 @@ use Rattle.place.proofs.Laws.Theorems.{nowhere-holds}
 use Rattle.symbols.specs.declared.SymbolValue.{SymbolValue}
 use Rattle.types.specs.declared.Decision.{Decision}
 use Rattle.rela.specs.declared.sites.Site.{Site}
-use Rattle.rela.proofs.Laws.Widths.{never}
 use Rattle.rela.specs.Shape.{shapeWell}
 use Rattle.rela.specs.Sites.{effect, A, P}
 use Rattle.relocate.specs.declared.search.Finding.{Finding}
@@ -49,7 +49,7 @@ use Rattle.fitter.specs.Judgement.{afterObject, afterFault, afterRelocations, p
 use Rattle.demands.specs.Rules.{OrderWell, WindowWell, HeaderWell, TableWell, PlacedAsAllocated, ValuedIfUndefined, PlacedIfAllocated, site, entryOf, Shape, SymbolResolves, FormIs, OnePair, Reaches, OnBoundary, Room}
 use Rattle.demands.specs.First.{Line, nil, rule, Checks, none, check, HoldAt, BrokenAt, one, each, table}
 use Rattle.demands.proofs.Laws.First.{Told, later, at-once, at-each, broken-once, broken-at}
-use Rattle.demands.proofs.Laws.Rules.{clash, lowest-found, order-well, well-order, window-well, well-window, header-well, well-header, table-well, well-table, matches, no-match, valued, not-valued, placed-well, placed-wrong, has-room, room-left}
+use Rattle.demands.proofs.Laws.Rules.{lowest-found, order-well, well-order, window-well, well-window, header-well, well-header, table-well, well-table, matches, no-match, valued, not-valued, placed-well, placed-wrong, has-room, room-left}
 use Rattle.demands.proofs.Laws.Relocations.{shape-well, well-shape, symbol-well, well-symbol, form-well, well-form, pair-well, well-pair, boundary-well, well-boundary}
 
 -- ---- checks 9 to 14 of relocation k

@@ -6,6 +6,7 @@ use Prim.Native.Nat.{ℕ, zero, suc, _+_, _-_, _<_}
 use native.Mathlib.Omega.{arith}
 use lib.ListN.{length, replicate}
 use borrow.Author.Tests.{ne-eqb, le-ltb}
+use Rattle.word.proofs.Laws.Tests.{never}
 use Rattle.word.specs.Bytes.{le, leAt, bytes, part}
 use Rattle.word.specs.First.{first, everywhere, tabulate}
 use Rattle.word.specs.Sums.{sum}
@@ -42,7 +43,6 @@ use Rattle.patch.specs.Sections.{relaOf, relocated, applied, after}
 use Rattle.patch.specs.Promises.{ReadsBack}
 use Rattle.spans.specs.Pieces.{pieces}
 use Rattle.fitter.specs.Judgement.{planOf}
-use Rattle.rela.proofs.Laws.Widths.{never}
 use Rattle.demands.specs.Rules.{Rules, OrderWell, WindowWell, HeaderWell, TableWell, PlacedAsAllocated, ValuedIfUndefined, PlacedIfAllocated, site, entryOf, valueOf, Shape, SymbolResolves, FormIs, OnePair, Reaches, OnBoundary, Room}
 use Rattle.demands.specs.First.{FirstBroken, table as table-of}
 use Rattle.demands.specs.Laid.{sectionIn}

@@ -6,6 +6,7 @@ use Prim.Native.Nat.{ℕ}
 use native.Mathlib.Omega.{arith}
 use lib.Dec.{ltb, eqb}
 use borrow.Author.Tests.{ltb-true}
+use Rattle.word.proofs.Laws.Tests.{never}
 use Rattle.word.specs.First.{first}
 use Rattle.word.proofs.Laws.First.{first-at}
 use Rattle.order.specs.declared.Counts.{Counts}
@@ -24,7 +25,6 @@ use Rattle.place.specs.declared.Fault.the-variants.{Nowhere, At}
 use Rattle.place.specs.Placements.{placementCheck}
 use Rattle.place.specs.Externals.{externalCheck}
 use Rattle.placing.specs.Placing.{placingCheck}
-use Rattle.rela.proofs.Laws.Widths.{never}
 use Rattle.relocate.specs.declared.search.Finding.{Finding}
 use Rattle.relocate.specs.declared.search.Finding.the-variants.{Kept, BadShape, BadSymbol, BadForm, NoPair, OutOfReach, OffBoundary}
 use Rattle.relocate.specs.declared.search.RelocationCheck.{RelocationCheck}

@@ -10,7 +10,7 @@ use lib.Dec.{ltb, eqb}
 use lib.Seq.{sets, sets-eq}
 use borrow.Rule.Slice.PartMut.{putMid, post-is}
 use borrow.Author.Tests.{leb-true, eqb-true, eqb-false, lt-ltb}
-use Rattle.word.proofs.Laws.Tests.{and-left}
+use Rattle.word.proofs.Laws.Tests.{and-left, never}
 use Rattle.word.proofs.Laws.Lists.{length-part}
 use Rattle.order.specs.declared.Counts.{Counts}
 use Rattle.order.specs.Orders.{base}
@@ -31,7 +31,6 @@ use Rattle.spans.proofs.Laws.Bounds.{highest-inside}
 use Rattle.spans.proofs.Laws.Laid.{span-of-pieces, from-base}
 use Rattle.rela.specs.Sites.{siteAt, count}
 use Rattle.rela.specs.Facts.{Placed}
-use Rattle.rela.proofs.Laws.Widths.{never}
 use Rattle.relocate.proofs.Laws.Sites.{placed}
 use Rattle.patch.specs.Sections.{relaOf, relocated}
 use Rattle.patch.proofs.Laws.Sections.{relocated-some, relocated-none, found-target}

@@ -1,6 +1,6 @@
 -- `fitter::refusal` meets its contract. Assumes nothing.
 use mathlib.Core.Path.{sym, ap, _∙_}
-use Rattle.rela.proofs.Laws.Widths.{never}
+use Rattle.word.proofs.Laws.Tests.{never}
 use Rattle.relocate.specs.Search.{isBroken}
 use borrow.Author.Needs.{needs}
 use Rattle.fitter.proofs.refusal.Statement.{statement}

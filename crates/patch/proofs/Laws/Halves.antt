@@ -9,7 +9,7 @@ use lib.IntN.{pos, _+ℤ_}
 use borrow.Author.Tests.{eqb-true}
 use Rattle.word.specs.Bytes.{leAt}
 use Rattle.word.specs.Whole.{residue, signed, minus}
-use Rattle.word.proofs.Laws.Tests.{and-left}
+use Rattle.word.proofs.Laws.Tests.{and-left, never}
 use Rattle.word.proofs.Laws.Whole.{residue-lt}
 use Rattle.fields.specs.declared.Field.{Field}
 use Rattle.fields.specs.declared.Field.the-variants.{U}
@@ -30,7 +30,6 @@ use Rattle.rules.specs.Values.{S, T, valueAt}
 use Rattle.rela.specs.Effects.{needsPair}
 use Rattle.rules.specs.Pairs.{PCREL_HI20, isPair, pairOf}
 use Rattle.rules.specs.Rules.{symbol, isOne, pairWell}
-use Rattle.rela.proofs.Laws.Widths.{never}
 use Rattle.rules.proofs.Laws.Pairs.{pair-there}
 use Rattle.relocate.proofs.Laws.Search.{kept-rules}
 use Rattle.patch.specs.Patches.{highPart}

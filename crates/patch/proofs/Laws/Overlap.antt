@@ -8,7 +8,7 @@ use native.Mathlib.Omega.{arith}
 use native.Mathlib.Decide.{decLt}
 use lib.Dec.{leb, ltb, eqb}
 use borrow.Author.Tests.{leb-true, ltb-true, eqb-true}
-use Rattle.word.proofs.Laws.Tests.{and-left, and-right}
+use Rattle.word.proofs.Laws.Tests.{and-left, and-right, never, one-of-two, given}
 use Rattle.fields.specs.declared.Width.{Width}
 use Rattle.fields.specs.declared.Width.the-variants.{W6, W8, W16, W32, W64}
 use Rattle.fields.specs.declared.Field.{Field}
@@ -25,7 +25,6 @@ use Rattle.rela.specs.Sites.{offset, effect}
 use Rattle.rela.specs.Effects.{isStore, touched, stacks, stackWidth}
 use Rattle.rela.specs.Shape.{end, neverFalls, previous, sharesPlace, clears, noOverlap, shapeWell}
 use Rattle.rela.specs.Facts.{isDataField}
-use Rattle.rela.proofs.Laws.Widths.{never}
 use Rattle.rela.proofs.Laws.Decisions.{fieldBytes, store-bytes, store-data}
 use Rattle.rela.proofs.Laws.Shape.{shape-rises, shape-clear}
 
@@ -68,10 +67,6 @@ stack-width c f h = go (stacks c) h
     go true l = (refl, refl)
     go false l = absurd (omega arith)
 
-implied : (a b : Bool) → (not a || b) ≡ true → a ≡ true → b ≡ true
-implied true b e h = e
-implied false b e h = never h
-
 -- what two relocations that share their place have in common
 pub same-stack : (s t : ℕ) (c e : Calculation) (f g : Field) (a b : Form) (m n : ℕ) → decision s ≡ Store c f a m → decision t ≡ Store e g b n
     → 0 < stackWidth (decision s) → stackWidth (decision s) ≡ stackWidth (decision t)
@@ -83,7 +78,7 @@ same-stack s t c e f g a b m n p q some same =
     let cs = stack-width c f left in
     let es = stack-width e g right in
     let field : f ≡ g =
-    same-field f g (implied (stacks c) (isDataField f) (store-data s c f a m p) (cs .0)) (implied (stacks e) (isDataField g) (store-data t e g b n q) (es .0))
+    same-field f g (given (stacks c) (isDataField f) (store-data s c f a m p) (cs .0)) (given (stacks e) (isDataField g) (store-data t e g b n q) (es .0))
     (sym (cs .1) ∙ equal ∙ es .1) in
     (cs .0, es .0, field, store-bytes s c f a m p ∙ ap fieldBytes field ∙ sym (store-bytes t e g b n q))
 
@@ -106,10 +101,6 @@ shares object x i j e =
       some = ltb-true _ _ (and-right a b (and-left (a && b) c e));
       width = eqb-true _ _ (and-right (a && b) c e);
     }
-
-either : (a b : Bool) → (a || b) ≡ true → (a ≡ true) ⊎ (b ≡ true)
-either true b e = inl refl
-either false b e = inr e
 
 -- the end of one that shares a place is the other's
 same-end : (object : List ℕ) (x : Site) (i j : ℕ) → Shares object x i j → isStore (effect object x i) ≡ true → isStore (effect object x j) ≡ true → end object x i ≡ end object x j
@@ -170,7 +161,7 @@ module _ (object : List ℕ) (x : Site) (n : ℕ) (kept : (j : ℕ) → j < n �
   direct j k l s e =
       let clear : not (isStore (effect object x j)) || clears object x j (previous object x j) ≡ true = shape-clear object x j (kept j l) in
       let here : leb (end object x k) (offset object x j) || sharesPlace object x k j ≡ true = rw (s, e) at clear in
-      ⊎-elim (λ a. inl (leb-true _ _ a)) (λ b. inr (shares object x k j b)) (either _ _ here)
+      ⊎-elim (λ a. inl (leb-true _ _ a)) (λ b. inr (shares object x k j b)) (one-of-two _ _ here)
 
   -- the theorem: rule 9 compares with the previous one alone, and that suffices for all
   pub apart : (b i j : ℕ) → j < b → i < j → j < n → isStore (effect object x i) ≡ true → isStore (effect object x j) ≡ true → Apart i j

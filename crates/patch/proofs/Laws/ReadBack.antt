@@ -1,7 +1,7 @@
 -- Each relocation can be read out of the final bytes, whatever the others store: rule 9 suffices. Assumes nothing.
 use mathlib.Core.Logic.{_⊎_, inl, inr, ⊎-elim}
 use mathlib.Core.Path.{_≡_, refl, sym, ap, _∙_, subst}
-use mathlib.Core.Bool.{Bool, true, false, not, _||_}
+use mathlib.Core.Bool.{Bool, true, false}
 use mathlib.Core.List.{List}
 use Prim.Native.Nat.{ℕ, zero, suc, _+_, _^_, _≤_, _<_}
 use native.Mathlib.Nat.{mod-eq-of-lt}
@@ -11,6 +11,7 @@ use lib.ListN.{length}
 use lib.Dec.{eqb}
 use lib.IntN.{ℤ, pos}
 use borrow.Author.Tests.{eq-eqb, ne-eqb}
+use Rattle.word.proofs.Laws.Tests.{never, given}
 use Rattle.word.specs.Bytes.{leAt, bytes}
 use Rattle.word.specs.Whole.{residue}
 use Rattle.word.proofs.Laws.Bytes.{leAt-sets}
@@ -32,7 +33,6 @@ use Rattle.rela.specs.Effects.{touched, isStore, stacks, stackWidth}
 use Rattle.rela.specs.Shape.{end, shapeWell}
 use Rattle.rules.specs.Rules.{reachesWell, distanceWell}
 use Rattle.rela.specs.Facts.{isDataField}
-use Rattle.rela.proofs.Laws.Widths.{never}
 use Rattle.rela.proofs.Laws.Decisions.{fieldBytes, store-width, store-bytes, store-data, width-some}
 use Rattle.rela.proofs.Laws.Sites.{store-inside}
 use Rattle.rela.proofs.Laws.Shape.{shape-inside}
@@ -91,10 +91,6 @@ data-some J e = never e
 data-some Cb e = never e
 data-some Cj e = never e
 data-some Call e = never e
-
-implied : (a b : Bool) → (not a || b) ≡ true → a ≡ true → b ≡ true
-implied true b e h = e
-implied false b e h = never h
 
 -- one decision says two things of its parts
 reaches-of : (d : Decision) (c : Calculation) (f : Field) (form : Form) (n t p : ℕ) → d ≡ Store c f form n → distanceWell d t p ≡ true → reachesWell c f t p ≡ true
@@ -227,7 +223,7 @@ module _ (object order addresses : List ℕ) (x : Site) (k : Checked object orde
 
   module _ (stack : stacks c ≡ true) where
     on-data : isDataField f ≡ true
-    on-data = implied (stacks c) (isDataField f) (store-data _ c f form n e) stack
+    on-data = given (stacks c) (isDataField f) (store-data _ c f form n e) stack
 
     wide : 0 < stackWidth (effect object x j)
     wide = rw (e, stack) (data-some f on-data)

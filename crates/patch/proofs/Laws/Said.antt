@@ -9,7 +9,7 @@ use lib.Pow.{pow-pos}
 use lib.IntN.{ℤ, pos, _+ℤ_}
 use borrow.Author.Tests.{eqb-true}
 use Rattle.word.specs.Whole.{residue, signed, minus}
-use Rattle.word.proofs.Laws.Tests.{and-left, and-right}
+use Rattle.word.proofs.Laws.Tests.{and-left, and-right, never}
 use Rattle.word.proofs.Laws.Whole.{residue-lt, signed-residue}
 use Rattle.fields.specs.declared.Field.{Field}
 use Rattle.fields.specs.declared.Field.the-variants.{U, I, S, B, J, Cb, Cj, Call, Data}
@@ -30,7 +30,6 @@ use Rattle.riscv.proofs.Laws.Ranges.{branch-reads-back, jal-reads-back, rvc-bra
 use Rattle.rela.specs.Effects.{stacks}
 use Rattle.rules.specs.Rules.{reachesWell}
 use Rattle.rela.specs.Facts.{isDataField}
-use Rattle.rela.proofs.Laws.Widths.{never}
 use Rattle.rela.proofs.Laws.Decisions.{holds, decided}
 use Rattle.patch.specs.Patches.{highPart, lowPart, patched}
 use Rattle.patch.specs.Promises.{Said}

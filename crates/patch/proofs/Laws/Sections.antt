@@ -12,7 +12,7 @@ use borrow.Author.Tests.{eqb-true, lt-ltb, le-ltb}
 use Rattle.word.specs.Bytes.{leAt, bytes}
 use Rattle.word.specs.Whole.{residue, signed, plus, minus}
 use Rattle.word.specs.First.{first}
-use Rattle.word.proofs.Laws.Tests.{and-left, and-right}
+use Rattle.word.proofs.Laws.Tests.{and-left, and-right, never}
 use Rattle.word.proofs.Laws.First.{first-at}
 use Rattle.word.proofs.Laws.Whole.{minus-residue, residue-signed}
 use Rattle.elf.specs.declared.Section.{Section}
@@ -38,7 +38,6 @@ use Rattle.rela.specs.Shape.{end}
 use Rattle.rules.specs.Rules.{symbol}
 use Rattle.relocate.specs.Search.{relocationCheck}
 use Rattle.rela.specs.Facts.{SoundSite, Placed}
-use Rattle.rela.proofs.Laws.Widths.{never}
 use Rattle.rela.proofs.Laws.Sites.{sound-site, count-is}
 use Rattle.rules.proofs.Laws.Rules.{place-below}
 use Rattle.relocate.proofs.Laws.Search.{counted, finding-entry, passed-kept}

@@ -5,6 +5,7 @@ use Prim.Native.Nat.{ℕ, _+_, _%_, _^_, _<_}
 use native.Mathlib.Nat.{mod-eq-of-lt, mod-lt, mod-one}
 use lib.Pow.{pow-pos}
 use lib.IntN.{ℤ, pos, _+ℤ_, _-ℤ_}
+use Rattle.word.proofs.Laws.Tests.{never}
 use Rattle.word.specs.Whole.{residue}
 use Rattle.word.proofs.Laws.Modulo.{mod-unique}
 use Rattle.word.proofs.Laws.Whole.{residue-lt, residue-add, residue-sub}
@@ -19,7 +20,6 @@ use Rattle.types.specs.declared.Calculation.{Calculation}
 use Rattle.types.specs.declared.Calculation.the-variants.{Absolute, PcRelative, Distance, BothHalves, HighPcRelative, HighAbsolute, LowAbsolute, LowOfPair, Add, Sub, Set}
 use Rattle.rela.specs.Effects.{stacks}
 use Rattle.rela.specs.Facts.{isDataField}
-use Rattle.rela.proofs.Laws.Widths.{never}
 use Rattle.patch.specs.Patches.{calculated, patched}
 use Rattle.patch.specs.Promises.{stackStep}
 

@@ -1,11 +1,12 @@
 -- What check 6 gives. Assumes nothing.
 use mathlib.Core.Path.{_≡_, refl, _∙_}
-use mathlib.Core.Bool.{Bool, true, false, not, cond, _&&_, _||_}
+use mathlib.Core.Bool.{Bool, true, false, cond}
 use mathlib.Core.List.{List}
 use Prim.Native.Nat.{ℕ, _-_, _^_, _≤_, _<_}
 use native.Mathlib.Omega.{arith}
 use lib.Dec.{ltb}
 use borrow.Author.Tests.{ltb-false, lt-ltb}
+use Rattle.word.proofs.Laws.Tests.{same-tests}
 use Rattle.word.specs.First.{first}
 use Rattle.word.proofs.Laws.First.{first-below}
 use Rattle.elf.specs.Headers.{sectionCount}
@@ -30,16 +31,10 @@ nowhere-holds p n e k h = first-below p n k (go (ltb (first p n) n) refl e)
 
 -- ---- check 6
 
-same : (g a : Bool) → ((g && not a) || (a && not g)) ≡ false → g ≡ a
-same true true e = refl
-same false false e = refl
-same true false e = cc
-same false true e = cc
-
 -- an order gives a section an address exactly when the section is allocated
 pub placed-allocated : (object order : List ℕ) → placementCheck object order ≡ Nowhere → (i : ℕ) → i < 2 ^ 32 → isGiven (placedAt order i) ≡ isAllocated object i
 unfolding placementCheck differs
-placed-allocated object order e i h = same _ _ (nowhere-holds (differs object order) (2 ^ 32) e i h)
+placed-allocated object order e i h = same-tests _ _ (nowhere-holds (differs object order) (2 ^ 32) e i h)
 
 -- an order without placements passes only for an object with no allocated section
 pub nothing-to-place : (object order : List ℕ) → placementCheck object order ≡ Nowhere → placementCount order ≡ 0 → sectionCount object ≤ 2 ^ 32

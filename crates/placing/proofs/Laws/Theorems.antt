@@ -1,14 +1,14 @@
 -- What check 8 gives. Assumes nothing.
 use mathlib.Core.Logic.{_⊎_, inl, inr}
 use mathlib.Core.Path.{_≡_, refl, sym, ap, _∙_}
-use mathlib.Core.Bool.{Bool, true, false, not, cond, _&&_, _||_}
+use mathlib.Core.Bool.{Bool, true, false, not, cond, _&&_}
 use mathlib.Core.List.{List}
 use Prim.Native.Nat.{ℕ, _+_, _-_, _≤_, _<_}
 use native.Mathlib.Omega.{arith}
 use lib.ListN.{getD}
 use lib.Dec.{leb, ltb, eqb}
 use borrow.Author.Tests.{leb-true, ltb-false}
-use Rattle.word.proofs.Laws.Tests.{and-left, and-right}
+use Rattle.word.proofs.Laws.Tests.{and-left, and-right, given, implies}
 use Rattle.word.proofs.Laws.First.{everywhere-at}
 use Rattle.elf.specs.Headers.{sectionCount}
 use Rattle.elf.specs.Sections.{sectionAt, allocated, loaded}
@@ -26,15 +26,6 @@ bytes-allocated object i e =
 bytes-some : (object : List ℕ) (i : ℕ) → hasBytes (sectionAt object i) ≡ true → ltb 0 (sectionAt object i .size) ≡ true
 unfolding hasBytes
 bytes-some object i e = and-right (loaded (sectionAt object i)) (ltb 0 (sectionAt object i .size)) e
-
-implies : (a b : Bool) → (a && not b) ≡ false → a ≡ true → b ≡ true
-implies true true e h = refl
-implies true false e h = cc
-implies false b e h = cc
-
-given : (a b : Bool) → (not a || b) ≡ true → a ≡ true → b ≡ true
-given true b e h = e
-given false b e h = cc
 
 not-and : (a b : Bool) → not (a && b) ≡ true → a ≡ true → b ≡ false
 not-and true true e h = cc

@@ -6,7 +6,7 @@ use Prim.Native.Nat.{ℕ, zero, suc, _≤_, _<_}
 use native.Mathlib.Omega.{arith}
 use lib.Dec.{eqb}
 use borrow.Author.Tests.{eqb-true}
-use Rattle.word.proofs.Laws.Tests.{and-left, and-right}
+use Rattle.word.proofs.Laws.Tests.{and-left, and-right, never}
 use Rattle.fields.specs.declared.Width.{Width}
 use Rattle.fields.specs.declared.Width.the-variants.{W6, W8, W16, W32, W64}
 use Rattle.fields.specs.declared.Field.{Field}
@@ -18,7 +18,6 @@ use Rattle.types.specs.declared.Decision.the-variants.{Marker, Align, Store, Re
 use Rattle.types.specs.Types.{Line, table, among, lookup, decision}
 use Rattle.rela.specs.Effects.{touched}
 use Rattle.rela.specs.Facts.{isWidth, onData}
-use Rattle.rela.proofs.Laws.Widths.{never}
 
 -- a test that holds on each line, and of a refusal, holds of every decision
 unfoldable pub holds : (Decision → Bool) → List Line → Bool

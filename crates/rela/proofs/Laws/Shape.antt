@@ -7,14 +7,13 @@ use native.Mathlib.Omega.{arith}
 use native.Mathlib.Decide.{decLt}
 use lib.Dec.{leb}
 use borrow.Author.Tests.{leb-true, not-true}
-use Rattle.word.proofs.Laws.Tests.{and-left, and-right}
+use Rattle.word.proofs.Laws.Tests.{and-left, and-right, never}
 use Rattle.types.specs.declared.Decision.the-variants.{Align}
 use Rattle.rela.specs.declared.sites.Site.{Site}
 use Rattle.rela.specs.declared.shape.Previous.the-variants.{Entry}
 use Rattle.rela.specs.Sites.{entry, offset, effect, A}
 use Rattle.rela.specs.Effects.{isStore, isRefused}
 use Rattle.rela.specs.Shape.{end, neverFalls, staysInside, previous, noOverlap, addendWell, shapeWell}
-use Rattle.rela.proofs.Laws.Widths.{never}
 use Rattle.rela.proofs.Laws.Addends.{padding-refused}
 
 module _ (object : List ℕ) (x : Site) where

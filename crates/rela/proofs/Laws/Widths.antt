@@ -1,17 +1,10 @@
--- Tests, and numbers of bytes that are read or written at once. Assumes nothing.
-use mathlib.Core.Path.{_≡_, ap}
-use mathlib.Core.Bool.{Bool, true, false, cond}
-use native.Mathlib.Omega.{arith}
+-- Numbers of bytes that are read or written at once. Assumes nothing.
+use mathlib.Core.Path.{_≡_}
+use mathlib.Core.Bool.{true}
 use Prim.Native.Nat.{ℕ}
 use lib.Dec.{eqb}
 use borrow.Author.Tests.{eqb-true, ne-eqb}
 use Rattle.rela.specs.Facts.{isWidth}
-
--- a test that fails and holds
-pub never : {A : Type 0} → _≡_ {A = Bool} false true → A
-never e =
-    let z : _≡_ {A = ℕ} 0 1 = ap (λ b. cond b 1 0) e in
-    absurd (omega arith)
 
 -- not 1, 2 or 4: it is 8
 pub last-width : (n : ℕ) → isWidth n ≡ true → (n ≡ 1 → ⊥) → (n ≡ 2 → ⊥) → (n ≡ 4 → ⊥) → n ≡ 8

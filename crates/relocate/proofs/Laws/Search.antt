@@ -6,6 +6,7 @@ use Prim.Native.Nat.{ℕ, suc, _+_, _-_, _<_}
 use native.Mathlib.Omega.{arith}
 use lib.Dec.{ltb}
 use borrow.Author.Tests.{lt-ltb, le-ltb, ltb-false}
+use Rattle.word.proofs.Laws.Tests.{never}
 use Rattle.word.specs.First.{first}
 use Rattle.word.specs.Sums.{sum}
 use Rattle.word.proofs.Laws.First.{first-is, first-below}
@@ -26,7 +27,6 @@ use Rattle.rules.specs.Values.{S, T, valueAt}
 use Rattle.rela.specs.Shape.{shapeWell}
 use Rattle.rules.specs.Rules.{symbolWell, formWell, pairWell, distanceWell, boundaryWell}
 use Rattle.relocate.specs.Search.{finding, findingOf, isBroken, relocationCheck}
-use Rattle.rela.proofs.Laws.Widths.{never}
 
 -- ---- the number of an entry
 

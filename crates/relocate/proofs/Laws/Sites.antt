@@ -1,21 +1,16 @@
 -- Check 8 gives what the rules of relocations ask of a placement. Assumes nothing.
-use mathlib.Core.Path.{_≡_, refl}
-use mathlib.Core.Bool.{Bool, true, false, not, _&&_}
+use mathlib.Core.Path.{_≡_}
+use mathlib.Core.Bool.{Bool, true, _&&_}
 use mathlib.Core.List.{List}
 use Prim.Native.Nat.{ℕ}
 use borrow.Author.Tests.{leb-true}
-use Rattle.word.proofs.Laws.Tests.{and-left, and-right}
+use Rattle.word.proofs.Laws.Tests.{and-left, and-right, implies}
 use Rattle.elf.specs.Headers.{sectionCount}
 use Rattle.elf.specs.Sections.{sectionAt, allocated}
 use Rattle.place.specs.declared.Fault.the-variants.{Nowhere}
 use Rattle.placing.specs.Placing.{endOf, aligned, endsInMemory, inWindow, apart, misplaced, placingCheck}
 use Rattle.place.proofs.Laws.Theorems.{nowhere-holds}
 use Rattle.rela.specs.Facts.{Placed}
-
-implied : (a b : Bool) → (a && not b) ≡ false → a ≡ true → b ≡ true
-implied true true e h = refl
-implied true false e h = cc
-implied false b e h = cc
 
 pub placed : (object addresses : List ℕ) (base len : ℕ) → placingCheck object addresses base len ≡ Nowhere → Placed object addresses
 unfolding placingCheck misplaced endsInMemory endOf
@@ -27,6 +22,6 @@ placed object addresses base len e =
           let window : Bool = inWindow object addresses base len i in
           let far : Bool = apart object addresses i in
           let well : al && ends && window && far ≡ true =
-          implied (allocated (sectionAt object i)) _ (nowhere-holds (misplaced object addresses base len) (sectionCount object) e i h) a in
+          implies (allocated (sectionAt object i)) _ (nowhere-holds (misplaced object addresses base len) (sectionCount object) e i h) a in
           leb-true _ _ (and-right al ends (and-left (al && ends) window (and-left (al && ends && window) far well)));
     }

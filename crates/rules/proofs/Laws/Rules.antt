@@ -10,7 +10,7 @@ use borrow.Author.Tests.{ne-eqb, ltb-true}
 use Rattle.word.specs.Bytes.{leAt}
 use Rattle.word.specs.Whole.{signed, plus}
 use Rattle.word.specs.Powers.{ceilPower}
-use Rattle.word.proofs.Laws.Tests.{and-left}
+use Rattle.word.proofs.Laws.Tests.{and-left, never}
 use Rattle.elf.specs.declared.Relocation.{Relocation}
 use Rattle.elf.specs.Entries.{symbolCount}
 use Rattle.symbols.specs.declared.SymbolValue.{SymbolValue}
@@ -30,7 +30,6 @@ use Rattle.rela.specs.Shape.{end}
 use Rattle.rules.specs.Rules.{isResolved, inTarget, symbolWell, standsWell, asksWell, formWell, distanceWell, boundaryWell}
 use Rattle.rela.specs.Facts.{SoundSite}
 use Rattle.rela.proofs.Laws.Decisions.{store-width, width-some}
-use Rattle.rela.proofs.Laws.Widths.{never}
 use Rattle.rela.proofs.Laws.Addends.{signed-low}
 
 -- ---- check 10

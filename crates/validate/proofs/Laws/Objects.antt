@@ -10,7 +10,7 @@ use lib.Dec.{leb, ltb, eqb}
 use borrow.Author.Tests.{leb-true, ltb-true, ltb-false, eqb-true, eqb-false, le-leb, eq-eqb, ne-eqb, lt-ltb, not-true, not-false}
 use Rattle.word.specs.First.{first, everywhere}
 use Rattle.word.specs.Powers.{oneBit}
-use Rattle.word.proofs.Laws.Tests.{and-left, and-right}
+use Rattle.word.proofs.Laws.Tests.{and-left, and-right, both, one-of-two, or-two, given, implied}
 use Rattle.word.proofs.Laws.First.{first-below, everywhere-at, everywhere-is}
 use Rattle.elf.specs.Headers.{sectionCount}
 use Rattle.elf.specs.Sections.{NULL, SYMTAB, RELA, NOBITS, REL, sectionAt, allocated, loaded, symbolTable, targets, countingRel, countingRela}
@@ -23,24 +23,12 @@ use Rattle.validate.specs.Sound.{SoundSymbols, SoundRela, SoundSection, 
 use Rattle.header.proofs.Laws.Headers.{header-long, table-inside, table-entries, table-some, allowed-table}
 use Rattle.validate.proofs.Laws.Tables.{target-inside, check-sound}
 
--- ---- tests that are an implication: not a || b
-
-given : (a b : Bool) → (not a || b) ≡ true → a ≡ true → b ≡ true
-given true b e h = e
-given false b e h = cc
-
-implied : (a b : Bool) → (a ≡ true → b ≡ true) → (not a || b) ≡ true
-implied true b h = h refl
-implied false b h = refl
+-- ---- tests
 
 either : (a b c : Bool) → (a || b || c) ≡ true → (a ≡ false) → (b ≡ false) → c ≡ true
 either true b c e p q = cc
 either false true c e p q = cc
 either false false c e p q = e
-
-one-of-two : (a b : Bool) → (a || b) ≡ true → (a ≡ true) ⊎ (b ≡ true)
-one-of-two true b e = inl refl
-one-of-two false b e = inr e
 
 none-of-three : (a b c : Bool) → not (a || b || c) ≡ true → (a ≡ false) × (b ≡ false) × (c ≡ false)
 none-of-three true b c e = (cc, cc, cc)
@@ -51,14 +39,6 @@ none-of-three false false false e = (refl, refl, refl)
 ⊎-map : {A B C : Type 0} → (A → B) → A ⊎ C → B ⊎ C
 ⊎-map f (inl a) = inl (f a)
 ⊎-map f (inr c) = inr c
-
-both : (a b : Bool) → a ≡ true → b ≡ true → a && b ≡ true
-both a b p q = rw (p, q)
-
-or-two : (a b : Bool) → (a ≡ true) ⊎ (b ≡ true) → (a || b) ≡ true
-or-two true b h = refl
-or-two false b (inl e) = cc
-or-two false b (inr e) = e
 
 or-three : (a b c : Bool) → (a ≡ false → b ≡ false → c ≡ true) → (a || b || c) ≡ true
 or-three true b c f = refl

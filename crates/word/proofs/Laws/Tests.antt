@@ -1,10 +1,20 @@
 -- Laws of tests joined by `&&` and `||`. Assumes nothing.
-use mathlib.Core.Path.{_≡_, refl, sym, _∙_}
+use mathlib.Core.Logic.{_⊎_, inl, inr}
+use mathlib.Core.Path.{_≡_, refl, sym, ap, _∙_}
 use Prim.Native.Nat.{ℕ, _≤_, _<_}
-use mathlib.Core.Bool.{Bool, true, false, not, _&&_, _||_}
+use mathlib.Core.Bool.{Bool, true, false, not, cond, _&&_, _||_}
 use native.Mathlib.Omega.{arith}
 use lib.Dec.{leb}
 use borrow.Author.Tests.{le-leb, lt-leb, leb-true, leb-false}
+
+-- a test that fails and holds
+pub never : {A : Type 0} → _≡_ {A = Bool} false true → A
+never e =
+    let z : _≡_ {A = ℕ} 0 1 = ap (λ b. cond b 1 0) e in
+    absurd (omega arith)
+
+pub clash : {A : Type 0} (b : Bool) → b ≡ false → b ≡ true → A
+clash b p q = never (sym p ∙ q)
 
 -- the two halves of a test that holds
 pub and-left : (a b : Bool) → a && b ≡ true → a ≡ true
@@ -14,6 +24,40 @@ and-left false b e = e
 pub and-right : (a b : Bool) → a && b ≡ true → b ≡ true
 and-right true b e = e
 and-right false b e = cc
+
+pub both : (a b : Bool) → a ≡ true → b ≡ true → a && b ≡ true
+both a b p q = rw (p, q)
+
+-- one half holds
+pub one-of-two : (a b : Bool) → (a || b) ≡ true → (a ≡ true) ⊎ (b ≡ true)
+one-of-two true b e = inl refl
+one-of-two false b e = inr e
+
+pub or-two : (a b : Bool) → (a ≡ true) ⊎ (b ≡ true) → (a || b) ≡ true
+or-two true b h = refl
+or-two false b (inl e) = never e
+or-two false b (inr e) = e
+
+-- tests that are an implication
+pub given : (a b : Bool) → (not a || b) ≡ true → a ≡ true → b ≡ true
+given true b e h = e
+given false b e h = never h
+
+pub implied : (a b : Bool) → (a ≡ true → b ≡ true) → (not a || b) ≡ true
+implied true b h = h refl
+implied false b h = refl
+
+pub implies : (a b : Bool) → (a && not b) ≡ false → a ≡ true → b ≡ true
+implies true true e h = refl
+implies true false e h = never (sym e)
+implies false b e h = never h
+
+-- neither holds without the other
+pub same-tests : (a b : Bool) → ((a && not b) || (b && not a)) ≡ false → a ≡ b
+same-tests true true e = refl
+same-tests false false e = refl
+same-tests true false e = never (sym e)
+same-tests false true e = never (sym e)
 
 -- the half that holds where the other fails
 pub or-right : (a b : Bool) → a ≡ false → a || b ≡ true → b ≡ true
