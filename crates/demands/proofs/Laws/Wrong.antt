@@ -1,10 +1,10 @@
--- Fitters that demand 2 shuts out, each by a sentence of it. Assumes nothing.
+-- Fitters that demands 1 and 2 shut out, each by a sentence of them. Assumes nothing.
 use mathlib.Core.Logic.{inl, inr}
 use mathlib.Core.Path.{_≡_, refl, sym, ap, _∙_, subst}
 use mathlib.Core.List.{List, [], _∷_, _++_}
 use Prim.Native.Nat.{ℕ, zero, suc, _+_, _-_, _<_}
 use native.Mathlib.Omega.{arith}
-use lib.ListN.{length, replicate}
+use lib.ListN.{length, getD, replicate}
 use borrow.Author.Tests.{ne-eqb, le-ltb}
 use Rattle.word.proofs.Laws.Tests.{never}
 use Rattle.word.specs.Bytes.{le, leAt, bytes, part}
@@ -13,7 +13,7 @@ use Rattle.word.specs.Sums.{sum}
 use Rattle.word.specs.Whole.{residue, signed}
 use Rattle.fields.specs.declared.Width.the-variants.{W32}
 use Rattle.fields.specs.declared.Field.the-variants.{Data}
-use Rattle.fields.specs.Layouts.{read}
+use Rattle.fields.specs.Layouts.{read, put}
 use Rattle.fields.specs.Fields.{layout}
 use Rattle.word.specs.Powers.{oneBit}
 use Rattle.elf.specs.Headers.{sectionCount}
@@ -39,7 +39,7 @@ use Rattle.rela.specs.Sites.{siteAt}
 use Rattle.rela.specs.Shape.{neverFalls, staysInside, previous, noOverlap, shapeWell}
 use Rattle.rules.specs.Rules.{symbolWell, standsWell, formWell, pairWell}
 use Rattle.patch.specs.Patches.{patched}
-use Rattle.patch.specs.Sections.{relaOf, relocated, applied, after}
+use Rattle.patch.specs.Sections.{sumAt, relaOf, relocated, applied, after}
 use Rattle.patch.specs.Promises.{ReadsBack}
 use Rattle.spans.specs.Pieces.{pieces}
 use Rattle.fitter.specs.Judgement.{planOf}
@@ -47,7 +47,7 @@ use Rattle.demands.specs.Rules.{Rules, OrderWell, WindowWell, HeaderWell
 use Rattle.demands.specs.First.{FirstBroken, table as table-of}
 use Rattle.demands.specs.Laid.{sectionIn}
 use Rattle.demands.proofs.Laws.First.{at-once, at-each}
-use Rattle.demands.specs.Demands.{Fit, Demand2}
+use Rattle.demands.specs.Demands.{Fit, TakeBack, Demand1, Demand2}
 use Rattle.demands.proofs.Laws.Rules.{order-well, window-well, header-well, table-well, placed-well, has-room}
 use Rattle.demands.proofs.Laws.Relocations.{shape-well, symbol-well, form-well, pair-well, boundary-well}
 
@@ -261,3 +261,17 @@ missing =
 -- one that takes a missing address as zero, or gives no place: "otherwise the first broken rule is named"
 pub names-the-section : (fit : Fit) → Demand2 fit → fit object bare files .answer ≡ record { number = 6; place = 1 }
 names-the-section fit d = d .first-refused object bare files 6 1 missing
+
+-- one that gives the number alone: the same sentence
+pub gives-no-place : (fit : Fit) → Demand2 fit → ((o r : List ℕ) (f : Files) → fit o r f .answer .place ≡ 0) → ⊥
+gives-no-place fit d wrong = omega (arith, ap (λ a. a .place) (names-the-section fit d), wrong object bare files)
+
+-- one that lays whatever the answer is: demand 1, "image and ledger then hold exactly the bytes they held"
+pub lays-anyway : (fit : Fit) (takeBack : TakeBack) → Demand1 fit takeBack → Demand2 fit
+    → ((o r : List ℕ) (f : Files) → fit o r f .after .image ≡ overwritten (f .image) (planOf o r)) → ⊥
+unfolding object bare files words bytes le leAt part sectionAt allocated loaded hasBytes addresses tabulate placedAt valueIn entryAt first read put overwritten pieces planOf relocated relaOf countingRela targets siteAt after applied sumAt relocationAt decision table lookup among bytesOf patched symbolValue residue signed
+lays-anyway fit takeBack d₁ d₂ wrong =
+    let refused : fit object bare files .answer ≡ done → ⊥ = λ e. omega (arith, ap (λ a. a .number) (sym (names-the-section fit d₂) ∙ e)) in
+    let same : overwritten (files .image) (planOf object bare) ≡ files .image = sym (wrong object bare files) ∙ ap (λ f. f .image) (d₁ .fit-kept object bare files refused) in
+    let z : _≡_ {A = ℕ} 0x78 0 = ap (λ l. getD l 0 0) same in
+    omega arith
