@@ -10,22 +10,13 @@ fn run(input: &Input) -> Outcome {
     outcome.unwrap_or_else(|wrong| panic!("{wrong}"))
 }
 
-fn input(fit: &Fit) -> Input {
-    Input {
-        object: fit.object(),
-        order: fit.order(),
-        image: fit.image.clone(),
-        journal: fit.journal.clone(),
-    }
-}
-
 fn answer(fit: &Fit) -> (u32, u32) {
-    run(&input(fit)).answer
+    run(&Input::from(fit)).answer
 }
 
 /// The bytes laid for section 1 of a done fit, in hexadecimal.
 fn laid(fit: &Fit) -> String {
-    let outcome = run(&input(fit));
+    let outcome = run(&Input::from(fit));
     assert_eq!(outcome.answer, (0, 0));
     let start = (fit.placements[0].1 - fit.base) as usize;
     let bytes = &outcome.image[start..start + fit.sections[1].bytes.len()];

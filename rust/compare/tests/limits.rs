@@ -11,15 +11,6 @@ fn answer(input: &Input) -> (u32, u32) {
     outcome.unwrap_or_else(|wrong| panic!("{wrong}")).answer
 }
 
-fn input(fit: &Fit) -> Input {
-    Input {
-        object: fit.object(),
-        order: fit.order(),
-        image: fit.image.clone(),
-        journal: fit.journal.clone(),
-    }
-}
-
 /// One section of eight bytes at 0x1000, with these symbols and relocations.
 fn code(symbols: &[Symbol], list: &[Relocation]) -> Fit {
     Fit::code(0x1000, &[0; 8], symbols, list)
@@ -28,7 +19,7 @@ fn code(symbols: &[Symbol], list: &[Relocation]) -> Fit {
 #[test]
 fn object_length() {
     for (length, expected) in [(65_536, (0, 0)), (65_537, (4, 0))] {
-        let mut input = input(&code(&[], &[]));
+        let mut input = Input::from(&code(&[], &[]));
         input.object.resize(length, 0xEE);
         assert_eq!(answer(&input), expected, "{length} bytes");
     }
@@ -39,7 +30,7 @@ fn sections() {
     for (count, expected) in [(32, (0, 0)), (33, (5, 0))] {
         let mut fit = code(&[], &[]);
         fit.sections.resize(count, Section::default());
-        assert_eq!(answer(&input(&fit)), expected, "{count} sections");
+        assert_eq!(answer(&Input::from(&fit)), expected, "{count} sections");
     }
 }
 
@@ -49,8 +40,8 @@ fn placements() {
     let section = |index: u32| (Section::loaded(1, &[index as u8; 3]), 0x1000 + 3 * index);
     let sections: Vec<(Section, u32)> = (0..31).map(section).collect();
     let fit = Fit::placed(0x1000, 93, &sections);
-    assert_eq!(answer(&input(&fit)), (0, 0));
-    let mut crowded = input(&fit);
+    assert_eq!(answer(&Input::from(&fit)), (0, 0));
+    let mut crowded = Input::from(&fit);
     let rows: Vec<(u32, u32)> = (1..=33).map(|row| (row, 0x1000 + row)).collect();
     crowded.order = order(0x1000, &rows[..32], &[]);
     assert_eq!(answer(&crowded), (6, 32));
@@ -64,7 +55,7 @@ fn symbols() {
         let undefined = vec![Symbol::new(GLOBAL, 0, 0); count];
         let fit = code(&undefined, &[Relocation::new(0, 1, 0, 0)]);
         assert_eq!(fit.sections[2].kind, SYMTAB);
-        assert_eq!(answer(&input(&fit)), expected, "symbol 0 and {count}");
+        assert_eq!(answer(&Input::from(&fit)), expected, "symbol 0 and {count}");
     }
 }
 
@@ -74,7 +65,11 @@ fn external_values() {
     let mut fit = code(&vec![Symbol::new(GLOBAL, 0, 0); 1_023], &[]);
     for (count, expected) in [(1_023, (0, 0)), (1_024, (7, 1_024)), (1_025, (2, 0))] {
         fit.external_values = (1..=count).map(|symbol| (symbol, symbol)).collect();
-        assert_eq!(answer(&input(&fit)), expected, "{count} external values");
+        assert_eq!(
+            answer(&Input::from(&fit)),
+            expected,
+            "{count} external values"
+        );
     }
 }
 
@@ -82,7 +77,7 @@ fn external_values() {
 fn relocations() {
     for (count, expected) in [(4_096, (0, 0)), (4_097, (5, 3))] {
         let fit = code(&[], &vec![Relocation::new(8, RELAX, 0, 0); count]);
-        assert_eq!(answer(&input(&fit)), expected, "{count} relocations");
+        assert_eq!(answer(&Input::from(&fit)), expected, "{count} relocations");
     }
 }
 
@@ -96,14 +91,14 @@ fn last_relocation() {
         fit.sections.push(Section::loaded(1, &[0; 8]));
         fit.sections.push(Section::relocations(4, 2, &list));
         fit.placements.push((4, 0x1010));
-        assert_eq!(answer(&input(&fit)), expected, "4,000 and {second}");
+        assert_eq!(answer(&Input::from(&fit)), expected, "4,000 and {second}");
     }
 }
 
 #[test]
 fn image_length_and_window() {
     for (length, expected) in [(65_536, (0, 0)), (65_537, (3, 0))] {
-        let mut input = input(&code(&[], &[]));
+        let mut input = Input::from(&code(&[], &[]));
         input.image = vec![0x5A; length];
         assert_eq!(answer(&input), expected, "{length} bytes");
     }
@@ -111,13 +106,13 @@ fn image_length_and_window() {
         let sections = [(Section::loaded(1, &[7; 16]), 0xFFFF_FFF0)];
         let mut fit = Fit::placed(base, 65_536, &sections);
         fit.journal = journal(16);
-        assert_eq!(answer(&input(&fit)), expected, "base {base:#x}");
+        assert_eq!(answer(&Input::from(&fit)), expected, "base {base:#x}");
     }
 }
 
 #[test]
 fn ledger_room() {
-    let mut input = input(&code(&[], &[]));
+    let mut input = Input::from(&code(&[], &[]));
     for (room, expected) in [(8, (0, 0)), (7, (15, 0)), (0, (15, 0))] {
         input.journal = journal(room);
         assert_eq!(answer(&input), expected, "room for {room}");
@@ -130,7 +125,7 @@ fn ledger_room() {
 #[test]
 fn ledger_entries() {
     let library = &mut Library::new();
-    let mut state = input(&code(&[], &[]));
+    let mut state = Input::from(&code(&[], &[]));
     state.journal = journal(1_000);
     let first = state.clone();
     for (command, last) in [(Command::Fit, (15, 0)), (Command::TakeBack, (16, 0))] {

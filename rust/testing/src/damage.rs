@@ -1,5 +1,6 @@
 //! Damage to a whole input: anywhere, and at the fields that the rules read.
 
+use crate::build::Fit;
 use crate::random::Random;
 use crate::sample::call;
 use crate::vectors::{bytes, lines};
@@ -12,6 +13,17 @@ pub struct Input {
     pub order: Vec<u8>,
     pub image: Vec<u8>,
     pub journal: Vec<u8>,
+}
+
+impl From<&Fit> for Input {
+    fn from(fit: &Fit) -> Input {
+        Input {
+            object: fit.object(),
+            order: fit.order(),
+            image: fit.image.clone(),
+            journal: fit.journal.clone(),
+        }
+    }
 }
 
 /// A right input whose ledger may hold earlier fits.

@@ -4,7 +4,7 @@ use std::path::{Path, PathBuf};
 use std::process::{Command, Output};
 use std::sync::OnceLock;
 
-use crate::bench::{good, line, on_both, Bench, FIT, TAKE_BACK};
+use crate::bench::{good, line, on_both, Bench, Program, FIT, TAKE_BACK};
 
 /// The library that is preloaded. It is compiled once.
 fn preload() -> &'static Path {
@@ -43,60 +43,40 @@ fn before_and_after() -> (Pair, Pair) {
     ((fit.image, fit.journal), (image, ledger))
 }
 
-/// "a cut between the two leaves something that a taking-back repairs"
-#[test]
-fn ended_at_every_call_of_a_fit() {
-    on_both(|program| {
-        let (old, new) = before_and_after();
-        let states = [old.clone(), (old.0.clone(), new.1.clone()), new.clone()];
-        let mut seen = Vec::new();
-        for at in 1.. {
-            let bench = Bench::new(program, &good());
-            let output = disturbed(&bench, &FIT, "end", "any", at);
-            if output.status.code() == Some(0) {
-                break;
-            }
-            assert_eq!(output.status.code(), Some(99));
-            assert_eq!(output.stdout, b"");
-            let state = states.iter().position(|state| *state == pair(&bench));
-            seen.push(state.expect("each file is old or new, and not only the image is new"));
-            let expected = if seen.last() == Some(&0) {
-                "16 0\n"
-            } else {
-                "0 0\n"
-            };
-            assert_eq!(line(&bench.take_back()), expected);
-            assert_eq!(pair(&bench), old);
+/// Ends a call at each call of the system in its turn. The files are then in
+/// one of three states, which come in the order of the renames, and a
+/// taking-back repairs them. In the state `bare` no fit stands.
+fn ended_at_every_call(program: Program, arguments: &[&str], states: [&Pair; 3], bare: usize) {
+    let (old, _) = before_and_after();
+    let mut seen = Vec::new();
+    for at in 1.. {
+        let bench = Bench::new(program, &good());
+        bench.write("image", &states[0].0);
+        bench.write("ledger", &states[0].1);
+        let output = disturbed(&bench, arguments, "end", "any", at);
+        if output.status.code() == Some(0) {
+            break;
         }
-        assert!(seen.is_sorted() && [0, 1, 2].iter().all(|state| seen.contains(state)));
-    });
+        assert_eq!(output.status.code(), Some(99));
+        assert_eq!(output.stdout, b"");
+        let state = states.iter().position(|state| **state == pair(&bench));
+        let state = state.expect("each file is old or new, and the right one is new first");
+        seen.push(state);
+        let expected = if state == bare { "16 0\n" } else { "0 0\n" };
+        assert_eq!(line(&bench.take_back()), expected);
+        assert_eq!(pair(&bench), old);
+    }
+    assert!(seen.is_sorted() && [0, 1, 2].iter().all(|state| seen.contains(state)));
 }
 
+/// "a cut between the two leaves something that a taking-back repairs"
 #[test]
-fn ended_at_every_call_of_a_taking_back() {
+fn ended_at_every_call_of_either() {
     on_both(|program| {
         let (old, new) = before_and_after();
-        let states = [new.clone(), (old.0.clone(), new.1.clone()), old.clone()];
-        let mut seen = Vec::new();
-        for at in 1.. {
-            let bench = Bench::new(program, &good());
-            assert_eq!(line(&bench.fit()), "0 0\n");
-            let output = disturbed(&bench, &TAKE_BACK, "end", "any", at);
-            if output.status.code() == Some(0) {
-                break;
-            }
-            assert_eq!(output.stdout, b"");
-            let state = states.iter().position(|state| *state == pair(&bench));
-            seen.push(state.expect("each file is old or new, and not only the ledger is new"));
-            let expected = if seen.last() == Some(&2) {
-                "16 0\n"
-            } else {
-                "0 0\n"
-            };
-            assert_eq!(line(&bench.take_back()), expected);
-            assert_eq!(pair(&bench), old);
-        }
-        assert!(seen.is_sorted() && [0, 1, 2].iter().all(|state| seen.contains(state)));
+        let cut = (old.0.clone(), new.1.clone());
+        ended_at_every_call(program, &FIT, [&old, &cut, &new], 0);
+        ended_at_every_call(program, &TAKE_BACK, [&new, &cut, &old], 2);
     });
 }
 
