@@ -196,7 +196,9 @@ fn tag() -> [u8; 7] {
     ]
 }
 
-fn letter(b: u8) -> u8 {
+fn letter(b: u8) -> u8
+    ensures { λ r. ⌜ (97 ≤ r) × (r ≤ 122) ⌝ }
+{
     b'a' + b % 26
 }
 

@@ -7,6 +7,8 @@
 // standard error that names the file, nothing on standard output, and changes no file. The exit status is always 0: Rattle has no other.
 mod files;
 
+ghost use mathlib.Core.Path.{_≡_};
+ghost use lib.Dec.{ltb};
 use files::replace_both;
 use fitter::Answer;
 use text::Command;
@@ -115,7 +117,9 @@ fn keep(answer: Answer, first: usize, new: &[u8], second: usize, other: &[u8]) {
 }
 
 // "files of at most 65,536 bytes"
-fn is_long(len: usize) -> bool {
+fn is_long(len: usize) -> bool
+    ensures { λ r. ⌜ r ≡ ltb 65536 len ⌝ }
+{
     len > 65536
 }
 
