@@ -6,4 +6,5 @@ pub mod Told
 pub mod Images
 pub mod Laid
 pub mod Demands
+pub mod Sample
 pub mod Wrong

@@ -1,4 +1,4 @@
--- Demands 1 and 2, of any fit and any taking-back. Demand 3 is `Holds` of the journal. Assumes nothing: these are definitions.
+-- The demands, of any install and any rollback. Assumes nothing: these are definitions.
 use mathlib.Core.Path.{_≡_}
 use mathlib.Core.Bool.{false}
 use mathlib.Core.List.{List}
@@ -9,17 +9,12 @@ use Rattle.elf.specs.Sections.{sectionAt, allocated}
 use Rattle.order.specs.Orders.{placementCount}
 use Rattle.order.specs.Windows.{maxImage}
 use Rattle.journal.specs.Journals.{count, Sound}
-use Rattle.undo.specs.Calls.{Files, Outcome, done}
+use Rattle.undo.specs.Calls.{Files, done, Call, Fit, TakeBack, calling}
+use Rattle.undo.specs.Histories.{Start, Holds}
+use Rattle.fitter.specs.Judgement.{judgement}
 use Rattle.demands.specs.Rules.{Rules}
 use Rattle.demands.specs.First.{Checks, none, one, FirstBroken, table}
 use Rattle.demands.specs.Laid.{Laid}
-
--- an install of an object by an order, and a rollback: each gives an answer, and leaves an image and a journal
-abbrev pub Fit : Type 0
-Fit = List ℕ → List ℕ → Files → Outcome Files
-
-abbrev pub TakeBack : Type 0
-TakeBack = Files → Outcome Files
 
 -- "A taking-back checks 1, 3 (length only), 16."
 unfoldable pub backTable : Files → Checks
@@ -48,3 +43,8 @@ pub record Demand2 (fit : Fit) : Type 0 where
   -- "An order without placements fits only an object with nothing to place."
   pub nothing-to-place : (object order : List ℕ) (f : Files) → fit object order f .answer ≡ done → placementCount order ≡ 0
       → (t : ℕ) → t < sectionCount object → allocated (sectionAt object t) ≡ false
+
+-- "Start with any image of allowed length and any sound ledger in which no fit stands. .. For every list of fits and takings-back from there,
+-- refused ones included, the following holds after it." The history goes by document 01's judgement.
+abbrev pub Demand3 : Fit → TakeBack → Type 0
+Demand3 fit takeBack = (start : Files) → Start start → (calls : List Call) → Holds (calling fit takeBack) judgement start calls

@@ -97,9 +97,21 @@ pub data Call : Type 0 where
   Install : List ℕ → List ℕ → Call
   Rollback : Call
 
-unfoldable pub call : Judge → Files → Call → Outcome Files
-call judge f (Install object order) = install judge object order f
-call judge f Rollback = rollback f
+-- any install and any rollback: each gives an answer, and leaves an image and a journal
+abbrev pub Fit : Type 0
+Fit = List ℕ → List ℕ → Files → Outcome Files
+
+abbrev pub TakeBack : Type 0
+TakeBack = Files → Outcome Files
+
+-- a call, made by these
+unfoldable pub calling : Fit → TakeBack → Files → Call → Outcome Files
+calling fit takeBack f (Install object order) = fit object order f
+calling fit takeBack f Rollback = takeBack f
+
+-- made by those above
+abbrev pub call : Judge → Files → Call → Outcome Files
+call judge = calling (install judge) rollback
 
 -- "Each call gets image and ledger as the one before it left them": the answers, and what is there at the end
 unfoldable pub answers : {S : Type 0} → (S → Call → Outcome S) → S → List Call → List Answer

@@ -10,7 +10,7 @@ use Rattle.order.specs.Windows.{lengthAllowed}
 use Rattle.journal.specs.declared.Span.{Span}
 use Rattle.journal.specs.Plans.{Piece, Verdict, refused, plan, Judge, overwritten, spanOf}
 use Rattle.journal.specs.Journals.{count, entries, held, total, Sound, noRoom}
-use Rattle.undo.specs.Calls.{done, journalFull, noneStands, Files, Outcome, refuse, succeed, rollback, Call, Install, Rollback, call, answers, run}
+use Rattle.undo.specs.Calls.{done, journalFull, noneStands, Files, Outcome, refuse, succeed, Call, Install, Rollback, answers, run}
 
 -- ---- the history
 
@@ -80,9 +80,9 @@ pub record Start (f : Files) : Type 0 where
   pub sound : Sound (f .journal) (length (f .image))
   pub none : count (f .journal) ≡ 0
 
--- what is there after a list of calls, and the history of that list
-abbrev pub filesAfter : Judge → Files → List Call → Files
-filesAfter judge start calls = run (call judge) start calls
+-- what a list of calls leaves, and the history of that list
+abbrev pub filesAfter : (Files → Call → Outcome Files) → Files → List Call → Files
+filesAfter step start calls = run step start calls
 
 abbrev pub historyOf : Judge → Files → List Call → History
 historyOf judge start calls = run (told judge) (begin start) calls
@@ -113,20 +113,19 @@ alone (x ∷ older) = alone older ++ Install (x .object) (x .order) ∷ []
 abbrev pub standingAlone : Judge → Files → List Call → List Call
 standingAlone judge start calls = alone (historyOf judge start calls .standing)
 
--- demand 3, of a list of calls
-pub record Holds (judge : Judge) (start : Files) (calls : List Call) : Type 0 where
+-- demand 3, of a list of calls, each made by `step`
+pub record Holds (step : Files → Call → Outcome Files) (judge : Judge) (start : Files) (calls : List Call) : Type 0 where
   -- "Every call in the list had the answer that document 01's history gives it."
-  pub answered : answers (call judge) start calls ≡ answers (told judge) (begin start) calls
+  pub answered : answers step start calls ≡ answers (told judge) (begin start) calls
   -- image, n, k and entries are the history's, and the journal is sound
-  pub as-told : AsTold (historyOf judge start calls) (filesAfter judge start calls)
+  pub as-told : AsTold (historyOf judge start calls) (filesAfter step start calls)
   -- "A taking-back is refused exactly when no fit stands."
-  pub refused-if-none : historyOf judge start calls .standing ≡ [] → rollback (filesAfter judge start calls) .answer ≡ noneStands
-  pub done-if-some : (historyOf judge start calls .standing ≡ [] → ⊥) → rollback (filesAfter judge start calls) .answer ≡ done
+  pub refused-if-none : historyOf judge start calls .standing ≡ [] → step (filesAfter step start calls) Rollback .answer ≡ noneStands
+  pub done-if-some : (historyOf judge start calls .standing ≡ [] → ⊥) → step (filesAfter step start calls) Rollback .answer ≡ done
   -- "The standing fits alone, asked for in their order from the same start, are all done"
-  pub alone-done : answers (call judge) start (standingAlone judge start calls) ≡ replicate (countOf (historyOf judge start calls)) done
+  pub alone-done : answers step start (standingAlone judge start calls) ≡ replicate (countOf (historyOf judge start calls)) done
   -- "and lead to the same image, n, k and first n entries,"
-  pub alone-alike : Alike (filesAfter judge start (standingAlone judge start calls)) (filesAfter judge start calls)
+  pub alone-alike : Alike (filesAfter step start (standingAlone judge start calls)) (filesAfter step start calls)
   -- "and any next call gets the same answer after either list"; any further list of calls the same answers
-  pub next : (c : Call) → call judge (filesAfter judge start calls) c .answer ≡ call judge (filesAfter judge start (standingAlone judge start calls)) c .answer
-  pub further : (more : List Call) → answers (call judge) (filesAfter judge start calls) more
-      ≡ answers (call judge) (filesAfter judge start (standingAlone judge start calls)) more
+  pub next : (c : Call) → step (filesAfter step start calls) c .answer ≡ step (filesAfter step start (standingAlone judge start calls)) c .answer
+  pub further : (more : List Call) → answers step (filesAfter step start calls) more ≡ answers step (filesAfter step start (standingAlone judge start calls)) more

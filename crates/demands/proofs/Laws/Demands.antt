@@ -1,6 +1,6 @@
 -- The demands at document 01's judgement. Assumes nothing.
 use mathlib.Core.Logic.{inl, inr}
-use mathlib.Core.Path.{_≡_, refl, sym, ap, subst}
+use mathlib.Core.Path.{_≡_, refl, sym, ap, subst, _∙_}
 use mathlib.Core.Bool.{Bool, true, false, not, cond}
 use mathlib.Core.List.{List}
 use Prim.Native.Nat.{ℕ, _≤_, _<_}
@@ -17,8 +17,7 @@ use Rattle.validate.specs.declared.ObjectCheck.the-variants.{Passed, BadHeader,
 use Rattle.validate.specs.Rules.{objectCheck}
 use Rattle.journal.specs.Journals.{count, held, Sound, sound, noRoom}
 use Rattle.journal.specs.Plans.{Piece, Verdict, refused, plan, spanOf}
-use Rattle.undo.specs.Calls.{Answer, done, journalUnsound, windowBroken, noneStands, journalFull, Files, refuse, succeed, installed, settle, install, rolledBack, rollback, Call, Install, Rollback, call}
-use Rattle.undo.specs.Histories.{Start, Holds}
+use Rattle.undo.specs.Calls.{Answer, done, journalUnsound, windowBroken, noneStands, journalFull, Files, refuse, succeed, installed, settle, install, rolledBack, rollback, Install, Rollback, Fit, TakeBack, calling}
 use Rattle.journal.proofs.Laws.Sound.{test-sound, sound-test}
 use Rattle.undo.proofs.Laws.Corollaries.{refusal-keeps}
 use Rattle.undo.proofs.Laws.History.{history-holds}
@@ -37,7 +36,7 @@ use Rattle.fitter.proofs.Laws.Laying.{lays-inside}
 use Rattle.demands.specs.Rules.{Rules}
 use Rattle.demands.specs.First.{nil, rule, Checks, none, one, HoldBelow, AllHold, FirstBroken, table}
 use Rattle.demands.specs.Laid.{Laid}
-use Rattle.demands.specs.Demands.{Fit, TakeBack, backTable, Demand1, Demand2}
+use Rattle.demands.specs.Demands.{backTable, Demand1, Demand2, Demand3}
 use Rattle.demands.proofs.Laws.First.{none-broken, one-first, AllAbove, above, Told, later, at-once, broken-once}
 use Rattle.demands.proofs.Laws.Told.{told}
 use Rattle.demands.proofs.Laws.Laid.{laid-well}
@@ -206,14 +205,16 @@ refused-above object order len n p h =
         let z : _≡_ {A = ℕ} 0 1 = cc in
         absurd (omega arith)
 
-record Done (object order : List ℕ) (f : Files) : Type 0 where
-  fits : Fits object order (length (f .image)) (planOf object order)
-  after-is : install judgement object order f .after ≡ installed (planOf object order) f
+pub record Done (object order : List ℕ) (f : Files) : Type 0 where
+  pub fits : Fits object order (length (f .image)) (planOf object order)
+  pub verdict-is : judgement object order (length (f .image)) ≡ plan (planOf object order)
+  pub room-is : noRoom (count (f .journal)) (held (f .journal)) (spanOf (planOf object order) .size) (length (f .journal)) ≡ false
+  pub after-is : install judgement object order f .after ≡ installed (planOf object order) f
 
 wrong-number : {A : Type 0} (n p : ℕ) → 0 < n → _≡_ {A = Answer} (record { number = n; place = p }) done → A
 wrong-number n p l e = absurd (omega (arith, ap (λ x. x .number) e))
 
-done-leaves : (object order : List ℕ) (f : Files) → install judgement object order f .answer ≡ done → Done object order f
+pub done-leaves : (object order : List ℕ) (f : Files) → install judgement object order f .answer ≡ done → Done object order f
 unfolding install settle
 done-leaves object order f e = go (sound (f .journal) (length (f .image))) refl (judgement object order (length (f .image))) refl e
   where
@@ -227,7 +228,12 @@ done-leaves object order f e = go (sound (f .journal) (length (f .image))) refl 
     left : (ps : List Piece) → Fits object order len ps → sound (f .journal) len ≡ true → judgement object order len ≡ plan ps → room ps ≡ false → Done object order f
     left ps fits s v r =
         let same : ps ≡ planOf object order = sym (fits .plan-is) in
-        record { fits = subst (Fits object order len) same fits; after-is = rw (s, v, r, same) }
+        record {
+          fits = subst (Fits object order len) same fits;
+          verdict-is = v ∙ ap plan same;
+          room-is = ap room (sym same) ∙ r;
+          after-is = rw (s, v, r, same);
+        }
 
     go : (b : Bool) → sound (f .journal) len ≡ b → (v : Verdict) → judgement object order len ≡ v
         → cond (not b) (refuse journalUnsound f) (settle f v) .answer ≡ done → Done object order f
@@ -276,7 +282,7 @@ back-above f = ((omega arith, tt), ((omega arith, tt), ((omega arith, tt), tt)))
 -- ---- demand 1
 
 pub demand-1 : Demand1 ours back
-unfolding call
+unfolding calling
 demand-1 =
     record {
       fit-refused = λ object order f r. first-of (table object order f) (ours object order f .answer) (told object order f) r;
@@ -311,5 +317,5 @@ demand-2 =
 
 -- ---- demand 3, whole: every start, every list of calls
 
-pub demand-3 : (begin : Files) → Start begin → (calls : List Call) → Holds judgement begin calls
-demand-3 begin s calls = history-holds judgement lays-inside begin s calls
+pub demand-3 : Demand3 ours back
+demand-3 = history-holds judgement lays-inside

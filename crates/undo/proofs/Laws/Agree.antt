@@ -13,7 +13,7 @@ use Rattle.word.proofs.Laws.Lists.{length-part}
 use Rattle.order.specs.Windows.{lengthAllowed}
 use Rattle.journal.specs.Plans.{Piece, Verdict, refused, plan, Judge, LaysInside, Inside, spanOf}
 use Rattle.journal.specs.Journals.{count, entries, held, blank, total, Sound, sound, noRoom}
-use Rattle.undo.specs.Calls.{journalFull, Files, Outcome, refuse, succeed, installed, settle, install, rolledBack, rollback, Call, Install, Rollback, call}
+use Rattle.undo.specs.Calls.{journalFull, Files, Outcome, refuse, succeed, installed, settle, install, rolledBack, rollback, Call, Install, Rollback, calling, call}
 use Rattle.undo.specs.Histories.{Standing, History, spans, laid, stand, fall, told, AsTold}
 use Rattle.journal.proofs.Laws.Sound.{total-append, sound-test}
 use Rattle.undo.proofs.Laws.Install.{room-left}
@@ -206,7 +206,7 @@ module _ (judge : Judge) (lays : LaysInside judge) (base : List ℕ) (room : ℕ
           rw (count-files, held-files, length-files) (roomed ps e (noRoom (length xs) (total (spans xs)) (spanOf ps .size) room) refl)
 
       install-agrees : Agreed judge (told judge (over xs) (Install object order)) (call judge (filesOf base xs free rest) (Install object order))
-      unfolding told call install
+      unfolding told calling install
       install-agrees = rw (test-files, length-laid base xs) (settled (judge object order (length base)) refl)
 
   allowed : length base ≤ 65536 → lengthAllowed (length base) ≡ true
@@ -215,7 +215,7 @@ module _ (judge : Judge) (lays : LaysInside judge) (base : List ℕ) (room : ℕ
 
   rollback-agrees : (xs : List Standing) (free : ℕ) (rest : List ℕ) → Shape judge base room xs free rest
       → Agreed judge (told judge (over xs) Rollback) (call judge (filesOf base xs free rest) Rollback)
-  unfolding told call rollback fall
+  unfolding told calling rollback fall
   rollback-agrees [] free rest w =
       rw (test-files [] free rest w, length-laid base [], allowed (w .short), count-files [] free rest w) (refl, here [] free rest w)
   rollback-agrees (x ∷ xs) free rest w =

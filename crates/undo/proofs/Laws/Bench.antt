@@ -10,7 +10,7 @@ use Rattle.order.specs.Windows.{lengthAllowed}
 use Rattle.journal.specs.Plans.{piece, Judge, plan, overwritten, end, lowest, spanOf}
 use Rattle.journal.specs.Journals.{entry, entries, total, isBlank, endsWithin, sound, noRoom}
 use Rattle.undo.specs.Writes.{saving, saved, restoring, releasing}
-use Rattle.undo.specs.Calls.{done, journalFull, noneStands, Files, installed, settle, install, rolledBack, rollback, Install, Rollback, call, answers, run}
+use Rattle.undo.specs.Calls.{done, journalFull, noneStands, Files, installed, settle, install, rolledBack, rollback, Install, Rollback, calling, call, answers, run}
 
 -- an empty journal of 140 bytes, and the bytes of the bench
 abbrev pub empty : List ℕ
@@ -41,14 +41,14 @@ abbrev pub after : Files
 after = record { image = replicate 8 0 ++ 1 ∷ 2 ∷ 3 ∷ 4 ∷ 7 ∷ []; journal = said }
 
 pub install-bench : run (call four) before (Install [] [] ∷ []) ≡ after
-unfolding le leAt bytes part first everywhere tabulate overwritten end lowest spanOf entry entries total isBlank endsWithin sound noRoom saving saved installed settle install call run
+unfolding le leAt bytes part first everywhere tabulate overwritten end lowest spanOf entry entries total isBlank endsWithin sound noRoom saving saved installed settle install calling run
 install-bench = refl
 
 -- with a second install that finds no room, and a rollback of nothing
 pub answers-bench : answers (call four) before (Install [] [] ∷ Install [] [] ∷ Rollback ∷ Rollback ∷ []) ≡ done ∷ journalFull ∷ done ∷ noneStands ∷ []
-unfolding le leAt bytes part first everywhere tabulate lengthAllowed overwritten end lowest spanOf entry entries total isBlank endsWithin sound noRoom saving saved restoring releasing installed settle install rolledBack rollback call answers
+unfolding le leAt bytes part first everywhere tabulate lengthAllowed overwritten end lowest spanOf entry entries total isBlank endsWithin sound noRoom saving saved restoring releasing installed settle install rolledBack rollback calling answers
 answers-bench = refl
 
 pub rollback-bench : run (call four) before (Install [] [] ∷ Install [] [] ∷ Rollback ∷ Rollback ∷ []) ≡ before
-unfolding le leAt bytes part first everywhere tabulate lengthAllowed overwritten end lowest spanOf entry entries total isBlank endsWithin sound noRoom saving saved restoring releasing installed settle install rolledBack rollback call run
+unfolding le leAt bytes part first everywhere tabulate lengthAllowed overwritten end lowest spanOf entry entries total isBlank endsWithin sound noRoom saving saved restoring releasing installed settle install rolledBack rollback calling run
 rollback-bench = refl

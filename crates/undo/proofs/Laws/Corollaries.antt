@@ -10,7 +10,7 @@ use lib.Dec.{eqb}
 use Rattle.order.specs.Windows.{lengthAllowed}
 use Rattle.journal.specs.Plans.{Piece, Verdict, refused, plan, Judge, LaysInside, spanOf}
 use Rattle.journal.specs.Journals.{count, held, sound, noRoom}
-use Rattle.undo.specs.Calls.{Answer, done, Files, Outcome, settle, install, rollback, Call, Install, Rollback, call, answers, run}
+use Rattle.undo.specs.Calls.{Answer, done, Files, Outcome, settle, install, rollback, Call, Install, Rollback, calling, call, answers, run}
 use Rattle.undo.specs.Histories.{History, begin, countOf, heldOf, stand, fall, told, Start, filesAfter, historyOf, Alike}
 use Rattle.undo.proofs.Laws.Agree.{Agrees, agrees}
 use Rattle.undo.proofs.Laws.History.{run-append, kept, same-answers, alike, run-over, agrees-after}
@@ -32,7 +32,7 @@ module _ (judge : Judge) (f : Files) where
       either (Keeps f) (noRoom (count (f .journal)) (held (f .journal)) (spanOf ps .size) (length (f .journal))) _ _ (λ r. refl) (λ r. absurd (r refl))
 
   pub refusal-keeps : (c : Call) → (call judge f c .answer .number ≡ 0 → ⊥) → call judge f c .after ≡ f
-  unfolding call install rollback Keeps
+  unfolding calling install rollback Keeps
   refusal-keeps (Install object order) =
       either (Keeps f) (not (sound (f .journal) (length (f .image)))) _ _ (λ r. refl) (settle-keeps (judge object order (length (f .image))))
   refusal-keeps Rollback =
@@ -55,7 +55,7 @@ stand-dropped h object order ps =
 
 module _ (judge : Judge) (lays : LaysInside judge) (start : Files) (s : Start start) (calls : List Call) (object order : List ℕ) (ps : List Piece)
     (planned : judge object order (length (start .image)) ≡ plan ps)
-    (is-done : call judge (filesAfter judge start calls) (Install object order) .answer ≡ done) where
+    (is-done : call judge (filesAfter (call judge) start calls) (Install object order) .answer ≡ done) where
   both : List Call
   both = Install object order ∷ Rollback ∷ []
 
@@ -71,24 +71,24 @@ module _ (judge : Judge) (lays : LaysInside judge) (start : Files) (s : Start st
       ∙ stand-dropped (historyOf judge start calls) object order ps
       (ap (λ (v : Verdict). stand (historyOf judge start calls) object order v .answer) (sym there) ∙ told-done)
 
-  agrees-again : Agrees judge (historyOf judge start calls) (filesAfter judge start (calls ++ both))
+  agrees-again : Agrees judge (historyOf judge start calls) (filesAfter (call judge) start (calls ++ both))
   agrees-again =
       rw (run-append (call judge) start calls both)
-      (rw same-history at (kept judge lays both (historyOf judge start calls) (filesAfter judge start calls) (agrees-after judge lays start s calls)))
+      (rw same-history at (kept judge lays both (historyOf judge start calls) (filesAfter (call judge) start calls) (agrees-after judge lays start s calls)))
 
   -- the image, n, k and the first n entries are those from before the install
-  pub rollback-undoes-install : Alike (filesAfter judge start (calls ++ Install object order ∷ Rollback ∷ [])) (filesAfter judge start calls)
+  pub rollback-undoes-install : Alike (filesAfter (call judge) start (calls ++ Install object order ∷ Rollback ∷ [])) (filesAfter (call judge) start calls)
   unfolding both
   rollback-undoes-install = alike judge lays _ _ _ agrees-again (agrees-after judge lays start s calls)
 
   -- "so the room of a fit taken back serves again": any further calls get the answers that they would have had before the install
-  pub room-serves-again : (more : List Call) → answers (call judge) (filesAfter judge start (calls ++ Install object order ∷ Rollback ∷ [])) more
-      ≡ answers (call judge) (filesAfter judge start calls) more
+  pub room-serves-again : (more : List Call) → answers (call judge) (filesAfter (call judge) start (calls ++ Install object order ∷ Rollback ∷ [])) more
+      ≡ answers (call judge) (filesAfter (call judge) start calls) more
   unfolding both
   room-serves-again more = same-answers judge lays more _ _ agrees-again ∙ sym (same-answers judge lays more _ _ (agrees-after judge lays start s calls))
 
   -- and so the same install is done again
-  pub install-done-again : call judge (filesAfter judge start (calls ++ Install object order ∷ Rollback ∷ [])) (Install object order) .answer ≡ done
+  pub install-done-again : call judge (filesAfter (call judge) start (calls ++ Install object order ∷ Rollback ∷ [])) (Install object order) .answer ≡ done
   unfolding both
   install-done-again =
       agrees judge lays _ _ agrees-again (Install object order) .0

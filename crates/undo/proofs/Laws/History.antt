@@ -10,7 +10,7 @@ use borrow.Author.Tests.{leb-true}
 use Rattle.order.specs.Windows.{lengthAllowed}
 use Rattle.journal.specs.Plans.{Verdict, refused, plan, Judge, LaysInside, spanOf}
 use Rattle.journal.specs.Journals.{total, noRoom}
-use Rattle.undo.specs.Calls.{Answer, done, journalFull, noneStands, Files, Outcome, refuse, succeed, Call, Install, Rollback, call, answers, run}
+use Rattle.undo.specs.Calls.{Answer, done, journalFull, noneStands, Files, Outcome, refuse, succeed, Call, Install, Rollback, calling, call, answers, run}
 use Rattle.undo.specs.Histories.{Standing, History, begin, countOf, heldOf, spans, laid, stand, fall, told, Start, filesAfter, historyOf, Alike, alone, standingAlone, Holds}
 use Rattle.undo.proofs.Laws.Stack.{empty}
 use Rattle.undo.proofs.Laws.Agree.{olds, Stands, Agrees, agrees, agrees-told}
@@ -139,7 +139,7 @@ started judge start s =
 
 -- what a list of calls leaves agrees with the history of the list
 pub agrees-after : (judge : Judge) → LaysInside judge → (start : Files) → Start start → (calls : List Call)
-    → Agrees judge (historyOf judge start calls) (filesAfter judge start calls)
+    → Agrees judge (historyOf judge start calls) (filesAfter (call judge) start calls)
 agrees-after judge lays start s calls = kept judge lays calls (begin start) start (started judge start s)
 
 -- ---- the theorem
@@ -154,19 +154,19 @@ unfolding fall
 fall-some h [] some = absurd (some refl)
 fall-some h (x ∷ xs) some = refl
 
-pub history-holds : (judge : Judge) → LaysInside judge → (start : Files) → Start start → (calls : List Call) → Holds judge start calls
-unfolding told call
+pub history-holds : (judge : Judge) → LaysInside judge → (start : Files) → Start start → (calls : List Call) → Holds (call judge) judge start calls
+unfolding told calling
 history-holds judge lays start s calls =
     let first : Agrees judge (begin start) start = started judge start s in
     let xs : List Standing = historyOf judge start calls .standing in
-    let last : Agrees judge (historyOf judge start calls) (filesAfter judge start calls) = agrees-after judge lays start s calls in
+    let last : Agrees judge (historyOf judge start calls) (filesAfter (call judge) start calls) = agrees-after judge lays start s calls in
     let kept-start : Over (begin start) (historyOf judge start calls) = run-over judge calls (begin start) in
     let stands : Stands judge (start .image) (length (start .journal)) (historyOf judge start calls .standing) =
     rw (kept-start .0, kept-start .1) at (last .shape .stands) in
     let back : run (told judge) (begin start) (standingAlone judge start calls) ≡ historyOf judge start calls =
     alone-run judge lays (start .image) (length (start .journal)) xs stands
     ∙ (λ i. record { start = sym (kept-start .0) i; room = sym (kept-start .1) i; standing = xs }) in
-    let only : Agrees judge (historyOf judge start calls) (filesAfter judge start (standingAlone judge start calls)) =
+    let only : Agrees judge (historyOf judge start calls) (filesAfter (call judge) start (standingAlone judge start calls)) =
     rw back at (agrees-after judge lays start s (standingAlone judge start calls)) in
     record {
       answered = same-answers judge lays calls (begin start) start first;

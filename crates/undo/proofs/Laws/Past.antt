@@ -18,7 +18,7 @@ use Rattle.journal.specs.Plans.{Piece, Inside, Verdict, refused, plan, Judge, o
 use Rattle.journal.specs.Journals.{maxEntries, countAt, entryAt, heldAt, oldAt, count, held, entry, entries, total, Sound, sound, noRoom}
 use Rattle.undo.specs.Writes.{newest, heldBelow, saving, saved, restoring, releasing}
 use Rattle.undo.specs.Facts.{Savable, Undoable}
-use Rattle.undo.specs.Calls.{journalUnsound, windowBroken, journalFull, noneStands, Files, Outcome, refuse, succeed, rolledBack, rollback, installed, settle, install, Call, Install, Rollback, call}
+use Rattle.undo.specs.Calls.{journalUnsound, windowBroken, journalFull, noneStands, Files, Outcome, refuse, succeed, rolledBack, rollback, installed, settle, install, Call, Install, Rollback, calling, call}
 use Rattle.journal.proofs.Laws.Sound.{test-sound, sound-test, unsound-test}
 use Rattle.undo.proofs.Laws.Rollback.{undoable}
 use Rattle.journal.proofs.Laws.Span.{end-le, drop-overwritten}
@@ -168,6 +168,6 @@ module _ (image j j′ : List ℕ) (length-same : length j ≡ length j′) (fir
 
   pub unread : (judge : Judge) (c : Call) → (call judge here c .answer ≡ call judge there c .answer)
       × (call judge here c .after .image ≡ call judge there c .after .image)
-  unfolding call
+  unfolding calling
   unread judge (Install object order) = install-same judge object order
   unread judge Rollback = rollback-same
