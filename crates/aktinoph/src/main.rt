@@ -5,10 +5,12 @@
 //
 // Number and place go to standard output. What keeps the call from being made or its result from being kept gives a message on
 // standard error that names the file, nothing on standard output, and changes no file. The exit status is always 0: Rattle has no other.
-mod files;
-
 ghost use mathlib.Core.Path.{_≡_};
 ghost use lib.Dec.{ltb};
+ghost use lib.ListN.{take};
+ghost use Rattle.io.specs.Counts.{Counts};
+ghost use Rattle.fitter.specs.Answers.{answerOf};
+ghost use Rattle.text.specs.Lines.{line};
 use files::replace_both;
 use fitter::Answer;
 use text::Command;
@@ -123,9 +125,18 @@ fn is_long(len: usize) -> bool
     len > 65536
 }
 
+// The line of an answer, by its number and place.
+fn line_of(answer: Answer, out: &mut [u8; 42]) -> usize
+    ensures { λ r. ⌜ Counts r (now (out .exit)) ⌝ }
+    ensures { λ r. ⌜ take r (now (out .exit)) ≡ line (answerOf answer) ⌝ }
+{
+    let code = fitter::code_of(answer);
+    text::answer_line(code % 4294967296, code / 4294967296, out)
+}
+
 fn print_answer(answer: Answer) {
     let mut line = [0u8; 42];
-    let n = text::answer_line(answer, &mut line);
+    let n = line_of(answer, &mut line);
     print(&line[..n]);
 }
 

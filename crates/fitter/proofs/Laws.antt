@@ -1,3 +1,4 @@
 -- The laws of the definitions in specs/.
 pub mod Judgement
 pub mod Laying
+pub mod Answers

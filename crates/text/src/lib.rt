@@ -4,10 +4,8 @@ ghost use mathlib.Core.List.{_++_};
 ghost use Prim.Native.Nat.{_+_, _≤_};
 ghost use lib.ListN.{length, take};
 ghost use Rattle.io.specs.Counts.{Counts};
-ghost use Rattle.fitter.specs.Answers.{answerOf};
 ghost use Rattle.text.specs.Commands.{Asks};
 ghost use Rattle.text.specs.Lines.{Appended, decimal, line};
-use fitter::Answer;
 
 pub enum Command {
     Fit,
@@ -57,14 +55,13 @@ pub fn append_decimal(out: &mut [u8], at: usize, n: u64) -> usize
 }
 
 // "number and place in decimal, a space between, then a line end"
-pub fn answer_line(answer: Answer, out: &mut [u8; 42]) -> usize
+pub fn answer_line(number: u64, place: u64, out: &mut [u8; 42]) -> usize
     ensures { λ r. ⌜ Counts r (now (out .exit)) ⌝ }
-    ensures { λ r. ⌜ take r (now (out .exit)) ≡ line (answerOf answer) ⌝ }
+    ensures { λ r. ⌜ take r (now (out .exit)) ≡ line (record { number = number; place = place }) ⌝ }
 {
-    let code = fitter::code_of(answer);
-    let a = append_decimal(out, 0, code % 4294967296);
+    let a = append_decimal(out, 0, number);
     let b = append(out, a, b" ");
-    let c = append_decimal(out, b, code / 4294967296);
+    let c = append_decimal(out, b, place);
     append(out, c, b"\n")
 }
 

@@ -14,10 +14,6 @@ use Rattle.io.specs.Counts.{Counts}
 use Rattle.io.specs.Digits.{glyph, digits, Fewest}
 use Rattle.word.specs.Bytes.{part}
 use Rattle.word.proofs.Laws.Lists.{part-whole}
-use Rattle.undo.specs.Calls.{Answer as Numbered}
-use Rattle.fitter.specs.Answers.{answerOf, packed}
-use Rattle.fitter.specs.declared.Answer.{Answer}
-use Rattle.fitter.specs.declared.Answer.the-variants.{Done, JournalUnsound, OrderMalformed, WindowBroken, BadHeader, BadSection, PlacementsDiffer, WrongExternal, Misplaced, RelocationShape, SymbolUnresolved, WrongInstruction, NotOnePair, OutOfReach, PaddingOffBoundary, JournalFull, NothingStands}
 use Rattle.text.specs.Lines.{Appended, decimalIn, decimal, line}
 
 -- ---- appended bytes
@@ -77,38 +73,10 @@ fewest-most n k h f = go (leb k 20) refl
 
 -- ---- the line of an answer
 
-pub number-small : (a : Answer) → answerOf a .number < 17
-number-small Done = omega arith
-number-small JournalUnsound = omega arith
-number-small OrderMalformed = omega arith
-number-small WindowBroken = omega arith
-number-small BadHeader = omega arith
-number-small (BadSection k) = omega arith
-number-small (PlacementsDiffer k) = omega arith
-number-small (WrongExternal k) = omega arith
-number-small (Misplaced k) = omega arith
-number-small (RelocationShape k) = omega arith
-number-small (SymbolUnresolved k) = omega arith
-number-small (WrongInstruction k) = omega arith
-number-small (NotOnePair k) = omega arith
-number-small (OutOfReach k) = omega arith
-number-small (PaddingOffBoundary k) = omega arith
-number-small JournalFull = omega arith
-number-small NothingStands = omega arith
-
-pub packed-number : (a : Answer) → packed (answerOf a) % 4294967296 ≡ answerOf a .number
-packed-number a = omega (arith, number-small a)
-
-pub packed-place : (a : Answer) → packed (answerOf a) / 4294967296 ≡ answerOf a .place
-packed-place a = omega (arith, number-small a)
-
 -- four pieces, each behind the one before
-pub line-of : (a : Answer) (code : ℕ) → code ≡ packed (answerOf a) → {s₀ s₁ s₂ s₃ s₄ : List ℕ} {r₁ r₂ r₃ r₄ : ℕ}
-    → Appended s₀ 0 (decimal (code % 4294967296)) r₁ s₁ → Appended s₁ r₁ (32 ∷ []) r₂ s₂
-    → Appended s₂ r₂ (decimal (code / 4294967296)) r₃ s₃ → Appended s₃ r₃ (10 ∷ []) r₄ s₄
-    → take r₄ s₄ ≡ line (answerOf a)
+pub line-of : (number place : ℕ) {s₀ s₁ s₂ s₃ s₄ : List ℕ} {r₁ r₂ r₃ r₄ : ℕ}
+    → Appended s₀ 0 (decimal number) r₁ s₁ → Appended s₁ r₁ (32 ∷ []) r₂ s₂
+    → Appended s₂ r₂ (decimal place) r₃ s₃ → Appended s₃ r₃ (10 ∷ []) r₄ s₄
+    → take r₄ s₄ ≡ line (record { number = number; place = place })
 unfolding line
-line-of a code e p q r t =
-    let n : code % 4294967296 ≡ answerOf a .number = ap (λ (x : ℕ). x % 4294967296) e ∙ packed-number a in
-    let m : code / 4294967296 ≡ answerOf a .place = ap (λ (x : ℕ). x / 4294967296) e ∙ packed-place a in
-    rw (t .text, r .text, q .text, p .text, n, m)
+line-of number place p q r t = rw (t .text, r .text, q .text, p .text)

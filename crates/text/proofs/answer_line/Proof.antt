@@ -4,9 +4,6 @@ use borrow.Author.Needs.{needs}
 use Rattle.text.proofs.answer_line.Statement.{statement}
 use Rattle.text.proofs.answer_line.Tie as tie
 
-code-of-requires : tie.Need-code-of-requires
-code-of-requires c κs = search needs
-
 append-decimal-requires : tie.Need-append-decimal-requires
 append-decimal-requires c κs = search needs
 
@@ -26,17 +23,17 @@ append-requires-2 : tie.Need-append-requires-2
 append-requires-2 c κs = search needs
 
 returns : tie.Need-returns
-returns c = (
-  c .append2 .ensures .0,
-  line-of (c .before .before .before .before .before .before .before .before .before .before .before .args .answer) (c .before .before .before .before .before .before .before .before .before .before .code-of .result) (c .before .before .before .before .before .before .before .before .before .before .code-of .ensures) (c .before .before .before .before .before .before .before .before .append-decimal .ensures .1) (c .before .before .before .before .before .append .ensures .1)
-      (c .before .before .before .append-decimal2 .ensures .1) (c .append2 .ensures .1),
-)
+returns c =
+    let a = c .before .before .before .before .before .before .before .before .before .before .args in (
+      c .append2 .ensures .0,
+      line-of (a .number) (a .place) (c .before .before .before .before .before .before .before .before .append-decimal .ensures .1) (c .before .before .before .before .before .append .ensures .1)
+          (c .before .before .before .append-decimal2 .ensures .1) (c .append2 .ensures .1),
+    )
 
 pub answer-line-spec : {M : Type 1} → statement M
 answer-line-spec =
     tie.close
     (tie.spec
-    code-of-requires
     append-decimal-requires
     slice-aggregate-append
     append-requires

@@ -1,9 +1,9 @@
--- `aktinoph::files::write_beside` meets its contract. Assumes nothing.
+-- `files::write_beside` meets its contract. Assumes nothing.
 use native.Mathlib.Omega.{arith}
 use Rattle.text.proofs.Laws.Lines.{counts}
 use borrow.Author.Needs.{needs}
-use Rattle.aktinoph.proofs.files.write_beside.Statement.{statement}
-use Rattle.aktinoph.proofs.files.write_beside.Tie as tie
+use Rattle.files.proofs.write_beside.Statement.{statement}
+use Rattle.files.proofs.write_beside.Tie as tie
 
 buffer-requires : tie.Need-buffer-requires
 buffer-requires c κs = search needs

@@ -1,4 +1,4 @@
--- `aktinoph::files::descriptor` is safe and ends. Assumes nothing.
+-- `files::descriptor` is safe and ends. Assumes nothing.
 use mathlib.Core.Path.{_≡_, sym, subst, ap}
 use native.Mathlib.Nat.{lt-of-le-of-lt}
 use lib.IntN.{ℤ, pos, negsuc, natAbs}
@@ -11,8 +11,8 @@ use mir.Syntax.{w32, w64}
 use mir.Val.{Fits, toZ, ofZ}
 use mir.ValLaws.{toZ-ofZ}
 use borrow.Author.Needs.{needs}
-use Rattle.aktinoph.proofs.files.descriptor.Statement.{statement}
-use Rattle.aktinoph.proofs.files.descriptor.Tie as tie
+use Rattle.files.proofs.descriptor.Statement.{statement}
+use Rattle.files.proofs.descriptor.Tie as tie
 
 -- a number that is not below 0
 not-below : (z : ℤ) → ltZ z (pos 0) ≡ false → T (nonNeg z)

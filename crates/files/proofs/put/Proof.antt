@@ -1,16 +1,19 @@
--- `aktinoph::files::put` is safe and ends. Assumes nothing.
+-- `files::put` is safe and ends. Assumes nothing.
 use mathlib.Core.Path.{sym}
 use native.Mathlib.Omega.{arith}
 use lib.Seq.{length-take-le}
 use borrow.Author.Needs.{needs}
-use Rattle.aktinoph.proofs.files.put.Statement.{statement}
-use Rattle.aktinoph.proofs.files.put.Tie as tie
+use Rattle.files.proofs.put.Statement.{statement}
+use Rattle.files.proofs.put.Tie as tie
 
 slice-aggregate-rename : tie.Need-slice-aggregate-rename
 slice-aggregate-rename c = sym (length-take-le _ _ (omega arith))
 
 rename-requires : tie.Need-rename-requires
 rename-requires c κs = search needs
+
+sync-folder-requires : tie.Need-sync-folder-requires
+sync-folder-requires c κs = search needs
 
 returns : tie.Need-returns
 returns c = search needs
@@ -33,6 +36,7 @@ put-spec =
     (tie.spec
     slice-aggregate-rename
     rename-requires
+    sync-folder-requires
     returns
     slice-aggregate-fail
     fail-requires

@@ -148,16 +148,43 @@ fn replace(i: usize, tag: [u8; 7], bytes: &[u8]) {
     }
 }
 
-// Gives a new file the name of the one that it is to replace, or removes it and says why.
+// Gives a new file the name of the one that it is to replace, or removes it and says why. The name is then on its device, so that
+// what is renamed first stays first.
 fn put(name: &[u8], target: usize) -> bool
     requires { ⌜ target ≤ length (now name) ⌝ }
 {
     if os::rename(name, &name[..target]) == 0 {
+        sync_folder(name);
         return true;
     }
     os::fail(&name[..target]);
     os::unlink(name);
     false
+}
+
+// Has the folder of a path on its device, where the file system can.
+fn sync_folder(path: &[u8]) {
+    let n = folder(path);
+    let fd = os::open_read(&path[..n]);
+    if fd < 0 {
+        return;
+    }
+    libc::fsync(fd);
+    libc::close(fd);
+}
+
+// The length of a path's folder: up to its last slash and with it, 0 where it has none.
+fn folder(path: &[u8]) -> usize
+    ensures { λ r. ⌜ Counts r (now (path .entry)) ⌝ }
+{
+    let mut n = path.len();
+    while n > 0 {
+        if path[n - 1] == b'/' {
+            return n;
+        }
+        n -= 1;
+    }
+    0
 }
 
 // Writes a new file beside the one that argument i names, or says why it cannot. The new file's name is put into `name`; the

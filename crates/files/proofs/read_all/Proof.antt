@@ -1,4 +1,4 @@
--- `aktinoph::files::read_all` meets its contract. The measure is what is left of the buffer. Assumes nothing.
+-- `files::read_all` meets its contract. The measure is what is left of the buffer. Assumes nothing.
 use Rattle.text.proofs.Laws.Lines.{counts}
 use mathlib.Core.Path.{_≡_, sym}
 use Prim.Native.Nat.{_-_, _≤_}
@@ -6,8 +6,8 @@ use native.Mathlib.Omega.{arith}
 use lib.ListN.{length}
 use lib.Seq.{length-take-le}
 use borrow.Author.Needs.{needs}
-use Rattle.aktinoph.proofs.files.read_all.Statement.{statement}
-use Rattle.aktinoph.proofs.files.read_all.Tie as tie
+use Rattle.files.proofs.read_all.Statement.{statement}
+use Rattle.files.proofs.read_all.Tie as tie
 
 abbrev Inv-loop : tie.InvT-loop
 Inv-loop fd buf₀ done₀ buf done = (length buf ≡ length buf₀) × (done ≤ length buf)
