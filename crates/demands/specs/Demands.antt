@@ -9,8 +9,8 @@ use Rattle.elf.specs.Sections.{sectionAt, allocated}
 use Rattle.order.specs.Orders.{placementCount}
 use Rattle.order.specs.Windows.{maxImage}
 use Rattle.journal.specs.Journals.{count, Sound}
-use Rattle.undo.specs.Calls.{Files, done, Call, Fit, TakeBack, calling}
-use Rattle.undo.specs.Histories.{Start, Holds}
+use Rattle.history.specs.Calls.{Files, done, Call, Fit, TakeBack, calling}
+use Rattle.history.specs.Histories.{Start, Holds}
 use Rattle.fitter.specs.Judgement.{judgement}
 use Rattle.demands.specs.Rules.{Rules}
 use Rattle.demands.specs.First.{Checks, none, one, FirstBroken, table}

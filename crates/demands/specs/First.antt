@@ -10,7 +10,7 @@ use Rattle.elf.specs.Entries.{relocationCount}
 use Rattle.order.specs.Orders.{base}
 use Rattle.validate.specs.Sound.{SoundSection}
 use Rattle.journal.specs.Journals.{Sound}
-use Rattle.undo.specs.Calls.{Files}
+use Rattle.history.specs.Calls.{Files}
 use Rattle.demands.specs.Rules.{OrderWell, WindowWell, HeaderWell, TableWell, PlacedAsAllocated, ValuedIfUndefined, PlacedIfAllocated, Shape, SymbolResolves, FormIs, OnePair, Reaches, OnBoundary, Room}
 
 -- rules with their numbers, each a proposition on a place; all of them are looked at for one place before the next

@@ -19,9 +19,9 @@ use Rattle.types.specs.declared.Decision.the-variants.{Store}
 use Rattle.rela.specs.declared.sites.Site.{Site}
 use Rattle.rela.specs.Sites.{siteAt, count, effect, offset, A}
 use Rattle.rela.specs.Shape.{end}
-use Rattle.rules.specs.declared.pairs.Pair.the-variants.{At}
-use Rattle.rules.specs.Values.{valueAt, S, T}
-use Rattle.rules.specs.Pairs.{pairOf}
+use Rattle.values.specs.declared.pairs.Pair.the-variants.{At}
+use Rattle.values.specs.Values.{valueAt, S, T}
+use Rattle.values.specs.Pairs.{pairOf}
 use Rattle.rules.specs.Rules.{symbol}
 use Rattle.patch.specs.Sections.{distanceAt}
 use Rattle.patch.specs.Promises.{ReadsBack, AddUp}

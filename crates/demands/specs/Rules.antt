@@ -26,7 +26,7 @@ use Rattle.lookup.specs.Values.{externalValue}
 use Rattle.lookup.specs.Addresses.{addresses, placedAt}
 use Rattle.journal.specs.Journals.{maxEntries, oldAt, count as countOf, held, Sound}
 use Rattle.journal.specs.Plans.{spanOf}
-use Rattle.undo.specs.Calls.{Files}
+use Rattle.history.specs.Calls.{Files}
 use Rattle.place.specs.Placements.{isGiven, isAllocated}
 use Rattle.placing.specs.Placing.{endOf, unit, hasBytes}
 use Rattle.symbols.specs.declared.SymbolValue.{SymbolValue}
@@ -35,8 +35,8 @@ use Rattle.rela.specs.declared.shape.Previous.the-variants.{Entry}
 use Rattle.rela.specs.Sites.{siteAt, count, entry, effect, offset, A, P, found}
 use Rattle.rela.specs.Effects.{isStore, isRefused, stackWidth, needsPair}
 use Rattle.rela.specs.Shape.{end, previous}
-use Rattle.rules.specs.Values.{valueAt, S, T}
-use Rattle.rules.specs.Pairs.{isPair, howMany}
+use Rattle.values.specs.Values.{valueAt, S, T}
+use Rattle.values.specs.Pairs.{isPair, howMany}
 use Rattle.rules.specs.Rules.{isResolved, symbol, isData, distanceWell}
 use Rattle.fitter.specs.Judgement.{planOf}
 

@@ -3,7 +3,7 @@ use Prim.Native.Nat.{ℕ, _+_, _*_}
 use mathlib.Core.Bool.{cond}
 use mathlib.Core.List.{List}
 use lib.Dec.{eqb}
-use Rattle.undo.specs.Calls.{Answer as Numbered, done}
+use Rattle.history.specs.Calls.{Answer as Numbered, done}
 use Rattle.journal.specs.Plans.{Verdict, refused, plan}
 use Rattle.fitter.specs.declared.Answer.{Answer}
 use Rattle.fitter.specs.declared.Answer.the-variants.{Done, JournalUnsound, OrderMalformed, WindowBroken, BadHeader, BadSection, PlacementsDiffer, WrongExternal, Misplaced, RelocationShape, SymbolUnresolved, WrongInstruction, NotOnePair, OutOfReach, PaddingOffBoundary, JournalFull, NothingStands}

@@ -16,9 +16,9 @@ use Rattle.place.specs.declared.Fault.the-variants.{Nowhere, At}
 use Rattle.place.specs.Placements.{placementCheck}
 use Rattle.place.specs.Externals.{externalCheck}
 use Rattle.placing.specs.Placing.{placingCheck}
-use Rattle.relocate.specs.declared.search.RelocationCheck.{RelocationCheck}
-use Rattle.relocate.specs.declared.search.RelocationCheck.the-variants.{Passed as AllKept, Broken}
-use Rattle.relocate.specs.Search.{number, relocationCheck}
+use Rattle.findings.specs.declared.RelocationCheck.{RelocationCheck}
+use Rattle.findings.specs.declared.RelocationCheck.the-variants.{Passed as AllKept, Broken}
+use Rattle.findings.specs.Search.{number, relocationCheck}
 use Rattle.patch.specs.Sections.{relocated}
 use Rattle.spans.specs.Pieces.{pieces}
 

@@ -20,11 +20,11 @@ use Rattle.types.specs.declared.Decision.the-variants.{Marker, Align, Store, Re
 use Rattle.riscv.specs.Halves.{low}
 use Rattle.riscv.specs.Ranges.{distance}
 use Rattle.rela.specs.declared.sites.Site.{Site}
-use Rattle.rules.specs.declared.pairs.Pair.the-variants.{At}
+use Rattle.values.specs.declared.pairs.Pair.the-variants.{At}
 use Rattle.rela.specs.Sites.{count, effect, offset, A, P, found}
-use Rattle.rules.specs.Values.{S, T, valueAt}
+use Rattle.values.specs.Values.{S, T, valueAt}
 use Rattle.rela.specs.Shape.{end}
-use Rattle.rules.specs.Pairs.{pairOf}
+use Rattle.values.specs.Pairs.{pairOf}
 use Rattle.rules.specs.Rules.{symbol}
 use Rattle.patch.specs.Patches.{highPart}
 use Rattle.patch.specs.Sections.{sumAt, distanceAt, pairDistance}

@@ -14,11 +14,11 @@ use Rattle.elf.specs.Entries.{bytesOf}
 use Rattle.types.specs.declared.Decision.{Decision}
 use Rattle.types.specs.declared.Decision.the-variants.{Marker, Align, Store, Refused}
 use Rattle.rela.specs.declared.sites.Site.{Site}
-use Rattle.rules.specs.declared.pairs.Pair.{Pair}
-use Rattle.rules.specs.declared.pairs.Pair.the-variants.{At, NotOne}
+use Rattle.values.specs.declared.pairs.Pair.{Pair}
+use Rattle.values.specs.declared.pairs.Pair.the-variants.{At, NotOne}
 use Rattle.rela.specs.Sites.{siteAt, count, effect, offset, A, P, found}
-use Rattle.rules.specs.Values.{S, T, valueAt}
-use Rattle.rules.specs.Pairs.{pairOf}
+use Rattle.values.specs.Values.{S, T, valueAt}
+use Rattle.values.specs.Pairs.{pairOf}
 use Rattle.rules.specs.Rules.{symbol}
 use Rattle.patch.specs.Patches.{patched}
 

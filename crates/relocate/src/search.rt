@@ -1,16 +1,14 @@
 // Checks 9 to 14 over all relocations: the first that breaks a rule, and which.
 ghost use mathlib.Core.Path.{_≡_};
 ghost use mathlib.Core.Bool.{true};
-ghost use Prim.Native.Nat.{_+_};
-ghost use Rattle.word.specs.Whole.{signed, plus};
 ghost use Rattle.validate.specs.Sound.{SoundObject};
 ghost use Rattle.order.specs.Orders.{reading};
 ghost use Rattle.symbols.specs.Values.{SymbolsOf};
-ghost use Rattle.rules.specs.Values.{S, T};
 ghost use Rattle.rela.specs.Shape.{previous as «the-previous»};
-ghost use Rattle.relocate.specs.Search.{finding, isBroken, relocationCheck};
+ghost use Rattle.findings.specs.Search.{finding, isBroken, relocationCheck};
 ghost use Rattle.rela.specs.Facts.{There, Placed};
-use elf::Relocation;
+use findings::Finding;
+use findings::RelocationCheck;
 use order::Counts;
 use order::Reading;
 use rela::shape::Previous;
@@ -23,44 +21,10 @@ use rules::checks::is_in_reach;
 use rules::checks::is_on_boundary;
 use rules::checks::is_paired;
 use rules::checks::is_symbol_kept;
-use symbols::SymbolValue;
 use symbols::Symbols;
 use types::decide;
-use word::Address;
-
-// Which of checks 9 to 14 a relocation breaks, if it breaks one.
-pub enum Finding {
-    Kept,
-    BadShape,
-    BadSymbol,
-    BadForm,
-    NoPair,
-    OutOfReach,
-    OffBoundary,
-}
-
-// What checks 9 to 14 find: nothing, or the first broken rule of the first relocation that breaks one, and its number.
-pub enum RelocationCheck {
-    Passed,
-    Broken(Finding, u32),
-}
-
-// T: the symbol's value with the addend.
-pub fn target_of(value: SymbolValue, addend: u64) -> u32
-    ensures { λ r. ⌜ r ≡ T (S value) (signed 64 addend) ⌝ }
-{
-    match value {
-        SymbolValue::Resolved(s) => word::add32(s, addend),
-        SymbolValue::Unresolved => word::add32(0, addend),
-    }
-}
-
-// P: the place's address. Of a non-marker it is below 2^32.
-pub fn place_of(site: Site, here: Relocation) -> Address
-    ensures { λ r. ⌜ r .0 ≡ plus 32 (site .address .0) (here .offset .0) ⌝ }
-{
-    Address(word::add32(site.address.0, here.offset.0 as u64))
-}
+use values::place_of;
+use values::target_of;
 
 // The first of checks 9 to 14 that relocation j breaks.
 fn find_broken(

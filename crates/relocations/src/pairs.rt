@@ -7,14 +7,14 @@ ghost use Rattle.elf.specs.Headers.{sectionCount};
 ghost use Rattle.elf.specs.Sections.{sectionAt, loaded};
 ghost use Rattle.validate.specs.Sound.{SoundObject};
 ghost use Rattle.order.specs.Orders.{reading};
-ghost use Rattle.relocate.specs.Search.{relocationCheck, number as «the-number»};
+ghost use Rattle.findings.specs.Search.{relocationCheck, number as «the-number»};
 ghost use Rattle.rela.specs.Facts.{Placed};
 use super::lines;
+use findings::Finding;
+use findings::RelocationCheck;
 use order::Counts;
 use order::Reading;
 use place::Fault;
-use relocate::search::Finding;
-use relocate::search::RelocationCheck;
 use relocate::search::check_relocations;
 use validate::ObjectCheck;
 

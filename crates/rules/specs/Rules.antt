@@ -22,11 +22,11 @@ use Rattle.types.specs.declared.Decision.the-variants.{Marker, Align, Store, Re
 use Rattle.riscv.specs.Forms.{hasForm}
 use Rattle.riscv.specs.Ranges.{distance, rangeOf, reaches}
 use Rattle.rela.specs.declared.sites.Site.{Site}
-use Rattle.rules.specs.declared.pairs.Pair.{Pair}
-use Rattle.rules.specs.declared.pairs.Pair.the-variants.{At, NotOne}
+use Rattle.values.specs.declared.pairs.Pair.{Pair}
+use Rattle.values.specs.declared.pairs.Pair.the-variants.{At, NotOne}
 use Rattle.rela.specs.Sites.{entry, offset, effect, P, found}
 use Rattle.rela.specs.Effects.{isStore, needsPair}
-use Rattle.rules.specs.Pairs.{pairOf}
+use Rattle.values.specs.Pairs.{pairOf}
 
 -- ---- check 10
 

@@ -11,8 +11,6 @@ ghost use Rattle.rela.specs.Sites.{entry, effect, offset};
 ghost use Rattle.rela.specs.Effects.{touched, needsPair};
 ghost use Rattle.rules.specs.Rules.{isResolved, inTarget, symbolWell, isData, standsWell, formWell, isOne, pairWell, reachesWell, distanceWell, boundaryWell};
 ghost use Rattle.rela.specs.Facts.{There, InTable, isWidth};
-use super::pairs::Pair;
-use super::pairs::hi20_pair;
 use fields::Field;
 use rela::effects::is_store;
 use rela::effects::needs_pair;
@@ -26,6 +24,9 @@ use symbols::Symbols;
 use types::Calculation;
 use types::Decision;
 use types::decide;
+use values::pairs::Pair;
+use values::pairs::hi20_pair;
+use values::read_bytes;
 use word::Address;
 
 fn is_resolved(value: SymbolValue) -> bool
@@ -74,23 +75,6 @@ pub fn is_symbol_kept(
         return true;
     }
     is_in_target(object, symbols, site, j)
-}
-
-// The number that n bytes spell, the lowest first.
-pub fn read_bytes(s: &[u8], at: usize, n: usize) -> u64
-    requires { ⌜ (at + n ≤ length (now s)) × (isWidth n ≡ true) ⌝ }
-    ensures { λ r. ⌜ r ≡ leAt n (now (s .entry)) at ⌝ }
-{
-    if n == 1 {
-        return word::read8(s, at) as u64;
-    }
-    if n == 2 {
-        return word::read16(s, at) as u64;
-    }
-    if n == 4 {
-        return word::read32(s, at) as u64;
-    }
-    word::read64(s, at)
 }
 
 fn is_data(form: Form) -> bool

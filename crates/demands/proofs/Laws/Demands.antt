@@ -17,18 +17,18 @@ use Rattle.validate.specs.declared.ObjectCheck.the-variants.{Passed, BadHeader,
 use Rattle.validate.specs.Rules.{objectCheck}
 use Rattle.journal.specs.Journals.{count, held, Sound, sound, noRoom}
 use Rattle.journal.specs.Plans.{Piece, Verdict, refused, plan, spanOf}
-use Rattle.undo.specs.Calls.{Answer, done, journalUnsound, windowBroken, noneStands, journalFull, Files, refuse, succeed, installed, settle, install, rolledBack, rollback, Install, Rollback, Fit, TakeBack, calling}
+use Rattle.history.specs.Calls.{Answer, done, journalUnsound, windowBroken, noneStands, journalFull, Files, refuse, succeed, installed, settle, install, rolledBack, rollback, Install, Rollback, Fit, TakeBack, calling}
 use Rattle.journal.proofs.Laws.Sound.{test-sound, sound-test}
-use Rattle.undo.proofs.Laws.Corollaries.{refusal-keeps}
-use Rattle.undo.proofs.Laws.History.{history-holds}
+use Rattle.history.proofs.Laws.Corollaries.{refusal-keeps}
+use Rattle.history.proofs.Laws.History.{history-holds}
 use Rattle.place.specs.declared.Fault.{Fault}
 use Rattle.place.specs.declared.Fault.the-variants.{Nowhere, At}
 use Rattle.place.specs.Placements.{placementCheck}
 use Rattle.place.specs.Externals.{externalCheck}
 use Rattle.placing.specs.Placing.{placingCheck}
-use Rattle.relocate.specs.declared.search.RelocationCheck.{RelocationCheck}
-use Rattle.relocate.specs.declared.search.RelocationCheck.the-variants.{Passed as AllKept, Broken}
-use Rattle.relocate.specs.Search.{number, relocationCheck}
+use Rattle.findings.specs.declared.RelocationCheck.{RelocationCheck}
+use Rattle.findings.specs.declared.RelocationCheck.the-variants.{Passed as AllKept, Broken}
+use Rattle.findings.specs.Search.{number, relocationCheck}
 use Rattle.place.proofs.Laws.Theorems.{nothing-to-place as «none-placed»}
 use Rattle.fitter.specs.Judgement.{afterObject, afterFault, afterRelocations, planOf, judgement}
 use Rattle.fitter.proofs.Laws.Judgement.{broken-is, some-number, Fits, plan-fits}

@@ -4,7 +4,7 @@ use mathlib.Core.Path.{_≡_, refl, sym, _∙_, subst}
 use Prim.Native.Nat.{ℕ, _<_}
 use native.Mathlib.Omega.{arith}
 use native.Mathlib.Decide.{decLt}
-use Rattle.undo.specs.Calls.{Answer, done}
+use Rattle.history.specs.Calls.{Answer, done}
 use Rattle.demands.specs.First.{Line, nil, rule, Checks, none, check, HoldAt, HoldBelow, AllHold, BrokenAt, FirstBroken}
 
 -- ---- at one place

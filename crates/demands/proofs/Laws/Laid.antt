@@ -29,8 +29,8 @@ use Rattle.rela.specs.Sites.{siteAt, count, entry, effect, offset, A, P, found}
 use Rattle.rela.specs.Effects.{isStore, touched}
 use Rattle.rela.specs.Shape.{end, staysInside}
 use Rattle.rela.proofs.Laws.Decisions.{store-width, width-some}
-use Rattle.rules.specs.Values.{valueAt, S, T}
-use Rattle.relocate.proofs.Laws.Search.{kept-rules}
+use Rattle.values.specs.Values.{valueAt, S, T}
+use Rattle.findings.proofs.Laws.Search.{kept-rules}
 use Rattle.patch.specs.Facts.{Checked}
 use Rattle.patch.specs.Sections.{pairDistance, relaOf, relocated, after}
 use Rattle.patch.specs.Promises.{touches, untouched, stackAt, Stored, ReadsBack}

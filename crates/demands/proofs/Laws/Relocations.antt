@@ -24,8 +24,8 @@ use Rattle.rela.specs.declared.shape.Previous.the-variants.{Nothing, Entry}
 use Rattle.rela.specs.Sites.{entry, effect, offset, A, P, found}
 use Rattle.rela.specs.Effects.{isStore, isRefused, takesPair, needsPair}
 use Rattle.rela.specs.Shape.{neverFalls, end, staysInside, previous, sharesPlace, clears, noOverlap, addendWell, shapeWell}
-use Rattle.rules.specs.Pairs.{pairOf}
-use Rattle.rules.specs.declared.pairs.Pair.the-variants.{At, NotOne}
+use Rattle.values.specs.Pairs.{pairOf}
+use Rattle.values.specs.declared.pairs.Pair.the-variants.{At, NotOne}
 use Rattle.rules.specs.Rules.{isResolved, symbol, inTarget, symbolWell, isData, standsWell, asksWell, formWell, isOne, pairWell, boundaryWell}
 use Rattle.demands.specs.Rules.{SharePlace, PaddingWell, ShapeWell, SymbolWell, FormWell, PairWell, BoundaryWell}
 

@@ -23,7 +23,7 @@ use Rattle.order.specs.Windows.{lengthAllowed, windowAllowed}
 use Rattle.lookup.specs.Addresses.{placedAt, addresses}
 use Rattle.journal.specs.Journals.{entry, entries, total, isBlank, endsWithin, sound, Sound, noRoom}
 use Rattle.journal.specs.Plans.{end, lowest, spanOf}
-use Rattle.undo.specs.Calls.{Files}
+use Rattle.history.specs.Calls.{Files}
 use Rattle.journal.proofs.Laws.Sound.{test-sound}
 use Rattle.place.specs.Placements.{isAllocated}
 use Rattle.placing.specs.Placing.{endOf, unit, aligned, endsInMemory, hasBytes, inWindow, share, apart, misplaced}

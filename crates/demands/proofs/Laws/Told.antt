@@ -26,7 +26,7 @@ use Rattle.order.specs.Windows.{windowAllowed}
 use Rattle.lookup.specs.Addresses.{addresses}
 use Rattle.journal.specs.Journals.{count, held, Sound, sound, noRoom}
 use Rattle.journal.specs.Plans.{Verdict, refused, plan, spanOf}
-use Rattle.undo.specs.Calls.{Answer, journalUnsound, journalFull, Files, refuse, succeed, installed, settle, install}
+use Rattle.history.specs.Calls.{Answer, journalUnsound, journalFull, Files, refuse, succeed, installed, settle, install}
 use Rattle.journal.proofs.Laws.Sound.{test-sound, sound-test}
 use Rattle.place.specs.declared.Fault.{Fault}
 use Rattle.place.specs.declared.Fault.the-variants.{Nowhere, At}
@@ -39,12 +39,12 @@ use Rattle.types.specs.declared.Decision.{Decision}
 use Rattle.rela.specs.declared.sites.Site.{Site}
 use Rattle.rela.specs.Shape.{shapeWell}
 use Rattle.rela.specs.Sites.{effect, A, P}
-use Rattle.relocate.specs.declared.search.Finding.{Finding}
-use Rattle.relocate.specs.declared.search.Finding.the-variants.{Kept, BadShape, BadSymbol, BadForm, NoPair, OutOfReach, OffBoundary}
-use Rattle.relocate.specs.declared.search.RelocationCheck.the-variants.{Passed as AllKept, Broken}
-use Rattle.rules.specs.Values.{valueAt, S, T}
+use Rattle.findings.specs.declared.Finding.{Finding}
+use Rattle.findings.specs.declared.Finding.the-variants.{Kept, BadShape, BadSymbol, BadForm, NoPair, OutOfReach, OffBoundary}
+use Rattle.findings.specs.declared.RelocationCheck.the-variants.{Passed as AllKept, Broken}
+use Rattle.values.specs.Values.{valueAt, S, T}
 use Rattle.rules.specs.Rules.{symbolWell, formWell, pairWell, distanceWell, boundaryWell}
-use Rattle.relocate.specs.Search.{number, finding, findingOf, isBroken, relocationCheck}
+use Rattle.findings.specs.Search.{number, finding, findingOf, isBroken, relocationCheck}
 use Rattle.fitter.specs.Judgement.{afterObject, afterFault, afterRelocations, planOf, judgement}
 use Rattle.demands.specs.Rules.{OrderWell, WindowWell, HeaderWell, TableWell, PlacedAsAllocated, ValuedIfUndefined, PlacedIfAllocated, site, entryOf, Shape, SymbolResolves, FormIs, OnePair, Reaches, OnBoundary, Room}
 use Rattle.demands.specs.First.{Line, nil, rule, Checks, none, check, HoldAt, BrokenAt, one, each, table}

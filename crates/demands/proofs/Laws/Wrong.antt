@@ -23,8 +23,8 @@ use Rattle.order.specs.Windows.{lengthAllowed, windowAllowed}
 use Rattle.lookup.specs.Addresses.{placedAt, addresses}
 use Rattle.journal.specs.Journals.{count, entry, total, sound}
 use Rattle.journal.specs.Plans.{overwritten}
-use Rattle.undo.specs.Calls.{Answer, done, Files, succeed, Install, Rollback, Fit, TakeBack, calling, run}
-use Rattle.undo.specs.Histories.{Standing, begin, spans, laid, stand, fall, told, Start}
+use Rattle.history.specs.Calls.{Answer, done, Files, succeed, Install, Rollback, Fit, TakeBack, calling, run}
+use Rattle.history.specs.Histories.{Standing, begin, spans, laid, stand, fall, told, Start}
 use Rattle.place.specs.Placements.{isAllocated}
 use Rattle.placing.specs.Placing.{hasBytes}
 use Rattle.symbols.specs.Values.{symbolValue}

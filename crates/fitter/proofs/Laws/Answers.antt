@@ -2,7 +2,7 @@
 use mathlib.Core.Path.{_≡_, ap, _∙_}
 use Prim.Native.Nat.{ℕ, _/_, _%_, _<_}
 use native.Mathlib.Omega.{arith}
-use Rattle.undo.specs.Calls.{Answer as Numbered}
+use Rattle.history.specs.Calls.{Answer as Numbered}
 use Rattle.fitter.specs.Answers.{answerOf, packed}
 use Rattle.fitter.specs.declared.Answer.{Answer}
 use Rattle.fitter.specs.declared.Answer.the-variants.{Done, JournalUnsound, OrderMalformed, WindowBroken, BadHeader, BadSection, PlacementsDiffer, WrongExternal, Misplaced, RelocationShape, SymbolUnresolved, WrongInstruction, NotOnePair, OutOfReach, PaddingOffBoundary, JournalFull, NothingStands}

@@ -10,10 +10,10 @@ use Rattle.order.proofs.Laws.Sound.{reading-sound}
 use Rattle.elf.specs.Headers.{sectionCount}
 use Rattle.journal.specs.Plans.{spanOf as spanOfPieces}
 use Rattle.journal.specs.Journals.{count, held, noRoom}
-use Rattle.undo.specs.Writes.{saved}
-use Rattle.undo.specs.Calls.{Files}
-use Rattle.undo.specs.Facts.{Savable}
-use Rattle.undo.proofs.Laws.Install.{full, done-with, plan-savable}
+use Rattle.history.specs.Writes.{saved}
+use Rattle.history.specs.Calls.{Files}
+use Rattle.history.specs.Facts.{Savable}
+use Rattle.history.proofs.Laws.Install.{full, done-with, plan-savable}
 use Rattle.spans.specs.Spans.{highest, spanOf}
 use Rattle.fitter.specs.Judgement.{planOf, judgement}
 use Rattle.fitter.proofs.Laws.Judgement.{gives-plan}

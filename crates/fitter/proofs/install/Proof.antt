@@ -3,9 +3,9 @@ use mathlib.Core.Path.{_≡_, sym, _∙_}
 use mathlib.Core.Bool.{true, false}
 use lib.ListN.{length}
 use borrow.Author.Tests.{not-true, not-false}
-use Rattle.undo.specs.Calls.{Files}
+use Rattle.history.specs.Calls.{Files}
 use Rattle.journal.specs.Journals.{sound}
-use Rattle.undo.proofs.Laws.Install.{unsound, refused-by}
+use Rattle.history.proofs.Laws.Install.{unsound, refused-by}
 use Rattle.fitter.specs.Judgement.{judgement}
 use Rattle.fitter.proofs.Laws.Judgement.{verdict-refused, verdict-done, done-fits, done-formed}
 use borrow.Author.Needs.{needs}

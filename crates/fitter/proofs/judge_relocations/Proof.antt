@@ -4,7 +4,7 @@ use Rattle.order.specs.Orders.{base}
 use Rattle.lookup.specs.Addresses.{addresses}
 use Rattle.validate.proofs.Laws.Objects.{sound-object}
 use Rattle.rela.specs.Facts.{Placed}
-use Rattle.relocate.specs.Search.{relocationCheck}
+use Rattle.findings.specs.Search.{relocationCheck}
 use Rattle.relocate.proofs.Laws.Sites.{placed}
 use Rattle.fitter.proofs.Laws.Judgement.{broken-is, verdict-broken, gives-9-to-14, gives-plan}
 use borrow.Author.Needs.{needs}

@@ -7,7 +7,7 @@ use borrow.Rule.Slice.PartMut.{putMid, mid-len}
 use Rattle.lookup.specs.Addresses.{addresses}
 use Rattle.elf.specs.Sections.{sectionAt}
 use Rattle.rela.specs.Facts.{Placed}
-use Rattle.relocate.specs.Search.{relocationCheck}
+use Rattle.findings.specs.Search.{relocationCheck}
 use Rattle.patch.specs.Sections.{relocated}
 use Rattle.fitter.proofs.Laws.Laying.{is-sound, is-placed, relocated-length, put-part}
 use borrow.Author.Needs.{needs}

@@ -1,7 +1,7 @@
 -- `fitter::refusal` meets its contract. Assumes nothing.
 use mathlib.Core.Path.{sym, ap, _∙_}
 use Rattle.word.proofs.Laws.Tests.{never}
-use Rattle.relocate.specs.Search.{isBroken}
+use Rattle.findings.specs.Search.{isBroken}
 use borrow.Author.Needs.{needs}
 use Rattle.fitter.proofs.refusal.Statement.{statement}
 use Rattle.fitter.proofs.refusal.Tie as tie

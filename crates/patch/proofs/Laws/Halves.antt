@@ -23,15 +23,15 @@ use Rattle.types.specs.Types.{table, among, lookup, decision}
 use Rattle.riscv.specs.Halves.{low}
 use Rattle.riscv.proofs.Laws.Halves.{halves-sum}
 use Rattle.rela.specs.declared.sites.Site.{Site}
-use Rattle.rules.specs.declared.pairs.Pair.{Pair}
-use Rattle.rules.specs.declared.pairs.Pair.the-variants.{At, NotOne}
+use Rattle.values.specs.declared.pairs.Pair.{Pair}
+use Rattle.values.specs.declared.pairs.Pair.the-variants.{At, NotOne}
 use Rattle.rela.specs.Sites.{count, entry, effect, offset, A, P, found}
-use Rattle.rules.specs.Values.{S, T, valueAt}
+use Rattle.values.specs.Values.{S, T, valueAt}
 use Rattle.rela.specs.Effects.{needsPair}
-use Rattle.rules.specs.Pairs.{PCREL_HI20, isPair, pairOf}
+use Rattle.values.specs.Pairs.{PCREL_HI20, isPair, pairOf}
 use Rattle.rules.specs.Rules.{symbol, isOne, pairWell}
-use Rattle.rules.proofs.Laws.Pairs.{pair-there}
-use Rattle.relocate.proofs.Laws.Search.{kept-rules}
+use Rattle.values.proofs.Laws.Pairs.{pair-there}
+use Rattle.findings.proofs.Laws.Search.{kept-rules}
 use Rattle.patch.specs.Patches.{highPart}
 use Rattle.patch.specs.Sections.{distanceAt, distanceOf, pairDistance, after}
 use Rattle.patch.specs.Promises.{stackAt, Stored, ReadsBack, AddUp, Halves}

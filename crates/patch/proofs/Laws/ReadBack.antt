@@ -28,7 +28,7 @@ use Rattle.types.specs.declared.Decision.{Decision}
 use Rattle.types.specs.declared.Decision.the-variants.{Marker, Align, Store, Refused}
 use Rattle.rela.specs.declared.sites.Site.{Site}
 use Rattle.rela.specs.Sites.{count, effect, offset, A, P, found}
-use Rattle.rules.specs.Values.{S as value, T, valueAt}
+use Rattle.values.specs.Values.{S as value, T, valueAt}
 use Rattle.rela.specs.Effects.{touched, isStore, stacks, stackWidth}
 use Rattle.rela.specs.Shape.{end, shapeWell}
 use Rattle.rules.specs.Rules.{reachesWell, distanceWell}
@@ -36,7 +36,7 @@ use Rattle.rela.specs.Facts.{isDataField}
 use Rattle.rela.proofs.Laws.Decisions.{fieldBytes, store-width, store-bytes, store-data, width-some}
 use Rattle.rela.proofs.Laws.Sites.{store-inside}
 use Rattle.rela.proofs.Laws.Shape.{shape-inside}
-use Rattle.relocate.proofs.Laws.Search.{kept-rules}
+use Rattle.findings.proofs.Laws.Search.{kept-rules}
 use Rattle.patch.specs.Patches.{patched}
 use Rattle.patch.specs.Sections.{sumAt, pairDistance, after}
 use Rattle.patch.specs.Promises.{stackStep, stackOn, stackAt, Said, Stored, ReadsBack}

@@ -8,7 +8,7 @@ use Rattle.rela.proofs.Laws.Decisions.{store-width, store-data}
 use Rattle.rela.proofs.Laws.Sites.{found-length, store-inside}
 use Rattle.rela.proofs.Laws.Shape.{shape-inside}
 use Rattle.rules.proofs.Laws.Rules.{resolved-there, pair-symbol}
-use Rattle.relocate.proofs.Laws.Search.{kept-rules}
+use Rattle.findings.proofs.Laws.Search.{kept-rules}
 use Rattle.patch.proofs.Laws.Sections.{applied-read, applied-marker, place-read}
 use borrow.Author.Needs.{needs}
 use Rattle.patch.proofs.apply.Statement.{statement}

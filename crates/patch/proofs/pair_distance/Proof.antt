@@ -5,8 +5,8 @@ use native.Mathlib.Omega.{arith}
 use Rattle.elf.specs.Entries.{symbolCount}
 use Rattle.validate.proofs.Laws.Bounds.{symbol-inside}
 use Rattle.rela.specs.Sites.{entry}
-use Rattle.rules.specs.Pairs.{pairOf}
-use Rattle.rules.proofs.Laws.Pairs.{pair-there}
+use Rattle.values.specs.Pairs.{pairOf}
+use Rattle.values.proofs.Laws.Pairs.{pair-there}
 use Rattle.patch.specs.Sections.{distanceOf}
 use Rattle.patch.proofs.Laws.Sections.{symbol-read}
 use borrow.Author.Needs.{needs}

@@ -4,7 +4,7 @@ use native.Mathlib.Omega.{arith}
 use lib.IntN.{pos, _+ℤ_}
 use Rattle.word.specs.Whole.{residue, signed}
 use Rattle.word.proofs.Laws.Whole.{plus-signed}
-use Rattle.rules.specs.Values.{S}
+use Rattle.values.specs.Values.{S}
 use borrow.Author.Needs.{needs}
 use Rattle.patch.proofs.symbol_sum.Statement.{statement}
 use Rattle.patch.proofs.symbol_sum.Tie as tie

@@ -2,7 +2,7 @@
 use mathlib.Core.Path.{sym, _∙_}
 use native.Mathlib.Omega.{arith}
 use borrow.Author.Tests.{not-true, not-false}
-use Rattle.undo.proofs.Laws.Install.{savable}
+use Rattle.history.proofs.Laws.Install.{savable}
 use borrow.Author.Needs.{needs}
 use Rattle.rollbacks.proofs.saved.Statement.{statement}
 use Rattle.rollbacks.proofs.saved.Tie as tie

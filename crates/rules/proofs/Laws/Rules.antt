@@ -24,7 +24,7 @@ use Rattle.types.specs.declared.Decision.the-variants.{Marker, Align, Store, Re
 use Rattle.types.specs.Types.{decision}
 use Rattle.rela.specs.declared.sites.Site.{Site}
 use Rattle.rela.specs.Sites.{entry, offset, effect, A, P, found}
-use Rattle.rules.specs.Values.{S, T}
+use Rattle.values.specs.Values.{S, T}
 use Rattle.rela.specs.Effects.{isStore, touched, needsPair}
 use Rattle.rela.specs.Shape.{end}
 use Rattle.rules.specs.Rules.{isResolved, inTarget, symbolWell, standsWell, asksWell, formWell, distanceWell, boundaryWell}

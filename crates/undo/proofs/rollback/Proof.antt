@@ -3,7 +3,7 @@ use mathlib.Core.Path.{sym, _∙_}
 use native.Mathlib.Omega.{arith}
 use borrow.Author.Tests.{not-true, not-false}
 use Rattle.journal.proofs.Laws.Sound.{test-sound}
-use Rattle.undo.proofs.Laws.Rollback.{undoable, unsound, too-long, none-stands, done-with}
+use Rattle.history.proofs.Laws.Rollback.{undoable, unsound, too-long, none-stands, done-with}
 use borrow.Author.Needs.{needs}
 use Rattle.undo.proofs.rollback.Statement.{statement}
 use Rattle.undo.proofs.rollback.Tie as tie

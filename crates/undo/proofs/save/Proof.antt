@@ -1,5 +1,5 @@
 -- `undo::save` meets its contract. Assumes nothing.
-use Rattle.undo.specs.Writes.{saving, saved}
+use Rattle.history.specs.Writes.{saving, saved}
 use Rattle.journal.specs.Plans.{overwritten}
 use borrow.Author.Needs.{needs}
 use Rattle.undo.proofs.save.Statement.{statement}

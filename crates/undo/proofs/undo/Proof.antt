@@ -1,5 +1,5 @@
 -- `undo::undo` meets its contract. Assumes nothing.
-use Rattle.undo.proofs.Laws.Rollback.{newest-safe, newest-undone}
+use Rattle.history.proofs.Laws.Rollback.{newest-safe, newest-undone}
 use native.Mathlib.Omega.{arith}
 use borrow.Author.Needs.{needs}
 use Rattle.undo.proofs.undo.Statement.{statement}

@@ -7,10 +7,10 @@ use Rattle.types.specs.declared.Decision.the-variants.{Align}
 use Rattle.types.specs.Types.{decision}
 use Rattle.symbols.specs.Values.{symbolValue}
 use Rattle.rela.specs.Sites.{entry, effect, A, P}
-use Rattle.rules.specs.Values.{S, T, valueAt}
+use Rattle.values.specs.Values.{S, T, valueAt}
 use Rattle.rela.specs.Shape.{shapeWell}
 use Rattle.rules.specs.Rules.{symbolWell, formWell, pairWell, distanceWell, boundaryWell}
-use Rattle.relocate.specs.Search.{finding}
+use Rattle.findings.specs.Search.{finding}
 use Rattle.rela.proofs.Laws.Shape.{shape-inside, padded}
 use Rattle.rules.proofs.Laws.Rules.{resolved-there, pair-symbol, reach-read, boundary-read}
 use borrow.Author.Needs.{needs}

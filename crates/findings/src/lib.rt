@@ -1,0 +1,18 @@
+// What checks 9 to 14 find. There is no code here: `relocate` looks, and the definitions say what it finds.
+
+// Which of checks 9 to 14 a relocation breaks, if it breaks one.
+pub enum Finding {
+    Kept,
+    BadShape,
+    BadSymbol,
+    BadForm,
+    NoPair,
+    OutOfReach,
+    OffBoundary,
+}
+
+// What checks 9 to 14 find: nothing, or the first broken rule of the first relocation that breaks one, and its number.
+pub enum RelocationCheck {
+    Passed,
+    Broken(Finding, u32),
+}

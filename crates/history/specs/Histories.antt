@@ -1,0 +1,131 @@
+-- Document 01, "The history behind demand 3": "worked out from the start and the calls alone; after the start it reads nothing from the
+-- program's image or ledger". A list of standing installs (document 01: standing fits) has the newest first. Assumes nothing: these are
+-- definitions.
+use mathlib.Core.Path.{_≡_}
+use Prim.Native.Nat.{ℕ}
+use mathlib.Core.Bool.{true, cond}
+use mathlib.Core.List.{List, [], _∷_, _++_}
+use lib.ListN.{length, take, replicate}
+use Rattle.order.specs.Windows.{lengthAllowed}
+use Rattle.journal.specs.declared.Span.{Span}
+use Rattle.journal.specs.Plans.{Piece, Verdict, refused, plan, Judge, overwritten, spanOf}
+use Rattle.journal.specs.Journals.{count, entries, held, total, Sound, noRoom}
+use Rattle.history.specs.Calls.{done, journalFull, noneStands, Files, Outcome, refuse, succeed, Call, Install, Rollback, answers, run}
+
+-- ---- the history
+
+-- an install that stands: what was asked for, and "its laid bytes"; "its span" is that of these
+pub record Standing : Type 0 where
+  pub object : List ℕ
+  pub order : List ℕ
+  pub pieces : List Piece
+
+-- "a copy of the starting image, the ledger's length" and the standing installs
+pub record History : Type 0 where
+  pub start : List ℕ
+  pub room : ℕ
+  pub standing : List Standing
+
+-- "At the start it holds a copy of the starting image, the ledger's length and no standing fit."
+abbrev pub begin : Files → History
+begin f = record { start = f .image; room = length (f .journal); standing = [] }
+
+-- the spans, the oldest first
+unfoldable pub spans : List Standing → List Span
+spans [] = []
+spans (x ∷ older) = spans older ++ spanOf (x .pieces) ∷ []
+
+-- "Its n is always the number of its standing fits, its k the sum of their spans' lengths."
+abbrev pub countOf : History → ℕ
+countOf h = length (h .standing)
+
+abbrev pub heldOf : History → ℕ
+heldOf h = total (spans (h .standing))
+
+-- "Its image is the copy with the laid bytes of the standing fits written over it, oldest first."
+unfoldable pub laid : List ℕ → List Standing → List ℕ
+laid start [] = start
+laid start (x ∷ older) = overwritten (laid start older) (x .pieces)
+
+abbrev pub imageOf : History → List ℕ
+imageOf h = laid (h .start) (h .standing)
+
+-- "A fit: the checks are judged in their order from object, order and image length; 15 uses the history's n, k and ledger length; 1 is never
+-- broken. If one is broken, the answer is its number and place and nothing changes. Otherwise the answer is 0, place 0, and the fit stands
+-- as the newest"
+unfoldable pub stand : History → List ℕ → List ℕ → Verdict → Outcome History
+stand h object order (refused n p) = refuse (record { number = n; place = p }) h
+stand h object order (plan ps) =
+    cond (noRoom (countOf h) (heldOf h) (spanOf ps .size) (h .room))
+    (refuse journalFull h)
+    (succeed (record { start = h .start; room = h .room; standing = record { object = object; order = order; pieces = ps } ∷ h .standing }))
+
+-- "A taking-back: if no fit stands, the answer is 16, place 0, and nothing changes. Otherwise the answer is 0, place 0, and the newest fit is
+-- dropped."
+unfoldable pub fall : History → List Standing → Outcome History
+fall h [] = refuse noneStands h
+fall h (x ∷ older) = succeed (record { start = h .start; room = h .room; standing = older })
+
+unfoldable pub told : Judge → History → Call → Outcome History
+told judge h (Install object order) = stand h object order (judge object order (length (h .start)))
+told judge h Rollback = fall h (h .standing)
+
+-- ---- demand 3
+
+-- "Start with any image of allowed length and any sound ledger in which no fit stands." Nothing else is assumed of the two lists, of their
+-- elements or of the journal's length, so slices of bytes meet it as they are.
+pub record Start (f : Files) : Type 0 where
+  -- "An image length is allowed if it passes check 3 of a taking-back."
+  pub allowed : lengthAllowed (length (f .image)) ≡ true
+  pub sound : Sound (f .journal) (length (f .image))
+  pub none : count (f .journal) ≡ 0
+
+-- what a list of calls leaves, and the history of that list
+abbrev pub filesAfter : (Files → Call → Outcome Files) → Files → List Call → Files
+filesAfter step start calls = run step start calls
+
+abbrev pub historyOf : Judge → Files → List Call → History
+historyOf judge start calls = run (told judge) (begin start) calls
+
+-- "Equal to the history's are": image, n, k and the first n entries; and "the ledger is then still sound"
+pub record AsTold (h : History) (f : Files) : Type 0 where
+  -- "The image is, byte for byte, the starting image with the laid bytes of the fits still standing written over it, oldest first"
+  pub image-is : f .image ≡ imageOf h
+  -- "The ledger counts the standing fits and the bytes of their spans and no others"
+  pub count-is : count (f .journal) ≡ countOf h
+  pub held-is : held (f .journal) ≡ heldOf h
+  -- "its first n entries, which are the spans of the standing fits, oldest first"
+  pub entries-are : take (count (f .journal)) (entries (f .journal)) ≡ spans (h .standing)
+  pub still-sound : Sound (f .journal) (length (f .image))
+
+-- two files with "the same image, n, k and first n entries"
+pub record Alike (f g : Files) : Type 0 where
+  pub image-same : f .image ≡ g .image
+  pub count-same : count (f .journal) ≡ count (g .journal)
+  pub held-same : held (f .journal) ≡ held (g .journal)
+  pub entries-same : take (count (f .journal)) (entries (f .journal)) ≡ take (count (g .journal)) (entries (g .journal))
+
+-- "The standing fits alone, asked for in their order"
+unfoldable pub alone : List Standing → List Call
+alone [] = []
+alone (x ∷ older) = alone older ++ Install (x .object) (x .order) ∷ []
+
+abbrev pub standingAlone : Judge → Files → List Call → List Call
+standingAlone judge start calls = alone (historyOf judge start calls .standing)
+
+-- demand 3, of a list of calls, each made by `step`
+pub record Holds (step : Files → Call → Outcome Files) (judge : Judge) (start : Files) (calls : List Call) : Type 0 where
+  -- "Every call in the list had the answer that document 01's history gives it."
+  pub answered : answers step start calls ≡ answers (told judge) (begin start) calls
+  -- image, n, k and entries are the history's, and the journal is sound
+  pub as-told : AsTold (historyOf judge start calls) (filesAfter step start calls)
+  -- "A taking-back is refused exactly when no fit stands."
+  pub refused-if-none : historyOf judge start calls .standing ≡ [] → step (filesAfter step start calls) Rollback .answer ≡ noneStands
+  pub done-if-some : (historyOf judge start calls .standing ≡ [] → ⊥) → step (filesAfter step start calls) Rollback .answer ≡ done
+  -- "The standing fits alone, asked for in their order from the same start, are all done"
+  pub alone-done : answers step start (standingAlone judge start calls) ≡ replicate (countOf (historyOf judge start calls)) done
+  -- "and lead to the same image, n, k and first n entries,"
+  pub alone-alike : Alike (filesAfter step start (standingAlone judge start calls)) (filesAfter step start calls)
+  -- "and any next call gets the same answer after either list"; any further list of calls the same answers
+  pub next : (c : Call) → step (filesAfter step start calls) c .answer ≡ step (filesAfter step start (standingAlone judge start calls)) c .answer
+  pub further : (more : List Call) → answers step (filesAfter step start calls) more ≡ answers step (filesAfter step start (standingAlone judge start calls)) more

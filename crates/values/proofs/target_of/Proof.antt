@@ -1,0 +1,36 @@
+-- `values::target_of` meets its contract. Assumes nothing.
+use mathlib.Core.Path.{sym, ap, _∙_}
+use native.Mathlib.Omega.{arith}
+use Rattle.word.specs.Whole.{signed}
+use Rattle.word.proofs.Laws.Whole.{plus-signed}
+use Rattle.values.specs.Values.{S, T}
+use borrow.Author.Needs.{needs}
+use Rattle.values.proofs.target_of.Statement.{statement}
+use Rattle.values.proofs.target_of.Tie as tie
+
+enum-known-value : tie.Need-enum-known-value
+enum-known-value c = search needs
+
+add32-requires : tie.Need-add32-requires
+add32-requires c κs = search needs
+
+enum-told : tie.Need-enum-told
+enum-told c = search needs
+
+add32-requires-2 : tie.Need-add32-requires-2
+add32-requires-2 c κs = search needs
+
+returns : tie.Need-returns
+returns c =
+    let a = c .before .before .before .before .args in
+    c .add32 .ensures ∙ plus-signed 32 32 _ (a .addend) (omega arith) ∙ sym (ap (λ v. T (S v) (signed 64 (a .addend))) (c .before .before .value .given .1))
+
+returns-2 : tie.Need-returns-2
+returns-2 c =
+    let a = c .before .before .before .args in
+    c .add322 .ensures ∙ plus-signed 32 32 0 (a .addend) (omega arith) ∙ sym (ap (λ v. T (S v) (signed 64 (a .addend))) (c .before .enum-told .given .1))
+
+pub target-of-spec : {M : Type 1} → statement M
+target-of-spec =
+    tie.close
+    (tie.spec enum-known-value add32-requires enum-told add32-requires-2 returns returns-2)
