@@ -23,8 +23,8 @@ use Rattle.values.specs.declared.pairs.Pair.the-variants.{At}
 use Rattle.values.specs.Values.{valueAt, S, T}
 use Rattle.values.specs.Pairs.{pairOf}
 use Rattle.rules.specs.Rules.{symbol}
-use Rattle.patch.specs.Sections.{distanceAt}
-use Rattle.patch.specs.Promises.{ReadsBack, AddUp}
+use Rattle.stores.specs.Sections.{distanceAt}
+use Rattle.stores.specs.Promises.{ReadsBack, AddUp}
 
 module _ (object order : List ℕ) where
   -- where section t starts in the image: "its address less that order's base"

@@ -17,7 +17,7 @@ use Rattle.place.specs.declared.Fault.the-variants.{Nowhere}
 use Rattle.place.specs.Placements.{placementCheck}
 use Rattle.place.specs.Externals.{externalCheck}
 use Rattle.placing.specs.Placing.{placingCheck, hasBytes}
-use Rattle.patch.specs.Sections.{relocated}
+use Rattle.stores.specs.Sections.{relocated}
 use Rattle.findings.specs.declared.RelocationCheck.the-variants.{Passed as AllKept}
 use Rattle.findings.specs.Search.{relocationCheck}
 

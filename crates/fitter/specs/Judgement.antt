@@ -19,7 +19,7 @@ use Rattle.placing.specs.Placing.{placingCheck}
 use Rattle.findings.specs.declared.RelocationCheck.{RelocationCheck}
 use Rattle.findings.specs.declared.RelocationCheck.the-variants.{Passed as AllKept, Broken}
 use Rattle.findings.specs.Search.{number, relocationCheck}
-use Rattle.patch.specs.Sections.{relocated}
+use Rattle.stores.specs.Sections.{relocated}
 use Rattle.spans.specs.Pieces.{pieces}
 
 -- ---- a check that passes leaves the verdict to those after it; one that is broken gives its number and place

@@ -14,7 +14,7 @@ ghost use Rattle.journal.specs.Plans.{overwritten};
 ghost use Rattle.history.specs.Calls.{install as «the-install», rollback as «the-rollback»};
 ghost use Rattle.place.specs.Placements.{placementCheck};
 ghost use Rattle.findings.specs.Search.{number, isBroken};
-ghost use Rattle.patch.specs.Sections.{relocated};
+ghost use Rattle.stores.specs.Sections.{relocated};
 ghost use Rattle.fitter.specs.Judgement.{planOf, judgement};
 ghost use Rattle.fitter.specs.Answers.{answerOf, verdictOf, packed};
 ghost use Rattle.fitter.specs.Facts.{Readable, Named, Placeable, Fitting, withSection};

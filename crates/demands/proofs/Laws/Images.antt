@@ -21,7 +21,7 @@ use Rattle.placing.proofs.Laws.Theorems.{disjoint}
 use Rattle.fitter.specs.Judgement.{planOf}
 use Rattle.fitter.specs.Facts.{Fitting}
 use Rattle.fitter.proofs.Laws.Laying.{bytes-inside, bytes-loaded, relocated-length, with-none, with-some, laidBelow, laid-none, laid-more, laid-all}
-use Rattle.patch.specs.Sections.{relocated}
+use Rattle.stores.specs.Sections.{relocated}
 use Rattle.demands.specs.Laid.{start, sectionIn, Covers}
 
 -- ---- parts of lists with a run of stores

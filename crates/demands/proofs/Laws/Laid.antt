@@ -31,13 +31,13 @@ use Rattle.rela.specs.Shape.{end, staysInside}
 use Rattle.rela.proofs.Laws.Decisions.{store-width, width-some}
 use Rattle.values.specs.Values.{valueAt, S, T}
 use Rattle.findings.proofs.Laws.Search.{kept-rules}
-use Rattle.patch.specs.Facts.{Checked}
-use Rattle.patch.specs.Sections.{pairDistance, relaOf, relocated, after}
-use Rattle.patch.specs.Promises.{touches, untouched, stackAt, Stored, ReadsBack}
-use Rattle.patch.proofs.Laws.Sections.{checked, rela-found, relocated-some, relocated-none, found-target}
-use Rattle.patch.proofs.Laws.After.{untouched-own}
-use Rattle.patch.proofs.Laws.ReadBack.{read-back}
-use Rattle.patch.proofs.Laws.Halves.{add-up, says, halves-of}
+use Rattle.stores.specs.Facts.{Checked}
+use Rattle.stores.specs.Sections.{pairDistance, relaOf, relocated, after}
+use Rattle.stores.specs.Promises.{touches, untouched, stackAt, Stored, ReadsBack}
+use Rattle.stores.proofs.Laws.Sections.{checked, rela-found, relocated-some, relocated-none, found-target}
+use Rattle.stores.proofs.Laws.After.{untouched-own}
+use Rattle.stores.proofs.Laws.ReadBack.{read-back}
+use Rattle.stores.proofs.Laws.Halves.{add-up, says, halves-of}
 use Rattle.fitter.specs.Judgement.{planOf}
 use Rattle.fitter.specs.Facts.{Fitting}
 use Rattle.fitter.proofs.Laws.Laying.{is-sound, is-placed}

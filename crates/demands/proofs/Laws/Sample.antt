@@ -32,8 +32,8 @@ use Rattle.types.specs.Types.{table, among, lookup, decision}
 use Rattle.rela.specs.Sites.{siteAt}
 use Rattle.rela.specs.Shape.{neverFalls, staysInside, previous, noOverlap, shapeWell}
 use Rattle.rules.specs.Rules.{symbolWell, standsWell, formWell, pairWell}
-use Rattle.patch.specs.Patches.{patched}
-use Rattle.patch.specs.Sections.{relaOf, relocated, applied, after}
+use Rattle.stores.specs.Patches.{patched}
+use Rattle.stores.specs.Sections.{relaOf, relocated, applied, after}
 use Rattle.spans.specs.Pieces.{pieces}
 use Rattle.fitter.specs.Judgement.{planOf}
 use Rattle.demands.specs.Rules.{Rules, OrderWell, WindowWell, HeaderWell, TableWell, PlacedAsAllocated, ValuedIfUndefined, PlacedIfAllocated, site, entryOf, valueOf, Shape, SymbolResolves, FormIs, OnePair, Reaches, OnBoundary, Room}

@@ -30,9 +30,9 @@ use Rattle.placing.specs.Placing.{hasBytes}
 use Rattle.symbols.specs.Values.{symbolValue}
 use Rattle.types.specs.Types.{table, among, lookup, decision}
 use Rattle.rela.specs.Sites.{siteAt}
-use Rattle.patch.specs.Patches.{patched}
-use Rattle.patch.specs.Sections.{sumAt, relaOf, relocated, applied, after}
-use Rattle.patch.specs.Promises.{ReadsBack}
+use Rattle.stores.specs.Patches.{patched}
+use Rattle.stores.specs.Sections.{sumAt, relaOf, relocated, applied, after}
+use Rattle.stores.specs.Promises.{ReadsBack}
 use Rattle.spans.specs.Pieces.{pieces}
 use Rattle.fitter.specs.Judgement.{planOf, judgement}
 use Rattle.demands.specs.Rules.{PlacedAsAllocated}

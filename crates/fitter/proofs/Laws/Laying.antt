@@ -32,9 +32,9 @@ use Rattle.spans.proofs.Laws.Laid.{span-of-pieces, from-base}
 use Rattle.rela.specs.Sites.{siteAt, count}
 use Rattle.rela.specs.Facts.{Placed}
 use Rattle.relocate.proofs.Laws.Sites.{placed}
-use Rattle.patch.specs.Sections.{relaOf, relocated}
-use Rattle.patch.proofs.Laws.Sections.{relocated-some, relocated-none, found-target}
-use Rattle.patch.proofs.Laws.After.{length-after}
+use Rattle.stores.specs.Sections.{relaOf, relocated}
+use Rattle.stores.proofs.Laws.Sections.{relocated-some, relocated-none, found-target}
+use Rattle.stores.proofs.Laws.After.{length-after}
 use Rattle.fitter.specs.Judgement.{planOf, judgement}
 use Rattle.fitter.specs.Facts.{Fitting, withSection}
 use Rattle.fitter.proofs.Laws.Judgement.{plan-fits}

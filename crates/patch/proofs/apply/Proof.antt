@@ -9,7 +9,7 @@ use Rattle.rela.proofs.Laws.Sites.{found-length, store-inside}
 use Rattle.rela.proofs.Laws.Shape.{shape-inside}
 use Rattle.rules.proofs.Laws.Rules.{resolved-there, pair-symbol}
 use Rattle.findings.proofs.Laws.Search.{kept-rules}
-use Rattle.patch.proofs.Laws.Sections.{applied-read, applied-marker, place-read}
+use Rattle.stores.proofs.Laws.Sections.{applied-read, applied-marker, place-read}
 use borrow.Author.Needs.{needs}
 use Rattle.patch.proofs.apply.Statement.{statement}
 use Rattle.patch.proofs.apply.Tie as tie

@@ -5,7 +5,7 @@ use native.Mathlib.Numerals.{add-one}
 use native.Mathlib.Omega.{arith}
 use lib.ListN.{length}
 use Rattle.rela.proofs.Laws.Sites.{found-length}
-use Rattle.patch.specs.Sections.{applied, after}
+use Rattle.stores.specs.Sections.{applied, after}
 use borrow.Author.Needs.{needs}
 use Rattle.patch.proofs.apply_all.Statement.{statement}
 use Rattle.patch.proofs.apply_all.Tie as tie

@@ -1,6 +1,6 @@
 -- `patch::distance_at` meets its contract. Assumes nothing.
 use mathlib.Core.Path.{_∙_}
-use Rattle.patch.proofs.Laws.Sections.{distance-read}
+use Rattle.stores.proofs.Laws.Sections.{distance-read}
 use borrow.Author.Needs.{needs}
 use Rattle.patch.proofs.distance_at.Statement.{statement}
 use Rattle.patch.proofs.distance_at.Tie as tie

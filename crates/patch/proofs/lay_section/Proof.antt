@@ -9,9 +9,9 @@ use Rattle.elf.specs.Sections.{sectionAt}
 use Rattle.elf.specs.Entries.{bytesOf}
 use Rattle.validate.proofs.Laws.Bounds.{loaded-inside}
 use Rattle.rela.specs.Sites.{siteAt, count, found}
-use Rattle.patch.specs.Sections.{after, relaOf}
-use Rattle.patch.specs.Facts.{Checked}
-use Rattle.patch.proofs.Laws.Sections.{checked, rela-found, found-target, relocated-some, relocated-none}
+use Rattle.stores.specs.Sections.{after, relaOf}
+use Rattle.stores.specs.Facts.{Checked}
+use Rattle.stores.proofs.Laws.Sections.{checked, rela-found, found-target, relocated-some, relocated-none}
 use borrow.Author.Needs.{needs}
 use Rattle.patch.proofs.lay_section.Statement.{statement}
 use Rattle.patch.proofs.lay_section.Tie as tie

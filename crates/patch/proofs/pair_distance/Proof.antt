@@ -7,8 +7,8 @@ use Rattle.validate.proofs.Laws.Bounds.{symbol-inside}
 use Rattle.rela.specs.Sites.{entry}
 use Rattle.values.specs.Pairs.{pairOf}
 use Rattle.values.proofs.Laws.Pairs.{pair-there}
-use Rattle.patch.specs.Sections.{distanceOf}
-use Rattle.patch.proofs.Laws.Sections.{symbol-read}
+use Rattle.stores.specs.Sections.{distanceOf}
+use Rattle.stores.proofs.Laws.Sections.{symbol-read}
 use borrow.Author.Needs.{needs}
 use Rattle.patch.proofs.pair_distance.Statement.{statement}
 use Rattle.patch.proofs.pair_distance.Tie as tie

@@ -9,7 +9,7 @@ use Rattle.fields.specs.Fields.{layout}
 use Rattle.types.specs.declared.Calculation.the-variants.{Add, Sub, Set}
 use Rattle.riscv.specs.Data.{added, subtracted, replaced}
 use Rattle.rela.specs.Facts.{onData}
-use Rattle.patch.specs.Patches.{highPart, lowPart, patched}
+use Rattle.stores.specs.Patches.{highPart, lowPart, patched}
 use borrow.Author.Needs.{needs}
 use Rattle.patch.proofs.patch.Statement.{statement}
 use Rattle.patch.proofs.patch.Tie as tie

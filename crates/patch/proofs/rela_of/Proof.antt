@@ -9,7 +9,7 @@ use Rattle.word.specs.First.{first}
 use Rattle.word.proofs.Laws.First.{first-is}
 use Rattle.elf.specs.Headers.{sectionCount}
 use Rattle.elf.specs.Sections.{sectionAt, countingRela}
-use Rattle.patch.specs.Sections.{relaOf}
+use Rattle.stores.specs.Sections.{relaOf}
 use borrow.Author.Needs.{needs}
 use Rattle.patch.proofs.rela_of.Statement.{statement}
 use Rattle.patch.proofs.rela_of.Tie as tie

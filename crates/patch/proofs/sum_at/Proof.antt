@@ -1,6 +1,6 @@
 -- `patch::sum_at` meets its contract. Assumes nothing.
 use mathlib.Core.Path.{_∙_}
-use Rattle.patch.proofs.Laws.Sections.{sum-read}
+use Rattle.stores.proofs.Laws.Sections.{sum-read}
 use borrow.Author.Needs.{needs}
 use Rattle.patch.proofs.sum_at.Statement.{statement}
 use Rattle.patch.proofs.sum_at.Tie as tie

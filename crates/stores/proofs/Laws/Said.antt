@@ -31,8 +31,8 @@ use Rattle.rela.specs.Effects.{stacks}
 use Rattle.rules.specs.Rules.{reachesWell}
 use Rattle.rela.specs.Facts.{isDataField}
 use Rattle.rela.proofs.Laws.Decisions.{holds, decided}
-use Rattle.patch.specs.Patches.{highPart, lowPart, patched}
-use Rattle.patch.specs.Promises.{Said}
+use Rattle.stores.specs.Patches.{highPart, lowPart, patched}
+use Rattle.stores.specs.Promises.{Said}
 
 -- ---- which fields the table has for a calculation
 

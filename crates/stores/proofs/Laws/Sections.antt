@@ -41,10 +41,10 @@ use Rattle.rela.specs.Facts.{SoundSite, Placed}
 use Rattle.rela.proofs.Laws.Sites.{sound-site, count-is}
 use Rattle.rules.proofs.Laws.Rules.{place-below}
 use Rattle.findings.proofs.Laws.Search.{counted, finding-entry, passed-kept}
-use Rattle.patch.specs.Patches.{patched}
-use Rattle.patch.specs.Sections.{stored, sumAt, distanceAt, pairDistance, applied, after, relaOf, relocated}
-use Rattle.patch.specs.Facts.{Checked}
-use Rattle.patch.proofs.Laws.Patches.{same-patch}
+use Rattle.stores.specs.Patches.{patched}
+use Rattle.stores.specs.Sections.{stored, sumAt, distanceAt, pairDistance, applied, after, relaOf, relocated}
+use Rattle.stores.specs.Facts.{Checked}
+use Rattle.stores.proofs.Laws.Patches.{same-patch}
 
 module _ (object order addresses : List ℕ) (x : Site) (j : ℕ) (r : Relocation) (v : SymbolValue) (re : r ≡ entry object x j) (ve : v ≡ symbolValue object order addresses (r .symbol)) where
   -- by the relocation r and the value v that were read

@@ -14,7 +14,7 @@ use Rattle.types.specs.Types.{table, among, lookup, decision}
 use Rattle.riscv.specs.Halves.{high, low}
 use Rattle.riscv.specs.Ranges.{reaches}
 use Rattle.rules.specs.Rules.{distanceWell, boundaryWell}
-use Rattle.patch.specs.Patches.{patched}
+use Rattle.stores.specs.Patches.{patched}
 
 -- what the definitions give, and what document 01 says
 pub record Number : Type 0 where

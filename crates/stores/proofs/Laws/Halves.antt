@@ -32,11 +32,11 @@ use Rattle.values.specs.Pairs.{PCREL_HI20, isPair, pairOf}
 use Rattle.rules.specs.Rules.{symbol, isOne, pairWell}
 use Rattle.values.proofs.Laws.Pairs.{pair-there}
 use Rattle.findings.proofs.Laws.Search.{kept-rules}
-use Rattle.patch.specs.Patches.{highPart}
-use Rattle.patch.specs.Sections.{distanceAt, distanceOf, pairDistance, after}
-use Rattle.patch.specs.Promises.{stackAt, Stored, ReadsBack, AddUp, Halves}
-use Rattle.patch.specs.Facts.{Checked}
-use Rattle.patch.proofs.Laws.ReadBack.{read-back}
+use Rattle.stores.specs.Patches.{highPart}
+use Rattle.stores.specs.Sections.{distanceAt, distanceOf, pairDistance, after}
+use Rattle.stores.specs.Promises.{stackAt, Stored, ReadsBack, AddUp, Halves}
+use Rattle.stores.specs.Facts.{Checked}
+use Rattle.stores.proofs.Laws.ReadBack.{read-back}
 
 -- what is read of each, added up
 pub add-up : (f g : Field) (w v d : ℕ) → d < 2 ^ 32 → read (layout f) w ≡ highPart d → signed 12 (read (layout g) v) ≡ low 32 d → AddUp f w g v d

@@ -20,8 +20,8 @@ use Rattle.types.specs.declared.Calculation.{Calculation}
 use Rattle.types.specs.declared.Calculation.the-variants.{Absolute, PcRelative, Distance, BothHalves, HighPcRelative, HighAbsolute, LowAbsolute, LowOfPair, Add, Sub, Set}
 use Rattle.rela.specs.Effects.{stacks}
 use Rattle.rela.specs.Facts.{isDataField}
-use Rattle.patch.specs.Patches.{calculated, patched}
-use Rattle.patch.specs.Promises.{stackStep}
+use Rattle.stores.specs.Patches.{calculated, patched}
+use Rattle.stores.specs.Promises.{stackStep}
 
 -- a number reduced in between is reduced in the end
 residue-again : (w : ℕ) (z : ℤ) → residue w (pos (residue w z)) ≡ residue w z

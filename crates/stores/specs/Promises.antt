@@ -26,8 +26,8 @@ use Rattle.values.specs.Values.{S, T, valueAt}
 use Rattle.rela.specs.Shape.{end}
 use Rattle.values.specs.Pairs.{pairOf}
 use Rattle.rules.specs.Rules.{symbol}
-use Rattle.patch.specs.Patches.{highPart}
-use Rattle.patch.specs.Sections.{sumAt, distanceAt, pairDistance}
+use Rattle.stores.specs.Patches.{highPart}
+use Rattle.stores.specs.Sections.{sumAt, distanceAt, pairDistance}
 
 -- ---- bytes that no relocation touches
 

@@ -37,15 +37,15 @@ use Rattle.rela.proofs.Laws.Decisions.{fieldBytes, store-width, store-bytes, st
 use Rattle.rela.proofs.Laws.Sites.{store-inside}
 use Rattle.rela.proofs.Laws.Shape.{shape-inside}
 use Rattle.findings.proofs.Laws.Search.{kept-rules}
-use Rattle.patch.specs.Patches.{patched}
-use Rattle.patch.specs.Sections.{sumAt, pairDistance, after}
-use Rattle.patch.specs.Promises.{stackStep, stackOn, stackAt, Said, Stored, ReadsBack}
-use Rattle.patch.specs.Facts.{Checked}
-use Rattle.patch.proofs.Laws.Sections.{applied-store, applied-marker}
-use Rattle.patch.proofs.Laws.Overlap.{Shares, apart, same-stack}
-use Rattle.patch.proofs.Laws.After.{length-after, applied-other}
-use Rattle.patch.proofs.Laws.Said.{store-suits, said}
-use Rattle.patch.proofs.Laws.Stacks.{field-lt, stacked}
+use Rattle.stores.specs.Patches.{patched}
+use Rattle.stores.specs.Sections.{sumAt, pairDistance, after}
+use Rattle.stores.specs.Promises.{stackStep, stackOn, stackAt, Said, Stored, ReadsBack}
+use Rattle.stores.specs.Facts.{Checked}
+use Rattle.stores.proofs.Laws.Sections.{applied-store, applied-marker}
+use Rattle.stores.proofs.Laws.Overlap.{Shares, apart, same-stack}
+use Rattle.stores.proofs.Laws.After.{length-after, applied-other}
+use Rattle.stores.proofs.Laws.Said.{store-suits, said}
+use Rattle.stores.proofs.Laws.Stacks.{field-lt, stacked}
 
 -- ---- what is stored fits its bytes
 

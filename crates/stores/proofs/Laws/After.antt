@@ -18,10 +18,10 @@ use Rattle.rela.specs.declared.sites.Site.{Site}
 use Rattle.rela.specs.Sites.{count, effect, offset, P, found}
 use Rattle.rela.specs.Effects.{touched, isStore}
 use Rattle.rela.specs.Shape.{end}
-use Rattle.patch.specs.Patches.{patched}
-use Rattle.patch.specs.Sections.{sumAt, pairDistance, applied, after}
-use Rattle.patch.specs.Promises.{touches, untouched}
-use Rattle.patch.proofs.Laws.Sections.{applied-store, applied-marker}
+use Rattle.stores.specs.Patches.{patched}
+use Rattle.stores.specs.Sections.{sumAt, pairDistance, applied, after}
+use Rattle.stores.specs.Promises.{touches, untouched}
+use Rattle.stores.proofs.Laws.Sections.{applied-store, applied-marker}
 
 module _ (object order addresses : List ℕ) (x : Site) where
   length-applied : (j : ℕ) (s : List ℕ) → length (applied object order addresses x j s) ≡ length s

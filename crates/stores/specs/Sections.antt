@@ -20,7 +20,7 @@ use Rattle.rela.specs.Sites.{siteAt, count, effect, offset, A, P, found}
 use Rattle.values.specs.Values.{S, T, valueAt}
 use Rattle.values.specs.Pairs.{pairOf}
 use Rattle.rules.specs.Rules.{symbol}
-use Rattle.patch.specs.Patches.{patched}
+use Rattle.stores.specs.Patches.{patched}
 
 -- what a decision leaves of a section's bytes: the n bytes at an offset, as one number, are patched
 abbrev pub stored : Decision → ℕ → ℤ → ℕ → ℕ → List ℕ → List ℕ
