@@ -9,10 +9,10 @@ ghost use mathlib.Core.Path.{_≡_};
 ghost use lib.Dec.{ltb};
 ghost use lib.ListN.{take};
 ghost use Rattle.io.specs.Counts.{Counts};
-ghost use Rattle.fitter.specs.Answers.{answerOf};
+ghost use Rattle.judge.specs.Answers.{answerOf};
 ghost use Rattle.text.specs.Lines.{line};
 use files::replace_both;
-use fitter::Answer;
+use judge::Answer;
 use text::Command;
 
 fn main() {
@@ -110,7 +110,7 @@ fn take_back_bytes(image_at: usize, image: &mut [u8], ledger_at: usize, ledger: 
 
 // Replaces both files where the call was done, and then gives its answer.
 fn keep(answer: Answer, first: usize, new: &[u8], second: usize, other: &[u8]) {
-    if fitter::code_of(answer) == 0 {
+    if judge::code_of(answer) == 0 {
         if !replace_both(first, new, second, other) {
             return;
         }
@@ -130,7 +130,7 @@ fn line_of(answer: Answer, out: &mut [u8; 42]) -> usize
     ensures { λ r. ⌜ Counts r (now (out .exit)) ⌝ }
     ensures { λ r. ⌜ take r (now (out .exit)) ≡ line (answerOf answer) ⌝ }
 {
-    let code = fitter::code_of(answer);
+    let code = judge::code_of(answer);
     text::answer_line(code % 4294967296, code / 4294967296, out)
 }
 

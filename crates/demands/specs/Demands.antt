@@ -11,7 +11,7 @@ use Rattle.order.specs.Windows.{maxImage}
 use Rattle.journal.specs.Journals.{count, Sound}
 use Rattle.history.specs.Calls.{Files, done, Call, Fit, TakeBack, calling}
 use Rattle.history.specs.Histories.{Start, Holds}
-use Rattle.fitter.specs.Judgement.{judgement}
+use Rattle.judgement.specs.Judgement.{judgement}
 use Rattle.demands.specs.Rules.{Rules}
 use Rattle.demands.specs.First.{Checks, none, one, FirstBroken, table}
 use Rattle.demands.specs.Laid.{Laid}

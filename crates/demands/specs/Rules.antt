@@ -38,7 +38,7 @@ use Rattle.rela.specs.Shape.{end, previous}
 use Rattle.values.specs.Values.{valueAt, S, T}
 use Rattle.values.specs.Pairs.{isPair, howMany}
 use Rattle.rules.specs.Rules.{isResolved, symbol, isData, distanceWell}
-use Rattle.fitter.specs.Judgement.{planOf}
+use Rattle.judgement.specs.Judgement.{planOf}
 
 -- ---- 1 "ledger unsound": `Sound` of the journal
 

@@ -1,7 +1,7 @@
 -- `aktinoph::line_of` meets its contract. Assumes nothing.
 use mathlib.Core.Path.{ap, _∙_}
 use Rattle.text.specs.Lines.{line}
-use Rattle.fitter.proofs.Laws.Answers.{unpacked}
+use Rattle.judge.proofs.Laws.Answers.{unpacked}
 use borrow.Author.Needs.{needs}
 use Rattle.aktinoph.proofs.line_of.Statement.{statement}
 use Rattle.aktinoph.proofs.line_of.Tie as tie

@@ -30,9 +30,9 @@ use Rattle.findings.specs.declared.RelocationCheck.{RelocationCheck}
 use Rattle.findings.specs.declared.RelocationCheck.the-variants.{Passed as AllKept, Broken}
 use Rattle.findings.specs.Search.{number, relocationCheck}
 use Rattle.place.proofs.Laws.Theorems.{nothing-to-place as «none-placed»}
-use Rattle.fitter.specs.Judgement.{afterObject, afterFault, afterRelocations, planOf, judgement}
-use Rattle.fitter.proofs.Laws.Judgement.{broken-is, some-number, Fits, plan-fits}
-use Rattle.fitter.proofs.Laws.Laying.{lays-inside}
+use Rattle.judgement.specs.Judgement.{afterObject, afterFault, afterRelocations, planOf, judgement}
+use Rattle.judgement.proofs.Laws.Judgement.{broken-is, some-number, Fits, plan-fits}
+use Rattle.judgement.proofs.Laws.Laying.{lays-inside}
 use Rattle.demands.specs.Rules.{Rules}
 use Rattle.demands.specs.First.{nil, rule, Checks, none, one, HoldBelow, AllHold, FirstBroken, table}
 use Rattle.demands.specs.Laid.{Laid}

@@ -18,9 +18,9 @@ use Rattle.lookup.specs.Addresses.{addresses}
 use Rattle.journal.specs.Plans.{overwritten}
 use Rattle.placing.specs.Placing.{hasBytes, endOf}
 use Rattle.placing.proofs.Laws.Theorems.{disjoint}
-use Rattle.fitter.specs.Judgement.{planOf}
-use Rattle.fitter.specs.Facts.{Fitting}
-use Rattle.fitter.proofs.Laws.Laying.{bytes-inside, bytes-loaded, relocated-length, with-none, with-some, laidBelow, laid-none, laid-more, laid-all}
+use Rattle.judgement.specs.Judgement.{planOf}
+use Rattle.judgement.specs.Facts.{Fitting}
+use Rattle.judgement.proofs.Laws.Laying.{bytes-inside, bytes-loaded, relocated-length, with-none, with-some, laidBelow, laid-none, laid-more, laid-all}
 use Rattle.stores.specs.Sections.{relocated}
 use Rattle.demands.specs.Laid.{start, sectionIn, Covers}
 

@@ -38,9 +38,9 @@ use Rattle.stores.proofs.Laws.Sections.{checked, rela-found, relocated-some, re
 use Rattle.stores.proofs.Laws.After.{untouched-own}
 use Rattle.stores.proofs.Laws.ReadBack.{read-back}
 use Rattle.stores.proofs.Laws.Halves.{add-up, says, halves-of}
-use Rattle.fitter.specs.Judgement.{planOf}
-use Rattle.fitter.specs.Facts.{Fitting}
-use Rattle.fitter.proofs.Laws.Laying.{is-sound, is-placed}
+use Rattle.judgement.specs.Judgement.{planOf}
+use Rattle.judgement.specs.Facts.{Fitting}
+use Rattle.judgement.proofs.Laws.Laying.{is-sound, is-placed}
 use Rattle.demands.specs.Laid.{start, sectionIn, Covers, siteOf, Untouched, bytesAt, target, Laid}
 use Rattle.demands.proofs.Laws.Relocations.{shape-well}
 use Rattle.demands.proofs.Laws.Images.{installed-length, installed-section, installed-others}

@@ -25,7 +25,7 @@ use Rattle.place.specs.Placements.{lowest, isGiven, isAllocated, differs}
 use Rattle.place.specs.Externals.{isUndefined}
 use Rattle.placing.specs.Placing.{endOf, aligned, endsInMemory, hasBytes, inWindow, share, apart, misplaced}
 use Rattle.rela.specs.Sites.{A}
-use Rattle.fitter.specs.Judgement.{planOf}
+use Rattle.judgement.specs.Judgement.{planOf}
 use Rattle.demands.specs.Rules.{OrderWell, WindowWell, HeaderWell, TableWell, PlacedAsAllocated, Undefined, ValuedIfUndefined, PlacedWell, Room}
 
 -- ---- the lowest place at which a test says broken

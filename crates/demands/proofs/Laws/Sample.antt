@@ -35,7 +35,7 @@ use Rattle.rules.specs.Rules.{symbolWell, standsWell, formWell, pairWell}
 use Rattle.stores.specs.Patches.{patched}
 use Rattle.stores.specs.Sections.{relaOf, relocated, applied, after}
 use Rattle.spans.specs.Pieces.{pieces}
-use Rattle.fitter.specs.Judgement.{planOf}
+use Rattle.judgement.specs.Judgement.{planOf}
 use Rattle.demands.specs.Rules.{Rules, OrderWell, WindowWell, HeaderWell, TableWell, PlacedAsAllocated, ValuedIfUndefined, PlacedIfAllocated, site, entryOf, valueOf, Shape, SymbolResolves, FormIs, OnePair, Reaches, OnBoundary, Room}
 use Rattle.demands.proofs.Laws.Rules.{order-well, window-well, header-well, table-well, placed-well, has-room}
 use Rattle.demands.proofs.Laws.Relocations.{shape-well, symbol-well, form-well, pair-well, boundary-well}

@@ -45,7 +45,7 @@ use Rattle.findings.specs.declared.RelocationCheck.the-variants.{Passed as AllK
 use Rattle.values.specs.Values.{valueAt, S, T}
 use Rattle.rules.specs.Rules.{symbolWell, formWell, pairWell, distanceWell, boundaryWell}
 use Rattle.findings.specs.Search.{number, finding, findingOf, isBroken, relocationCheck}
-use Rattle.fitter.specs.Judgement.{afterObject, afterFault, afterRelocations, planOf, judgement}
+use Rattle.judgement.specs.Judgement.{afterObject, afterFault, afterRelocations, planOf, judgement}
 use Rattle.demands.specs.Rules.{OrderWell, WindowWell, HeaderWell, TableWell, PlacedAsAllocated, ValuedIfUndefined, PlacedIfAllocated, site, entryOf, Shape, SymbolResolves, FormIs, OnePair, Reaches, OnBoundary, Room}
 use Rattle.demands.specs.First.{Line, nil, rule, Checks, none, check, HoldAt, BrokenAt, one, each, table}
 use Rattle.demands.proofs.Laws.First.{Told, later, at-once, at-each, broken-once, broken-at}

@@ -34,7 +34,7 @@ use Rattle.stores.specs.Patches.{patched}
 use Rattle.stores.specs.Sections.{sumAt, relaOf, relocated, applied, after}
 use Rattle.stores.specs.Promises.{ReadsBack}
 use Rattle.spans.specs.Pieces.{pieces}
-use Rattle.fitter.specs.Judgement.{planOf, judgement}
+use Rattle.judgement.specs.Judgement.{planOf, judgement}
 use Rattle.demands.specs.Rules.{PlacedAsAllocated}
 use Rattle.demands.specs.First.{FirstBroken, table as table-of}
 use Rattle.demands.specs.Laid.{sectionIn}

@@ -15,9 +15,9 @@ use Rattle.history.specs.Calls.{Files}
 use Rattle.history.specs.Facts.{Savable}
 use Rattle.history.proofs.Laws.Install.{full, done-with, plan-savable}
 use Rattle.spans.specs.Spans.{highest, spanOf}
-use Rattle.fitter.specs.Judgement.{planOf, judgement}
-use Rattle.fitter.proofs.Laws.Judgement.{gives-plan}
-use Rattle.fitter.proofs.Laws.Laying.{is-sound, length-fits, plan-inside, span-is, ends-low}
+use Rattle.judgement.specs.Judgement.{planOf, judgement}
+use Rattle.judgement.proofs.Laws.Judgement.{gives-plan}
+use Rattle.judgement.proofs.Laws.Laying.{is-sound, length-fits, plan-inside, span-is, ends-low}
 use borrow.Author.Needs.{needs}
 use Rattle.fitter.proofs.fit.Statement.{statement}
 use Rattle.fitter.proofs.fit.Tie as tie

@@ -6,8 +6,9 @@ use borrow.Author.Tests.{not-true, not-false}
 use Rattle.history.specs.Calls.{Files}
 use Rattle.journal.specs.Journals.{sound}
 use Rattle.history.proofs.Laws.Install.{unsound, refused-by}
-use Rattle.fitter.specs.Judgement.{judgement}
-use Rattle.fitter.proofs.Laws.Judgement.{verdict-refused, verdict-done, done-fits, done-formed}
+use Rattle.judgement.specs.Judgement.{judgement}
+use Rattle.judgement.proofs.Laws.Judgement.{done-fits, done-formed}
+use Rattle.judge.proofs.Laws.Answers.{verdict-refused, verdict-done}
 use borrow.Author.Needs.{needs}
 use Rattle.fitter.proofs.install.Statement.{statement}
 use Rattle.fitter.proofs.install.Tie as tie

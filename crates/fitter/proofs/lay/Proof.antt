@@ -5,8 +5,8 @@ use native.Mathlib.Numerals.{add-one}
 use native.Mathlib.Omega.{arith}
 use lib.ListN.{length}
 use Rattle.elf.specs.Headers.{sectionCount}
-use Rattle.fitter.specs.Facts.{Fitting, withSection}
-use Rattle.fitter.proofs.Laws.Laying.{is-sound, laidBelow, laid-none, laid-more, laid-all}
+use Rattle.judgement.specs.Facts.{Fitting, withSection}
+use Rattle.judgement.proofs.Laws.Laying.{is-sound, laidBelow, laid-none, laid-more, laid-all}
 use borrow.Author.Needs.{needs}
 use Rattle.fitter.proofs.lay.Statement.{statement}
 use Rattle.fitter.proofs.lay.Tie as tie

@@ -9,7 +9,7 @@ use Rattle.elf.specs.Sections.{sectionAt}
 use Rattle.rela.specs.Facts.{Placed}
 use Rattle.findings.specs.Search.{relocationCheck}
 use Rattle.stores.specs.Sections.{relocated}
-use Rattle.fitter.proofs.Laws.Laying.{is-sound, is-placed, relocated-length, put-part}
+use Rattle.judgement.proofs.Laws.Laying.{is-sound, is-placed, relocated-length, put-part}
 use borrow.Author.Needs.{needs}
 use Rattle.fitter.proofs.lay_at.Statement.{statement}
 use Rattle.fitter.proofs.lay_at.Tie as tie

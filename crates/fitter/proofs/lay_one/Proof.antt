@@ -12,7 +12,7 @@ use Rattle.order.proofs.Laws.Sound.{reading-sound}
 use Rattle.elf.specs.Sections.{sectionAt, loaded}
 use Rattle.placing.specs.Placing.{hasBytes}
 use Rattle.stores.specs.Sections.{relocated}
-use Rattle.fitter.proofs.Laws.Laying.{is-sound, length-short, bytes-inside, bytes-loaded, no-bytes, some-bytes, with-none, with-some}
+use Rattle.judgement.proofs.Laws.Laying.{is-sound, length-short, bytes-inside, bytes-loaded, no-bytes, some-bytes, with-none, with-some}
 use borrow.Author.Needs.{needs}
 use Rattle.fitter.proofs.lay_one.Statement.{statement}
 use Rattle.fitter.proofs.lay_one.Tie as tie

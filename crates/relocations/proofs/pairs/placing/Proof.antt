@@ -2,7 +2,7 @@
 use mathlib.Core.Path.{_≡_, sym, ap, _∙_}
 use Rattle.place.specs.declared.Fault.the-variants.{Nowhere}
 use Rattle.placing.specs.Placing.{placingCheck}
-use Rattle.relocate.proofs.Laws.Sites.{placed}
+use Rattle.findings.proofs.Laws.Sites.{placed}
 use borrow.Author.Needs.{needs}
 use Rattle.relocations.proofs.pairs.placing.Statement.{statement}
 use Rattle.relocations.proofs.pairs.placing.Tie as tie

@@ -1,4 +1,0 @@
--- The laws of the definitions in specs/.
-pub mod Judgement
-pub mod Laying
-pub mod Answers

@@ -1,0 +1,41 @@
+-- `judge::judge_placements` meets its contract. Assumes nothing.
+use mathlib.Core.Path.{sym, _∙_}
+use Rattle.validate.proofs.Laws.Objects.{sound-object}
+use Rattle.judgement.proofs.Laws.Judgement.{gives-6}
+use borrow.Author.Needs.{needs}
+use Rattle.judge.proofs.judge_placements.Statement.{statement}
+use Rattle.judge.proofs.judge_placements.Tie as tie
+
+check-placements-requires : tie.Need-check-placements-requires
+check-placements-requires c κs =
+    let a = c .before .before .args in
+    let f = c .before .before .pre in
+    (sound-object (a .object .now) (f .object-is), f .reading-is)
+
+enum-told : tie.Need-enum-told
+enum-told c = search needs
+
+judge-externals-requires : tie.Need-judge-externals-requires
+judge-externals-requires c κs = (c .before .before .before .before .before .pre, sym (c .before .before .check-placements .ensures) ∙ c .enum-told .given .1)
+
+enum-known-i : tie.Need-enum-known-i
+enum-known-i c = search needs
+
+returns : tie.Need-returns
+returns c = c .judge-externals .ensures
+
+returns-2 : tie.Need-returns-2
+returns-2 c =
+    let a = c .before .before .before .before .before .before .args in
+    sym (gives-6 (a .object .now) (a .order .now) (a .len) (a .counts) _ (c .before .before .before .before .before .before .pre) (sym (c .before .before .before .check-placements .ensures) ∙ c .before .i .given .1))
+
+pub judge-placements-spec : {M : Type 1} → statement M
+judge-placements-spec =
+    tie.close
+    (tie.spec
+    check-placements-requires
+    enum-told
+    judge-externals-requires
+    enum-known-i
+    returns
+    returns-2)

@@ -1,0 +1,67 @@
+-- `judge::judge_placing` meets its contract. Assumes nothing.
+use mathlib.Core.Path.{_≡_, sym, ap, _∙_}
+use borrow.Author.Tests.{leb-true}
+use Rattle.word.proofs.Laws.Tests.{and-left}
+use Rattle.order.specs.Orders.{base}
+use Rattle.order.specs.Windows.{lengthAllowed, windowAllowed}
+use Rattle.lookup.specs.Addresses.{addresses}
+use Rattle.order.proofs.Laws.Sound.{reading-sound}
+use Rattle.validate.proofs.Laws.Objects.{sound-object}
+use Rattle.placing.specs.Placing.{placingCheck}
+use Rattle.judgement.proofs.Laws.Judgement.{gives-8}
+use borrow.Author.Needs.{needs}
+use Rattle.judge.proofs.judge_placing.Statement.{statement}
+use Rattle.judge.proofs.judge_placing.Tie as tie
+
+address-array-requires : tie.Need-address-array-requires
+address-array-requires c κs = c .before .before .pre .readable .reading-is
+
+check-placing-requires : tie.Need-check-placing-requires
+unfolding windowAllowed lengthAllowed
+check-placing-requires c κs =
+    let a = c .before .before .before .args in
+    let f = c .before .before .before .pre .readable in
+    (sound-object (a .object .now) (f .object-is), leb-true _ _ (and-left (lengthAllowed (a .len)) _ (f .window)))
+
+enum-told : tie.Need-enum-told
+enum-told c = search needs
+
+judge-relocations-requires : tie.Need-judge-relocations-requires
+judge-relocations-requires c κs =
+    let a = c .before .before .before .before .before .before .args in
+    let s = a .object .now in
+    let o = a .order .now in
+    let f = c .before .before .before .before .before .before .pre in
+    let r = f .readable .reading-is in
+    let found : placingCheck s (addresses o) (base o) (a .len) ≡ c .before .before .check-placing .result .fault =
+    ap (λ b. placingCheck s (addresses o) b (a .len)) (sym (reading-sound o (a .counts) r .base-is)) ∙ ap (λ l. placingCheck s l (a .counts .base) (a .len)) (sym (c .before .before .before .address-array .ensures)) ∙ sym (c .before .before .check-placing .ensures .0) in
+    record { named = f; placing = found ∙ c .enum-told .given .1 }
+
+enum-known-fault : tie.Need-enum-known-fault
+enum-known-fault c = search needs
+
+returns : tie.Need-returns
+returns c = c .judge-relocations .ensures
+
+returns-2 : tie.Need-returns-2
+returns-2 c =
+    let a = c .before .before .before .before .before .before .before .args in
+    let s = a .object .now in
+    let o = a .order .now in
+    let f = c .before .before .before .before .before .before .before .pre in
+    let r = f .readable .reading-is in
+    let found : placingCheck s (addresses o) (base o) (a .len) ≡ c .before .before .before .check-placing .result .fault =
+    ap (λ b. placingCheck s (addresses o) b (a .len)) (sym (reading-sound o (a .counts) r .base-is)) ∙ ap (λ l. placingCheck s l (a .counts .base) (a .len)) (sym (c .before .before .before .before .address-array .ensures)) ∙ sym (c .before .before .before .check-placing .ensures .0) in
+    sym (gives-8 s o (a .len) (a .counts) _ f (found ∙ c .before .fault .given .1))
+
+pub judge-placing-spec : {M : Type 1} → statement M
+judge-placing-spec =
+    tie.close
+    (tie.spec
+    address-array-requires
+    check-placing-requires
+    enum-told
+    judge-relocations-requires
+    enum-known-fault
+    returns
+    returns-2)

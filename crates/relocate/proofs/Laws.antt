@@ -1,2 +1,0 @@
--- The laws of the definitions in specs/.
-pub mod Sites
