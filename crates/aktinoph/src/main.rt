@@ -6,6 +6,7 @@
 // Number and place go to standard output. What keeps the call from being made or its result from being kept gives a message on
 // standard error that names the file, nothing on standard output, and changes no file. The exit status is always 0: Rattle has no other.
 ghost use mathlib.Core.Path.{_≡_};
+ghost use mathlib.Core.Bool.{_||_};
 ghost use lib.Dec.{ltb};
 ghost use lib.ListN.{take};
 ghost use Rattle.io.specs.Counts.{Counts};
@@ -78,7 +79,7 @@ fn over_image(
     if !a.is_read {
         return;
     }
-    if is_long(object.len()) | is_long(order.len()) | is_long(image.len()) | is_long(n) {
+    if any_long(object.len(), order.len(), image.len(), n) {
         print(b"too long\n");
         return;
     }
@@ -118,11 +119,11 @@ fn keep(answer: Answer, first: usize, new: &[u8], second: usize, other: &[u8]) {
     print_answer(answer);
 }
 
-// "files of at most 65,536 bytes"
-fn is_long(len: usize) -> bool
-    ensures { λ r. ⌜ r ≡ ltb 65536 len ⌝ }
+// "files of at most 65,536 bytes": whether one of them is longer.
+fn any_long(object: usize, order: usize, image: usize, ledger: usize) -> bool
+    ensures { λ r. ⌜ r ≡ (ltb 65536 object || ltb 65536 order || ltb 65536 image || ltb 65536 ledger) ⌝ }
 {
-    len > 65536
+    (object > 65536) | (order > 65536) | (image > 65536) | (ledger > 65536)
 }
 
 // The line of an answer, by its number and place.

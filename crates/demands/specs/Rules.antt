@@ -33,7 +33,7 @@ use Rattle.symbols.specs.declared.SymbolValue.{SymbolValue}
 use Rattle.rela.specs.declared.sites.Site.{Site}
 use Rattle.rela.specs.declared.shape.Previous.the-variants.{Entry}
 use Rattle.rela.specs.Sites.{siteAt, count, entry, effect, offset, A, P, found}
-use Rattle.rela.specs.Effects.{isStore, isRefused, stackWidth, needsPair}
+use Rattle.effects.specs.Effects.{isStore, isRefused, stackWidth, needsPair}
 use Rattle.rela.specs.Shape.{end, previous}
 use Rattle.values.specs.Values.{valueAt, S, T}
 use Rattle.values.specs.Pairs.{isPair, howMany}

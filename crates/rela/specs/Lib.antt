@@ -1,4 +1,3 @@
 pub mod Sites
-pub mod Effects
 pub mod Shape
 pub mod Facts

@@ -11,7 +11,7 @@ use Rattle.rela.specs.declared.sites.Site.{Site}
 use Rattle.rela.specs.declared.shape.Previous.{Previous}
 use Rattle.rela.specs.declared.shape.Previous.the-variants.{Nothing, Entry}
 use Rattle.rela.specs.Sites.{offset, effect, A}
-use Rattle.rela.specs.Effects.{isStore, isRefused, touched, stackWidth, takesPair}
+use Rattle.effects.specs.Effects.{isStore, isRefused, touched, stackWidth, takesPair}
 
 -- "Record offsets never fall."
 unfoldable pub neverFalls : List ℕ → Site → ℕ → Bool

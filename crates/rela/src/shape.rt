@@ -2,15 +2,15 @@
 ghost use mathlib.Core.Path.{_≡_};
 ghost use mathlib.Core.Bool.{cond};
 ghost use Rattle.word.specs.Whole.{signed};
-ghost use Rattle.rela.specs.Effects.{isStore};
+ghost use Rattle.effects.specs.Effects.{isStore};
 ghost use Rattle.rela.specs.Shape.{neverFalls, previous as «the-previous», clears, addendWell, shapeWell};
 ghost use Rattle.rela.specs.Facts.{There};
-use super::effects::bytes_touched;
-use super::effects::is_refused;
-use super::effects::is_store;
-use super::effects::needs_pair;
-use super::effects::stack_width;
 use super::sites::Site;
+use effects::bytes_touched;
+use effects::is_refused;
+use effects::is_store;
+use effects::needs_pair;
+use effects::stack_width;
 use types::Decision;
 use types::decide;
 

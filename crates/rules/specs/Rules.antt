@@ -25,7 +25,7 @@ use Rattle.rela.specs.declared.sites.Site.{Site}
 use Rattle.values.specs.declared.pairs.Pair.{Pair}
 use Rattle.values.specs.declared.pairs.Pair.the-variants.{At, NotOne}
 use Rattle.rela.specs.Sites.{entry, offset, effect, P, found}
-use Rattle.rela.specs.Effects.{isStore, needsPair}
+use Rattle.effects.specs.Effects.{isStore, needsPair}
 use Rattle.values.specs.Pairs.{pairOf}
 
 -- ---- check 10

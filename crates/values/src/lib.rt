@@ -7,7 +7,7 @@ ghost use Prim.Native.Nat.{_+_, _≤_};
 ghost use lib.ListN.{length};
 ghost use Rattle.word.specs.Bytes.{leAt};
 ghost use Rattle.word.specs.Whole.{signed, plus};
-ghost use Rattle.rela.specs.Facts.{isWidth};
+ghost use Rattle.effects.specs.Widths.{isWidth};
 ghost use Rattle.values.specs.Values.{S, T};
 use elf::Relocation;
 use rela::sites::Site;

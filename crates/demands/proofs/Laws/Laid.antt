@@ -26,9 +26,9 @@ use Rattle.types.specs.declared.Decision.the-variants.{Marker, Align, Store, Re
 use Rattle.riscv.specs.Halves.{low}
 use Rattle.rela.specs.declared.sites.Site.{Site}
 use Rattle.rela.specs.Sites.{siteAt, count, entry, effect, offset, A, P, found}
-use Rattle.rela.specs.Effects.{isStore, touched}
+use Rattle.effects.specs.Effects.{isStore, touched}
 use Rattle.rela.specs.Shape.{end, staysInside}
-use Rattle.rela.proofs.Laws.Decisions.{store-width, width-some}
+use Rattle.effects.proofs.Laws.Decisions.{store-width, width-some}
 use Rattle.values.specs.Values.{valueAt, S, T}
 use Rattle.findings.proofs.Laws.Search.{kept-rules}
 use Rattle.stores.specs.Facts.{Checked}

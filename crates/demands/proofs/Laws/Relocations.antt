@@ -22,7 +22,7 @@ use Rattle.rela.specs.declared.sites.Site.{Site}
 use Rattle.rela.specs.declared.shape.Previous.{Previous}
 use Rattle.rela.specs.declared.shape.Previous.the-variants.{Nothing, Entry}
 use Rattle.rela.specs.Sites.{entry, effect, offset, A, P, found}
-use Rattle.rela.specs.Effects.{isStore, isRefused, takesPair, needsPair}
+use Rattle.effects.specs.Effects.{isStore, isRefused, takesPair, needsPair}
 use Rattle.rela.specs.Shape.{neverFalls, end, staysInside, previous, sharesPlace, clears, noOverlap, addendWell, shapeWell}
 use Rattle.values.specs.Pairs.{pairOf}
 use Rattle.values.specs.declared.pairs.Pair.the-variants.{At, NotOne}

@@ -3,8 +3,8 @@ use mathlib.Core.Path.{sym, ap, _∙_}
 use native.Mathlib.Omega.{arith}
 use Rattle.types.specs.Types.{decision}
 use Rattle.rela.specs.Sites.{entry, offset}
-use Rattle.rela.specs.Effects.{isStore, touched, needsPair}
-use Rattle.rela.proofs.Laws.Decisions.{store-width, store-data}
+use Rattle.effects.specs.Effects.{isStore, touched, needsPair}
+use Rattle.effects.proofs.Laws.Decisions.{store-width, store-data}
 use Rattle.rela.proofs.Laws.Sites.{found-length, store-inside}
 use Rattle.rela.proofs.Laws.Shape.{shape-inside}
 use Rattle.rules.proofs.Laws.Rules.{resolved-there, pair-symbol}

@@ -1,7 +1,7 @@
 -- `patch::data_width` meets its contract. Assumes nothing.
 use mathlib.Core.Path.{sym, ap, _∙_}
 use Rattle.word.proofs.Laws.Tests.{never}
-use Rattle.rela.specs.Facts.{isDataField}
+use Rattle.effects.specs.Widths.{isDataField}
 use borrow.Author.Needs.{needs}
 use Rattle.patch.proofs.data_width.Statement.{statement}
 use Rattle.patch.proofs.data_width.Tie as tie

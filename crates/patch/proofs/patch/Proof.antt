@@ -8,7 +8,7 @@ use Rattle.fields.specs.Layouts.{put}
 use Rattle.fields.specs.Fields.{layout}
 use Rattle.types.specs.declared.Calculation.the-variants.{Add, Sub, Set}
 use Rattle.riscv.specs.Data.{added, subtracted, replaced}
-use Rattle.rela.specs.Facts.{onData}
+use Rattle.effects.specs.Widths.{onData}
 use Rattle.stores.specs.Patches.{highPart, lowPart, patched}
 use borrow.Author.Needs.{needs}
 use Rattle.patch.proofs.patch.Statement.{statement}

@@ -3,7 +3,7 @@ use mathlib.Core.Path.{_≡_, ap, _∙_}
 use native.Mathlib.Omega.{arith}
 use lib.Seq.{sets}
 use Rattle.word.proofs.Laws.Bytes.{bytes-mod}
-use Rattle.rela.proofs.Laws.Widths.{last-width}
+use Rattle.effects.proofs.Laws.Widths.{last-width}
 use borrow.Author.Needs.{needs}
 use Rattle.patch.proofs.write_bytes.Statement.{statement}
 use Rattle.patch.proofs.write_bytes.Tie as tie

@@ -11,7 +11,7 @@ use Rattle.word.specs.Whole.{signed, within, even}
 use Rattle.word.proofs.Laws.Whole.{sub-back}
 use Rattle.types.specs.declared.Decision.{Decision}
 use Rattle.types.specs.declared.Decision.the-variants.{Marker, Align, Store, Refused}
-use Rattle.rela.specs.Effects.{isStore, needsPair}
+use Rattle.effects.specs.Effects.{isStore, needsPair}
 use Rattle.rela.specs.Shape.{addendWell}
 
 -- the lower half of the numbers of w bits are themselves, and the others negative

@@ -12,7 +12,7 @@ use Rattle.types.specs.declared.Decision.the-variants.{Align}
 use Rattle.rela.specs.declared.sites.Site.{Site}
 use Rattle.rela.specs.declared.shape.Previous.the-variants.{Entry}
 use Rattle.rela.specs.Sites.{entry, offset, effect, A}
-use Rattle.rela.specs.Effects.{isStore, isRefused}
+use Rattle.effects.specs.Effects.{isStore, isRefused}
 use Rattle.rela.specs.Shape.{end, neverFalls, staysInside, previous, noOverlap, addendWell, shapeWell}
 use Rattle.rela.proofs.Laws.Addends.{padding-refused}
 

@@ -16,7 +16,7 @@ use Rattle.validate.specs.Sound.{SoundObject}
 use Rattle.validate.proofs.Laws.Bounds.{loaded-inside}
 use Rattle.rela.specs.declared.sites.Site.{Site}
 use Rattle.rela.specs.Sites.{siteAt, count, offset, effect, found}
-use Rattle.rela.specs.Effects.{touched}
+use Rattle.effects.specs.Effects.{touched}
 use Rattle.rela.specs.Facts.{SoundSite, Placed}
 
 -- ---- the bytes of the target

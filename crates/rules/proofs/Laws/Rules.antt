@@ -25,11 +25,11 @@ use Rattle.types.specs.Types.{decision}
 use Rattle.rela.specs.declared.sites.Site.{Site}
 use Rattle.rela.specs.Sites.{entry, offset, effect, A, P, found}
 use Rattle.values.specs.Values.{S, T}
-use Rattle.rela.specs.Effects.{isStore, touched, needsPair}
+use Rattle.effects.specs.Effects.{isStore, touched, needsPair}
 use Rattle.rela.specs.Shape.{end}
 use Rattle.rules.specs.Rules.{isResolved, inTarget, symbolWell, standsWell, asksWell, formWell, distanceWell, boundaryWell}
 use Rattle.rela.specs.Facts.{SoundSite}
-use Rattle.rela.proofs.Laws.Decisions.{store-width, width-some}
+use Rattle.effects.proofs.Laws.Decisions.{store-width, width-some}
 use Rattle.rela.proofs.Laws.Addends.{signed-low}
 
 -- ---- check 10

@@ -16,7 +16,7 @@ use Rattle.types.specs.declared.Decision.{Decision}
 use Rattle.types.specs.declared.Decision.the-variants.{Marker, Align, Store, Refused}
 use Rattle.rela.specs.declared.sites.Site.{Site}
 use Rattle.rela.specs.Sites.{count, effect, offset, P, found}
-use Rattle.rela.specs.Effects.{touched, isStore}
+use Rattle.effects.specs.Effects.{touched, isStore}
 use Rattle.rela.specs.Shape.{end}
 use Rattle.stores.specs.Patches.{patched}
 use Rattle.stores.specs.Sections.{sumAt, pairDistance, applied, after}

@@ -27,7 +27,7 @@ use Rattle.values.specs.declared.pairs.Pair.{Pair}
 use Rattle.values.specs.declared.pairs.Pair.the-variants.{At, NotOne}
 use Rattle.rela.specs.Sites.{count, entry, effect, offset, A, P, found}
 use Rattle.values.specs.Values.{S, T, valueAt}
-use Rattle.rela.specs.Effects.{needsPair}
+use Rattle.effects.specs.Effects.{needsPair}
 use Rattle.values.specs.Pairs.{PCREL_HI20, isPair, pairOf}
 use Rattle.rules.specs.Rules.{symbol, isOne, pairWell}
 use Rattle.values.proofs.Laws.Pairs.{pair-there}

@@ -22,10 +22,10 @@ use Rattle.types.specs.Types.{decision}
 use Rattle.rela.specs.declared.sites.Site.{Site}
 use Rattle.rela.specs.declared.shape.Previous.the-variants.{Entry}
 use Rattle.rela.specs.Sites.{offset, effect}
-use Rattle.rela.specs.Effects.{isStore, touched, stacks, stackWidth}
+use Rattle.effects.specs.Effects.{isStore, touched, stacks, stackWidth}
 use Rattle.rela.specs.Shape.{end, neverFalls, previous, sharesPlace, clears, noOverlap, shapeWell}
-use Rattle.rela.specs.Facts.{isDataField}
-use Rattle.rela.proofs.Laws.Decisions.{fieldBytes, store-bytes, store-data}
+use Rattle.effects.specs.Widths.{isDataField}
+use Rattle.effects.proofs.Laws.Decisions.{fieldBytes, store-bytes, store-data}
 use Rattle.rela.proofs.Laws.Shape.{shape-rises, shape-clear}
 
 -- ---- equal widths are equal fields

@@ -13,7 +13,7 @@ use Rattle.fields.specs.Fields.{layout, valueBits}
 use Rattle.types.specs.declared.Calculation.{Calculation}
 use Rattle.types.specs.declared.Calculation.the-variants.{Absolute, PcRelative, Distance, BothHalves, HighPcRelative, HighAbsolute, LowAbsolute, LowOfPair, Add, Sub, Set}
 use Rattle.riscv.specs.Ranges.{distance}
-use Rattle.rela.specs.Effects.{takesPair}
+use Rattle.effects.specs.Effects.{takesPair}
 use Rattle.stores.specs.Patches.{highPart, lowPart, calculated, patched}
 
 -- ---- numbers that are equal modulo 2^(j + k) are so modulo 2^k

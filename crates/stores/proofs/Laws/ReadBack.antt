@@ -29,11 +29,11 @@ use Rattle.types.specs.declared.Decision.the-variants.{Marker, Align, Store, Re
 use Rattle.rela.specs.declared.sites.Site.{Site}
 use Rattle.rela.specs.Sites.{count, effect, offset, A, P, found}
 use Rattle.values.specs.Values.{S as value, T, valueAt}
-use Rattle.rela.specs.Effects.{touched, isStore, stacks, stackWidth}
+use Rattle.effects.specs.Effects.{touched, isStore, stacks, stackWidth}
 use Rattle.rela.specs.Shape.{end, shapeWell}
 use Rattle.rules.specs.Rules.{reachesWell, distanceWell}
-use Rattle.rela.specs.Facts.{isDataField}
-use Rattle.rela.proofs.Laws.Decisions.{fieldBytes, store-width, store-bytes, store-data, width-some}
+use Rattle.effects.specs.Widths.{isDataField}
+use Rattle.effects.proofs.Laws.Decisions.{fieldBytes, store-width, store-bytes, store-data, width-some}
 use Rattle.rela.proofs.Laws.Sites.{store-inside}
 use Rattle.rela.proofs.Laws.Shape.{shape-inside}
 use Rattle.findings.proofs.Laws.Search.{kept-rules}

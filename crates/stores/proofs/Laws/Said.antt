@@ -27,10 +27,10 @@ use Rattle.riscv.specs.Halves.{high, low}
 use Rattle.riscv.specs.Ranges.{distance, rangeOf, reaches}
 use Rattle.riscv.proofs.Laws.Halves.{halves-sum, low-spelt}
 use Rattle.riscv.proofs.Laws.Ranges.{branch-reads-back, jal-reads-back, rvc-branch-reads-back, rvc-jump-reads-back}
-use Rattle.rela.specs.Effects.{stacks}
+use Rattle.effects.specs.Effects.{stacks}
 use Rattle.rules.specs.Rules.{reachesWell}
-use Rattle.rela.specs.Facts.{isDataField}
-use Rattle.rela.proofs.Laws.Decisions.{holds, decided}
+use Rattle.effects.specs.Widths.{isDataField}
+use Rattle.effects.proofs.Laws.Decisions.{holds, decided}
 use Rattle.stores.specs.Patches.{highPart, lowPart, patched}
 use Rattle.stores.specs.Promises.{Said}
 

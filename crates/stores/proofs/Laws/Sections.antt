@@ -33,7 +33,7 @@ use Rattle.rela.specs.declared.sites.Site.{Site}
 use Rattle.findings.specs.declared.RelocationCheck.the-variants.{Passed}
 use Rattle.rela.specs.Sites.{siteAt, count, entry, effect, offset, P, found}
 use Rattle.values.specs.Values.{S, T, valueAt}
-use Rattle.rela.specs.Effects.{takesPair, isStore}
+use Rattle.effects.specs.Effects.{takesPair, isStore}
 use Rattle.rela.specs.Shape.{end}
 use Rattle.rules.specs.Rules.{symbol}
 use Rattle.findings.specs.Search.{relocationCheck}

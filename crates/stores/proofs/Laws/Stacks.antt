@@ -18,8 +18,8 @@ use Rattle.fields.specs.Fields.{layout, valueBits, bits, dataLayout}
 use Rattle.fields.proofs.Laws.Fields.{reads-back, read-whole, read-six}
 use Rattle.types.specs.declared.Calculation.{Calculation}
 use Rattle.types.specs.declared.Calculation.the-variants.{Absolute, PcRelative, Distance, BothHalves, HighPcRelative, HighAbsolute, LowAbsolute, LowOfPair, Add, Sub, Set}
-use Rattle.rela.specs.Effects.{stacks}
-use Rattle.rela.specs.Facts.{isDataField}
+use Rattle.effects.specs.Effects.{stacks}
+use Rattle.effects.specs.Widths.{isDataField}
 use Rattle.stores.specs.Patches.{calculated, patched}
 use Rattle.stores.specs.Promises.{stackStep}
 

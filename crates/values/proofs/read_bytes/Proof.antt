@@ -1,7 +1,7 @@
 -- `values::read_bytes` meets its contract. Assumes nothing.
 use mathlib.Core.Path.{_≡_}
 use native.Mathlib.Omega.{arith}
-use Rattle.rela.proofs.Laws.Widths.{last-width}
+use Rattle.effects.proofs.Laws.Widths.{last-width}
 use borrow.Author.Needs.{needs}
 use Rattle.values.proofs.read_bytes.Statement.{statement}
 use Rattle.values.proofs.read_bytes.Tie as tie

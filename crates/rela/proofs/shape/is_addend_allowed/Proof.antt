@@ -2,7 +2,7 @@
 use mathlib.Core.Path.{sym, ap, _∙_}
 use native.Mathlib.Omega.{arith}
 use Rattle.word.specs.Whole.{signed}
-use Rattle.rela.specs.Effects.{isStore}
+use Rattle.effects.specs.Effects.{isStore}
 use Rattle.rela.specs.Shape.{addendWell}
 use Rattle.rela.proofs.Laws.Addends.{zero-is, store-addend}
 use borrow.Author.Needs.{needs}

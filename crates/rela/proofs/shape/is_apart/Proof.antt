@@ -2,7 +2,7 @@
 use native.Mathlib.Omega.{arith}
 use Prim.Native.Nat.{_≤_}
 use Rattle.rela.specs.Shape.{sharesPlace}
-use Rattle.rela.proofs.Laws.Decisions.{touched-small}
+use Rattle.effects.proofs.Laws.Decisions.{touched-small}
 use borrow.Author.Needs.{needs}
 use Rattle.rela.proofs.shape.is_apart.Statement.{statement}
 use Rattle.rela.proofs.shape.is_apart.Tie as tie

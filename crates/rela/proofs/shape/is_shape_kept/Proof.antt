@@ -2,7 +2,7 @@
 use Prim.Native.Nat.{_≤_}
 use native.Mathlib.Omega.{arith}
 use Rattle.rela.specs.Shape.{staysInside, noOverlap, shapeWell}
-use Rattle.rela.proofs.Laws.Decisions.{touched-small}
+use Rattle.effects.proofs.Laws.Decisions.{touched-small}
 use borrow.Author.Needs.{needs}
 use Rattle.rela.proofs.shape.is_shape_kept.Statement.{statement}
 use Rattle.rela.proofs.shape.is_shape_kept.Tie as tie

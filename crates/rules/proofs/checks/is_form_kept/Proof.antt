@@ -1,9 +1,9 @@
 -- `rules::checks::is_form_kept` meets its contract. Assumes nothing.
 use mathlib.Core.Path.{sym, ap, _∙_}
 use Rattle.types.specs.Types.{decision}
-use Rattle.rela.specs.Effects.{touched}
+use Rattle.effects.specs.Effects.{touched}
 use Rattle.rules.specs.Rules.{formWell}
-use Rattle.rela.proofs.Laws.Decisions.{store-width}
+use Rattle.effects.proofs.Laws.Decisions.{store-width}
 use Rattle.rela.proofs.Laws.Sites.{store-inside}
 use Rattle.rules.proofs.Laws.Rules.{form-read}
 use borrow.Author.Needs.{needs}

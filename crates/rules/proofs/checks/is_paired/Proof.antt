@@ -6,7 +6,7 @@ use native.Mathlib.Omega.{arith}
 use borrow.Author.Tests.{not-true, not-false}
 use Rattle.elf.specs.Entries.{symbolCount}
 use Rattle.validate.proofs.Laws.Bounds.{symbol-inside}
-use Rattle.rela.specs.Effects.{needsPair}
+use Rattle.effects.specs.Effects.{needsPair}
 use Rattle.rela.specs.Sites.{effect}
 use Rattle.rules.specs.Rules.{pairWell}
 use borrow.Author.Needs.{needs}

@@ -1,7 +1,7 @@
 // What the rules ask of a type's decision.
 ghost use mathlib.Core.Path.{_≡_};
 ghost use Rattle.fields.specs.Fields.{valueBits};
-ghost use Rattle.rela.specs.Effects.{isStore, isRefused, touched, stacks, stackWidth, takesPair, needsPair};
+ghost use Rattle.effects.specs.Effects.{isStore, isRefused, touched, stacks, stackWidth, takesPair, needsPair};
 use fields::Field;
 use fields::Width;
 use types::Calculation;

@@ -16,8 +16,8 @@ use Rattle.types.specs.declared.Calculation.{Calculation}
 use Rattle.types.specs.declared.Decision.{Decision}
 use Rattle.types.specs.declared.Decision.the-variants.{Marker, Align, Store, Refused}
 use Rattle.types.specs.Types.{Line, table, among, lookup, decision}
-use Rattle.rela.specs.Effects.{touched}
-use Rattle.rela.specs.Facts.{isWidth, onData}
+use Rattle.effects.specs.Effects.{touched}
+use Rattle.effects.specs.Widths.{isWidth, onData}
 
 -- a test that holds on each line, and of a refusal, holds of every decision
 unfoldable pub holds : (Decision → Bool) → List Line → Bool

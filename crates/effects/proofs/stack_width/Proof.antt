@@ -1,7 +1,7 @@
--- `rela::effects::stack_width` meets its contract. Assumes nothing.
+-- `effects::stack_width` meets its contract. Assumes nothing.
 use borrow.Author.Needs.{needs}
-use Rattle.rela.proofs.effects.stack_width.Statement.{statement}
-use Rattle.rela.proofs.effects.stack_width.Tie as tie
+use Rattle.effects.proofs.stack_width.Statement.{statement}
+use Rattle.effects.proofs.stack_width.Tie as tie
 
 enum-known-decision : tie.Need-enum-known-decision
 enum-known-decision c = search needs

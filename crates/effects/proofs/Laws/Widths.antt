@@ -4,7 +4,7 @@ use mathlib.Core.Bool.{true}
 use Prim.Native.Nat.{ℕ}
 use lib.Dec.{eqb}
 use borrow.Author.Tests.{eqb-true, ne-eqb}
-use Rattle.rela.specs.Facts.{isWidth}
+use Rattle.effects.specs.Widths.{isWidth}
 
 -- not 1, 2 or 4: it is 8
 pub last-width : (n : ℕ) → isWidth n ≡ true → (n ≡ 1 → ⊥) → (n ≡ 2 → ⊥) → (n ≡ 4 → ⊥) → n ≡ 8
