@@ -8,12 +8,7 @@
 ghost use mathlib.Core.Path.{_≡_};
 ghost use mathlib.Core.Bool.{_||_};
 ghost use lib.Dec.{ltb};
-ghost use lib.ListN.{take};
-ghost use Rattle.io.specs.Counts.{Counts};
-ghost use Rattle.judge.specs.Answers.{answerOf};
-ghost use Rattle.text.specs.Lines.{line};
 use files::replace_both;
-use judge::Answer;
 use text::Command;
 
 fn main() {
@@ -99,24 +94,24 @@ fn fit_bytes(
     ledger_at: usize,
     ledger: &mut [u8],
 ) {
-    let answer = fitter::install(object, order, image, ledger);
-    keep(answer, ledger_at, ledger, image_at, image);
+    let code = fitter::aktinoph_fit(object, order, image, ledger);
+    keep(code, ledger_at, ledger, image_at, image);
 }
 
 // The image first: a cut between the two leaves a fit that can be taken back again.
 fn take_back_bytes(image_at: usize, image: &mut [u8], ledger_at: usize, ledger: &mut [u8]) {
-    let answer = fitter::rollback(image, ledger);
-    keep(answer, image_at, image, ledger_at, ledger);
+    let code = fitter::aktinoph_take_back(image, ledger);
+    keep(code, image_at, image, ledger_at, ledger);
 }
 
 // Replaces both files where the call was done, and then gives its answer.
-fn keep(answer: Answer, first: usize, new: &[u8], second: usize, other: &[u8]) {
-    if judge::code_of(answer) == 0 {
+fn keep(code: u64, first: usize, new: &[u8], second: usize, other: &[u8]) {
+    if code == 0 {
         if !replace_both(first, new, second, other) {
             return;
         }
     }
-    print_answer(answer);
+    print_answer(code);
 }
 
 // "files of at most 65,536 bytes": whether one of them is longer.
@@ -126,18 +121,10 @@ fn any_long(object: usize, order: usize, image: usize, ledger: usize) -> bool
     (object > 65536) | (order > 65536) | (image > 65536) | (ledger > 65536)
 }
 
-// The line of an answer, by its number and place.
-fn line_of(answer: Answer, out: &mut [u8; 42]) -> usize
-    ensures { λ r. ⌜ Counts r (now (out .exit)) ⌝ }
-    ensures { λ r. ⌜ take r (now (out .exit)) ≡ line (answerOf answer) ⌝ }
-{
-    let code = judge::code_of(answer);
-    text::answer_line(code % 4294967296, code / 4294967296, out)
-}
-
-fn print_answer(answer: Answer) {
+// An answer has its number in the low half and its place in the high one.
+fn print_answer(code: u64) {
     let mut line = [0u8; 42];
-    let n = line_of(answer, &mut line);
+    let n = text::answer_line(code % 4294967296, code / 4294967296, &mut line);
     print(&line[..n]);
 }
 

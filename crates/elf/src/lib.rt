@@ -48,7 +48,7 @@ pub fn section_count(object: &[u8]) -> usize
     requires { ⌜ 52 ≤ length (now object) ⌝ }
     ensures { λ r. ⌜ r ≡ sectionCount (now (object .entry)) ⌝ }
 {
-    word::read16(object, 48) as usize
+    endian::read16(object, 48) as usize
 }
 
 // The header of section i.
@@ -56,16 +56,16 @@ pub fn read_section(object: &[u8], i: usize) -> Section
     requires { ⌜ HeaderInside (now object) i ⌝ }
     ensures { λ r. ⌜ r ≡ sectionAt (now (object .entry)) i ⌝ }
 {
-    let at = word::read32(object, 32) as usize + 40 * i;
+    let at = endian::read32(object, 32) as usize + 40 * i;
     Section {
-        kind: word::read32(object, at + 4),
-        flags: word::read32(object, at + 8),
-        offset: FileOffset(word::read32(object, at + 16)),
-        size: word::read32(object, at + 20),
-        link: word::read32(object, at + 24),
-        info: word::read32(object, at + 28),
-        alignment: word::read32(object, at + 32),
-        entsize: word::read32(object, at + 36),
+        kind: endian::read32(object, at + 4),
+        flags: endian::read32(object, at + 8),
+        offset: FileOffset(endian::read32(object, at + 16)),
+        size: endian::read32(object, at + 20),
+        link: endian::read32(object, at + 24),
+        info: endian::read32(object, at + 28),
+        alignment: endian::read32(object, at + 32),
+        entsize: endian::read32(object, at + 36),
     }
 }
 
@@ -176,12 +176,12 @@ pub fn read_symbol(object: &[u8], table: Section, k: usize) -> Symbol
     ensures { λ r. ⌜ r ≡ symbolAt (now (object .entry)) table k ⌝ }
 {
     let at = table.offset.0 as usize + 16 * k;
-    let info = word::read8(object, at + 12);
+    let info = endian::read8(object, at + 12);
     Symbol {
-        value: word::read32(object, at + 4),
+        value: endian::read32(object, at + 4),
         kind: info % 16,
         binding: info / 16,
-        section: word::read16(object, at + 14),
+        section: endian::read16(object, at + 14),
     }
 }
 
@@ -191,12 +191,12 @@ pub fn read_relocation(object: &[u8], h: Section, k: usize) -> Relocation
     ensures { λ r. ⌜ r ≡ relocationAt (now (object .entry)) h k ⌝ }
 {
     let at = h.offset.0 as usize + 12 * k;
-    let info = word::read32(object, at + 4);
+    let info = endian::read32(object, at + 4);
     Relocation {
-        offset: SectionOffset(word::read32(object, at)),
+        offset: SectionOffset(endian::read32(object, at)),
         kind: (info % 256) as u8,
         symbol: info / 256,
-        addend: word::addend(word::read32(object, at + 8)),
+        addend: arith::addend(endian::read32(object, at + 8)),
     }
 }
 

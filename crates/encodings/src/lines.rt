@@ -35,8 +35,8 @@ pub fn field(number: u64, word: u64, value: u64) {
     first(b'f', number);
     then(word);
     then(value);
-    then(fields::put_field(field, word, value));
-    then(fields::read_field(field, word));
+    then(encode::put_field(field, word, value));
+    then(decode::read_field(field, word));
     end();
 }
 

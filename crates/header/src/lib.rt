@@ -14,14 +14,14 @@ pub fn check_header(object: &[u8]) -> bool
     if object.len() < 52 {
         return false;
     }
-    (word::read32(object, 0) == 0x464c457f)
+    (endian::read32(object, 0) == 0x464c457f)
         & (object[4] == 1)
         & (object[5] == 1)
         & (object[6] == 1)
-        & (word::read16(object, 16) == 1)
-        & (word::read16(object, 18) == 243)
-        & (word::read32(object, 20) == 1)
-        & (word::read16(object, 40) == 52)
+        & (endian::read16(object, 16) == 1)
+        & (endian::read16(object, 18) == 243)
+        & (endian::read32(object, 20) == 1)
+        & (endian::read16(object, 40) == 52)
 }
 
 // Check 5 at place 0: the section header table.
@@ -29,7 +29,7 @@ pub fn check_table(object: &[u8]) -> bool
     requires { ⌜ 52 ≤ length (now object) ⌝ }
     ensures { λ r. ⌜ r ≡ tableAllowed (now (object .entry)) ⌝ }
 {
-    let n = word::read16(object, 48) as usize;
-    let start = word::read32(object, 32) as usize;
-    (word::read16(object, 46) == 40) & (1 <= n) & (n <= 32) & (start + 40 * n <= object.len())
+    let n = endian::read16(object, 48) as usize;
+    let start = endian::read32(object, 32) as usize;
+    (endian::read16(object, 46) == 40) & (1 <= n) & (n <= 32) & (start + 40 * n <= object.len())
 }

@@ -29,8 +29,8 @@ pub fn read_entry(journal: &[u8], i: usize) -> Span
 {
     let at = ENTRIES_AT + 8 * i;
     Span {
-        start: word::read32(journal, at),
-        size: word::read32(journal, at + 4),
+        start: endian::read32(journal, at),
+        size: endian::read32(journal, at + 4),
     }
 }
 
@@ -49,8 +49,8 @@ pub fn is_sound(journal: &[u8], len: usize) -> bool
     if journal.len() < OLD_AT {
         return false;
     }
-    let n = word::read32(journal, COUNT_AT) as usize;
-    let k = word::read32(journal, HELD_AT) as usize;
+    let n = endian::read32(journal, COUNT_AT) as usize;
+    let k = endian::read32(journal, HELD_AT) as usize;
     if MAX_ENTRIES < n {
         return false;
     }
@@ -77,7 +77,7 @@ pub fn has_room(journal: &[u8], size: u32) -> bool
     if journal.len() < OLD_AT {
         return false;
     }
-    let n = word::read32(journal, COUNT_AT) as usize;
-    let k = word::read32(journal, HELD_AT) as usize;
+    let n = endian::read32(journal, COUNT_AT) as usize;
+    let k = endian::read32(journal, HELD_AT) as usize;
     !((n == MAX_ENTRIES) | (journal.len() < OLD_AT + k + size as usize))
 }

@@ -36,8 +36,8 @@ pub fn read_entry(order: &[u8], at: usize, i: usize) -> Entry
 {
     let place = at + 8 * i;
     Entry {
-        index: word::read32(order, place),
-        value: word::read32(order, place + 4),
+        index: endian::read32(order, place),
+        value: endian::read32(order, place + 4),
     }
 }
 
@@ -65,10 +65,10 @@ pub fn read_order(order: &[u8]) -> Reading
     if order.len() < 16 {
         return Reading::Malformed;
     }
-    if word::read32(order, 0) != 1 {
+    if endian::read32(order, 0) != 1 {
         return Reading::Malformed;
     }
-    let placements = word::read32(order, 8) as usize;
+    let placements = endian::read32(order, 8) as usize;
     if MAX_PLACEMENTS < placements {
         return Reading::Malformed;
     }
@@ -76,7 +76,7 @@ pub fn read_order(order: &[u8]) -> Reading
     if order.len() < start {
         return Reading::Malformed;
     }
-    let externals = word::read32(order, 12 + 8 * placements) as usize;
+    let externals = endian::read32(order, 12 + 8 * placements) as usize;
     if MAX_EXTERNALS < externals {
         return Reading::Malformed;
     }
@@ -90,7 +90,7 @@ pub fn read_order(order: &[u8]) -> Reading
         return Reading::Malformed;
     }
     Reading::WellFormed(Counts {
-        base: word::read32(order, 4),
+        base: endian::read32(order, 4),
         placements,
         externals,
     })

@@ -22,9 +22,9 @@ ghost use Rattle.stores.specs.Patches.{highPart, lowPart, patched};
 ghost use Rattle.stores.specs.Sections.{sumAt, distanceAt, pairDistance, applied, after, relaOf, relocated};
 ghost use Rattle.stores.specs.Facts.{Checked};
 use effects::takes_pair;
+use encode::put_field;
 use fields::Field;
 use fields::Width;
-use fields::put_field;
 use findings::RelocationCheck;
 use order::Counts;
 use order::Reading;
@@ -90,7 +90,7 @@ fn patch(calculation: Calculation, field: Field, w: u64, x: u64, p: Address, d: 
     ensures { λ r. ⌜ r ≡ patched calculation field w (signed 64 x) (p .0) d ⌝ }
 {
     let t = (x % 0x1_0000_0000) as u32;
-    let distance = word::sub32(t, p.0 as u64);
+    let distance = arith::sub32(t, p.0 as u64);
     match calculation {
         Calculation::Absolute => put_field(field, w, t as u64),
         Calculation::PcRelative => put_field(field, w, distance as u64),
@@ -112,18 +112,18 @@ fn write_bytes(s: &mut [u8], at: usize, n: usize, x: u64)
     ensures { λ _. ⌜ now (s .exit) ≡ sets (now (s .entry)) at (bytes n x) ⌝ }
 {
     if n == 1 {
-        word::write8(s, at, (x % 0x100) as u8);
+        endian::write8(s, at, (x % 0x100) as u8);
         return;
     }
     if n == 2 {
-        word::write16(s, at, (x % 0x1_0000) as u16);
+        endian::write16(s, at, (x % 0x1_0000) as u16);
         return;
     }
     if n == 4 {
-        word::write32(s, at, (x % 0x1_0000_0000) as u32);
+        endian::write32(s, at, (x % 0x1_0000_0000) as u32);
         return;
     }
-    word::write64(s, at, x);
+    endian::write64(s, at, x);
 }
 
 // S + A in two's complement.
@@ -131,8 +131,8 @@ fn symbol_sum(value: SymbolValue, addend: u64) -> u64
     ensures { λ r. ⌜ r ≡ residue 64 (pos (S value) +ℤ signed 64 addend) ⌝ }
 {
     match value {
-        SymbolValue::Resolved(s) => word::add64(s as u64, addend),
-        SymbolValue::Unresolved => word::add64(0, addend),
+        SymbolValue::Resolved(s) => arith::add64(s as u64, addend),
+        SymbolValue::Unresolved => arith::add64(0, addend),
     }
 }
 
@@ -172,7 +172,7 @@ fn distance_at(
     let lookup = symbols::symbol_value(object, order, counts, symbols, addresses, here.symbol);
     let value = lookup.value;
     let p = place_of(site, here);
-    word::sub32(target_of(value, here.addend), p.0 as u64)
+    arith::sub32(target_of(value, here.addend), p.0 as u64)
 }
 
 // T - P of the paired high half of relocation j, which is a PCREL_LO12.

@@ -33,9 +33,9 @@ fn next() -> Command {
 fn decode(text: &[u8; 13]) -> Command {
     Command {
         letter: text[0],
-        a: word::read32(text, 1),
-        b: word::read32(text, 5),
-        c: word::read32(text, 9),
+        a: endian::read32(text, 1),
+        b: endian::read32(text, 5),
+        c: endian::read32(text, 9),
     }
 }
 

@@ -19,7 +19,7 @@ pub fn bytes(digest: u64, s: &[u8]) -> u64 {
     let mut d = mix(digest, s.len() as u64);
     let mut i: usize = 0;
     while i < s.len() {
-        d = mix(d, word::read8(s, i) as u64);
+        d = mix(d, endian::read8(s, i) as u64);
         i += 1;
     }
     d

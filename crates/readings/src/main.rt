@@ -33,8 +33,8 @@ fn next() -> Command {
 fn decode(text: &[u8; 9]) -> Command {
     Command {
         letter: text[0],
-        a: word::read32(text, 1),
-        b: word::read32(text, 5),
+        a: endian::read32(text, 1),
+        b: endian::read32(text, 5),
     }
 }
 

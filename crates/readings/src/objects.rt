@@ -23,7 +23,7 @@ fn passed(s: &[u8]) {
         return;
     }
     let n = elf::section_count(s);
-    let table = word::read32(s, 32) as usize;
+    let table = endian::read32(s, 32) as usize;
     if 32 < n {
         return;
     }

@@ -2,19 +2,19 @@
 ghost use mathlib.Core.Path.{_≡_};
 ghost use Rattle.word.specs.Whole.{signed};
 ghost use Rattle.riscv.specs.Data.{added, subtracted, replaced};
+use encode::put_data;
 use fields::Width;
-use fields::put_data;
 
 // The present value with x added.
 pub fn add(width: Width, v: u64, x: u64) -> u64
     ensures { λ r. ⌜ r ≡ added width v (signed 64 x) ⌝ }
 {
     match width {
-        Width::W6 => put_data(Width::W6, v, word::add8((v % 64) as u8, x) as u64),
-        Width::W8 => word::add8((v % 256) as u8, x) as u64,
-        Width::W16 => word::add16((v % 65536) as u16, x) as u64,
-        Width::W32 => word::add32((v % 4294967296) as u32, x) as u64,
-        Width::W64 => word::add64(v, x),
+        Width::W6 => put_data(Width::W6, v, arith::add8((v % 64) as u8, x) as u64),
+        Width::W8 => arith::add8((v % 256) as u8, x) as u64,
+        Width::W16 => arith::add16((v % 65536) as u16, x) as u64,
+        Width::W32 => arith::add32((v % 4294967296) as u32, x) as u64,
+        Width::W64 => arith::add64(v, x),
     }
 }
 
@@ -23,11 +23,11 @@ pub fn sub(width: Width, v: u64, x: u64) -> u64
     ensures { λ r. ⌜ r ≡ subtracted width v (signed 64 x) ⌝ }
 {
     match width {
-        Width::W6 => put_data(Width::W6, v, word::sub8((v % 64) as u8, x) as u64),
-        Width::W8 => word::sub8((v % 256) as u8, x) as u64,
-        Width::W16 => word::sub16((v % 65536) as u16, x) as u64,
-        Width::W32 => word::sub32((v % 4294967296) as u32, x) as u64,
-        Width::W64 => word::sub64(v, x),
+        Width::W6 => put_data(Width::W6, v, arith::sub8((v % 64) as u8, x) as u64),
+        Width::W8 => arith::sub8((v % 256) as u8, x) as u64,
+        Width::W16 => arith::sub16((v % 65536) as u16, x) as u64,
+        Width::W32 => arith::sub32((v % 4294967296) as u32, x) as u64,
+        Width::W64 => arith::sub64(v, x),
     }
 }
 

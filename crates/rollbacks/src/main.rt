@@ -26,7 +26,7 @@ fn number() -> u32 {
     let mut b = [0u8; 4];
     let s: &mut [u8] = &mut b;
     io::read_full(0, s);
-    word::read32(s, 0)
+    endian::read32(s, 0)
 }
 
 // One case, where the spaces are long enough for it.

@@ -150,7 +150,7 @@ fn reaches_well(calculation: Calculation, field: Field, t: u32, p: u32) -> bool
 {
     match calculation {
         Calculation::Distance => in_reach(range_of(field), t, p),
-        Calculation::BothHalves => word::sub32(t, p as u64) % 2 == 0,
+        Calculation::BothHalves => arith::sub32(t, p as u64) % 2 == 0,
         Calculation::Absolute => true,
         Calculation::PcRelative => true,
         Calculation::HighPcRelative => true,
@@ -181,7 +181,7 @@ pub fn is_on_boundary(decision: Decision, p: u64, addend: u64) -> bool
     ensures { λ r. ⌜ r ≡ boundaryWell decision p (signed 64 addend) ⌝ }
 {
     match decision {
-        Decision::Align => (p + addend) % word::ceil_power(addend as u32 + 2) == 0,
+        Decision::Align => (p + addend) % arith::ceil_power(addend as u32 + 2) == 0,
         Decision::Store(_, _, _, _) => true,
         Decision::Marker => true,
         Decision::Refused => true,

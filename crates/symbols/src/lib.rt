@@ -52,7 +52,7 @@ fn value_in_section(
     let section = symbol.section;
     if place::is_allocated_section(object, section as u32) {
         let address = addresses[section as usize];
-        return SymbolValue::Resolved(word::add32(address, symbol.value as u64));
+        return SymbolValue::Resolved(arith::add32(address, symbol.value as u64));
     }
     if section == 0xfff1 {
         return SymbolValue::Resolved(symbol.value);

@@ -53,8 +53,8 @@ fn write_entry(journal: &mut [u8], i: usize, span: Span)
     ensures { λ _. ⌜ now (journal .exit) ≡ sets (now (journal .entry)) (entryAt i) (entryBytes span) ⌝ }
 {
     let at = ENTRIES_AT + 8 * i;
-    word::write32(journal, at, span.start);
-    word::write32(journal, at + 4, span.size);
+    endian::write32(journal, at, span.start);
+    endian::write32(journal, at + 4, span.size);
 }
 
 // Records a span of the image: its old bytes, then its entry, then k, then n.
@@ -62,8 +62,8 @@ pub fn save(image: &[u8], journal: &mut [u8], span: Span)
     requires { ⌜ Savable (now image) (now journal) span ⌝ }
     ensures { λ _. ⌜ now (journal .exit) ≡ saved (now (image .entry)) (now (journal .entry)) span ⌝ }
 {
-    let n = word::read32(journal, COUNT_AT);
-    let k = word::read32(journal, HELD_AT);
+    let n = endian::read32(journal, COUNT_AT);
+    let k = endian::read32(journal, HELD_AT);
     copy(
         journal,
         OLD_AT + k as usize,
@@ -72,8 +72,8 @@ pub fn save(image: &[u8], journal: &mut [u8], span: Span)
         span.size as usize,
     );
     write_entry(journal, n as usize, span);
-    word::write32(journal, HELD_AT, k + span.size);
-    word::write32(journal, COUNT_AT, n + 1);
+    endian::write32(journal, HELD_AT, k + span.size);
+    endian::write32(journal, COUNT_AT, n + 1);
 }
 
 // Undoes the newest install: its old bytes into the image, then n, then k, then zeros over its entry and the released bytes.
@@ -82,9 +82,9 @@ fn undo(image: &mut [u8], journal: &mut [u8])
     ensures { λ _. ⌜ record { image = now (image .exit); journal = now (journal .exit) }
         ≡ rolledBack (record { image = now (image .entry); journal = now (journal .entry) }) ⌝ }
 {
-    let i = word::read32(journal, COUNT_AT) - 1;
+    let i = endian::read32(journal, COUNT_AT) - 1;
     let span = journal::read_entry(journal, i as usize);
-    let k = word::read32(journal, HELD_AT) - span.size;
+    let k = endian::read32(journal, HELD_AT) - span.size;
     copy(
         image,
         span.start as usize,
@@ -92,8 +92,8 @@ fn undo(image: &mut [u8], journal: &mut [u8])
         OLD_AT + k as usize,
         span.size as usize,
     );
-    word::write32(journal, COUNT_AT, i);
-    word::write32(journal, HELD_AT, k);
+    endian::write32(journal, COUNT_AT, i);
+    endian::write32(journal, HELD_AT, k);
     write_entry(journal, i as usize, Span { start: 0, size: 0 });
     clear(journal, OLD_AT + k as usize, span.size as usize);
 }
@@ -109,7 +109,7 @@ pub fn rollback(image: &mut [u8], journal: &mut [u8]) -> RolledBack
     if !order::length_allowed(image.len()) {
         return RolledBack::ImageTooLong;
     }
-    if word::read32(journal, COUNT_AT) == 0 {
+    if endian::read32(journal, COUNT_AT) == 0 {
         return RolledBack::NothingStands;
     }
     undo(image, journal);

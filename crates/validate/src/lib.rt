@@ -51,7 +51,7 @@ fn is_plain_well(object: &[u8], i: usize) -> bool
     let align = h.alignment;
     let starts = (i != 0) | (kind == 0);
     let inside = (kind == 0) | (kind == 8) | (end <= object.len());
-    let aligned = (align == 0) | word::one_bit(align);
+    let aligned = (align == 0) | arith::one_bit(align);
     let table = (kind == 2) | (kind == 4) | (kind == 9);
     starts & inside & (!elf::is_allocated(h) | (aligned & !table))
 }

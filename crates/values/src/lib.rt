@@ -19,8 +19,8 @@ pub fn target_of(value: SymbolValue, addend: u64) -> u32
     ensures { λ r. ⌜ r ≡ T (S value) (signed 64 addend) ⌝ }
 {
     match value {
-        SymbolValue::Resolved(s) => word::add32(s, addend),
-        SymbolValue::Unresolved => word::add32(0, addend),
+        SymbolValue::Resolved(s) => arith::add32(s, addend),
+        SymbolValue::Unresolved => arith::add32(0, addend),
     }
 }
 
@@ -28,7 +28,7 @@ pub fn target_of(value: SymbolValue, addend: u64) -> u32
 pub fn place_of(site: Site, here: Relocation) -> Address
     ensures { λ r. ⌜ r .0 ≡ plus 32 (site .address .0) (here .offset .0) ⌝ }
 {
-    Address(word::add32(site.address.0, here.offset.0 as u64))
+    Address(arith::add32(site.address.0, here.offset.0 as u64))
 }
 
 // The number that n bytes spell, the lowest first.
@@ -37,13 +37,13 @@ pub fn read_bytes(s: &[u8], at: usize, n: usize) -> u64
     ensures { λ r. ⌜ r ≡ leAt n (now (s .entry)) at ⌝ }
 {
     if n == 1 {
-        return word::read8(s, at) as u64;
+        return endian::read8(s, at) as u64;
     }
     if n == 2 {
-        return word::read16(s, at) as u64;
+        return endian::read16(s, at) as u64;
     }
     if n == 4 {
-        return word::read32(s, at) as u64;
+        return endian::read32(s, at) as u64;
     }
-    word::read64(s, at)
+    endian::read64(s, at)
 }

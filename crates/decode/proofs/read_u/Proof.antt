@@ -1,0 +1,16 @@
+-- `decode::read_u` meets its contract. Assumes nothing.
+use native.Mathlib.Omega.{arith}
+use Rattle.fields.specs.Layouts.{read}
+use borrow.Author.Needs.{needs}
+use Rattle.decode.proofs.read_u.Statement.{statement}
+use Rattle.decode.proofs.read_u.Tie as tie
+
+mul-result : tie.Need-mul-result
+mul-result c = search needs
+
+returns : tie.Need-returns
+unfolding read
+returns c = omega arith
+
+pub read-u-spec : {M : Type 1} → statement M
+read-u-spec = tie.close (tie.spec mul-result returns)

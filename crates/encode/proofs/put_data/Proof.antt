@@ -1,0 +1,73 @@
+-- `encode::put_data` meets its contract. Assumes nothing.
+use mathlib.Core.Path.{sym, ap, _∙_}
+use native.Mathlib.Nat.{mod-eq-of-lt}
+use native.Mathlib.Omega.{arith}
+use Rattle.fields.specs.Layouts.{put}
+use Rattle.fields.specs.Fields.{dataLayout}
+use Rattle.fields.proofs.Laws.Fields.{put-six, put-whole}
+use borrow.Author.Needs.{needs}
+use Rattle.encode.proofs.put_data.Statement.{statement}
+use Rattle.encode.proofs.put_data.Tie as tie
+
+enum-told : tie.Need-enum-told
+enum-told c = search needs
+
+mul-result : tie.Need-mul-result
+mul-result c = search needs
+
+add-result : tie.Need-add-result
+add-result c = search needs
+
+enum-told-2 : tie.Need-enum-told-2
+enum-told-2 c = search needs
+
+enum-told-3 : tie.Need-enum-told-3
+enum-told-3 c = search needs
+
+enum-told-4 : tie.Need-enum-told-4
+enum-told-4 c = search needs
+
+enum-told-5 : tie.Need-enum-told-5
+enum-told-5 c = search needs
+
+returns : tie.Need-returns
+returns c =
+    let a = c .before .before .args in
+    sym (put-six (a .word) (a .value)) ∙ sym (ap (λ n. put (dataLayout n) (a .word) (a .value)) (c .enum-told .given .1))
+
+returns-2 : tie.Need-returns-2
+returns-2 c =
+    let a = c .before .before .args in
+    sym (put-whole 7 (a .word) (a .value)) ∙ sym (ap (λ n. put (dataLayout n) (a .word) (a .value)) (c .enum-told2 .given .1))
+
+returns-3 : tie.Need-returns-3
+returns-3 c =
+    let a = c .before .before .args in
+    sym (put-whole 15 (a .word) (a .value)) ∙ sym (ap (λ n. put (dataLayout n) (a .word) (a .value)) (c .enum-told3 .given .1))
+
+returns-4 : tie.Need-returns-4
+returns-4 c =
+    let a = c .before .before .args in
+    sym (put-whole 31 (a .word) (a .value)) ∙ sym (ap (λ n. put (dataLayout n) (a .word) (a .value)) (c .enum-told4 .given .1))
+
+returns-5 : tie.Need-returns-5
+returns-5 c =
+    let a = c .before .before .args in
+    sym (mod-eq-of-lt (omega arith)) ∙ sym (put-whole 63 (a .word) (a .value)) ∙ sym (ap (λ n. put (dataLayout n) (a .word) (a .value)) (c .enum-told5 .given .1))
+
+pub put-data-spec : {M : Type 1} → statement M
+put-data-spec =
+    tie.close
+    (tie.spec
+    enum-told
+    mul-result
+    add-result
+    enum-told-2
+    enum-told-3
+    enum-told-4
+    enum-told-5
+    returns
+    returns-2
+    returns-3
+    returns-4
+    returns-5)

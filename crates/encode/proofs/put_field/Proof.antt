@@ -1,0 +1,162 @@
+-- `encode::put_field` meets its contract. Assumes nothing.
+use mathlib.Core.Path.{_≡_, sym, ap, _∙_}
+use Prim.Native.Nat.{_+_, _/_}
+use native.Mathlib.Nat.{mul-comm}
+use Rattle.fields.specs.Layouts.{formatU, formatI}
+use Rattle.fields.proofs.Laws.Layouts.{total, put-append}
+use native.Mathlib.Omega.{arith}
+use Rattle.fields.specs.Layouts.{put}
+use Rattle.fields.specs.Fields.{layout}
+use borrow.Author.Needs.{needs}
+use Rattle.encode.proofs.put_field.Statement.{statement}
+use Rattle.encode.proofs.put_field.Tie as tie
+
+enum-told : tie.Need-enum-told
+enum-told c = search needs
+
+put-u-requires : tie.Need-put-u-requires
+put-u-requires c κs = search needs
+
+enum-told-2 : tie.Need-enum-told-2
+enum-told-2 c = search needs
+
+put-i-requires : tie.Need-put-i-requires
+put-i-requires c κs = search needs
+
+enum-told-3 : tie.Need-enum-told-3
+enum-told-3 c = search needs
+
+put-s-requires : tie.Need-put-s-requires
+put-s-requires c κs = search needs
+
+enum-told-4 : tie.Need-enum-told-4
+enum-told-4 c = search needs
+
+put-b-requires : tie.Need-put-b-requires
+put-b-requires c κs = search needs
+
+enum-told-5 : tie.Need-enum-told-5
+enum-told-5 c = search needs
+
+put-j-requires : tie.Need-put-j-requires
+put-j-requires c κs = search needs
+
+enum-told-6 : tie.Need-enum-told-6
+enum-told-6 c = search needs
+
+put-cb-requires : tie.Need-put-cb-requires
+put-cb-requires c κs = search needs
+
+enum-told-7 : tie.Need-enum-told-7
+enum-told-7 c = search needs
+
+put-cj-requires : tie.Need-put-cj-requires
+put-cj-requires c κs = search needs
+
+enum-told-8 : tie.Need-enum-told-8
+enum-told-8 c = search needs
+
+put-u-requires-2 : tie.Need-put-u-requires-2
+put-u-requires-2 c κs = search needs
+
+put-i-requires-2 : tie.Need-put-i-requires-2
+put-i-requires-2 c κs = search needs
+
+mul-result : tie.Need-mul-result
+unfolding put
+mul-result c = omega arith
+
+add-result : tie.Need-add-result
+unfolding put
+add-result c = omega arith
+
+enum-known-field : tie.Need-enum-known-field
+enum-known-field c = search needs
+
+put-data-requires : tie.Need-put-data-requires
+put-data-requires c κs = search needs
+
+returns : tie.Need-returns
+returns c =
+    let a = c .before .before .before .args in
+    c .put-u .ensures ∙ sym (ap (λ f. put (layout f) (a .word) (a .value)) (c .before .enum-told .given .1))
+
+returns-2 : tie.Need-returns-2
+returns-2 c =
+    let a = c .before .before .before .args in
+    c .put-i .ensures ∙ sym (ap (λ f. put (layout f) (a .word) (a .value)) (c .before .enum-told2 .given .1))
+
+returns-3 : tie.Need-returns-3
+returns-3 c =
+    let a = c .before .before .before .args in
+    c .put-s .ensures ∙ sym (ap (λ f. put (layout f) (a .word) (a .value)) (c .before .enum-told3 .given .1))
+
+returns-4 : tie.Need-returns-4
+returns-4 c =
+    let a = c .before .before .before .args in
+    c .put-b .ensures ∙ sym (ap (λ f. put (layout f) (a .word) (a .value)) (c .before .enum-told4 .given .1))
+
+returns-5 : tie.Need-returns-5
+returns-5 c =
+    let a = c .before .before .before .args in
+    c .put-j .ensures ∙ sym (ap (λ f. put (layout f) (a .word) (a .value)) (c .before .enum-told5 .given .1))
+
+returns-6 : tie.Need-returns-6
+returns-6 c =
+    let a = c .before .before .before .args in
+    c .put-cb .ensures ∙ sym (ap (λ f. put (layout f) (a .word) (a .value)) (c .before .enum-told6 .given .1))
+
+returns-7 : tie.Need-returns-7
+returns-7 c =
+    let a = c .before .before .before .args in
+    c .put-cj .ensures ∙ sym (ap (λ f. put (layout f) (a .word) (a .value)) (c .before .enum-told7 .given .1))
+
+returns-8 : tie.Need-returns-8
+unfolding total
+returns-8 c =
+    let a = c .before .before .before .before .args in
+    let first : c .before .put-u2 .result ≡ put formatU (a .word) (a .value) = c .before .put-u2 .ensures in
+    let second : c .put-i2 .result ≡ put formatI (a .word / 0x1_0000_0000) (a .value) = c .put-i2 .ensures in
+    rw (first, second) (ap (λ n. put formatU (a .word) (a .value) + n) (mul-comm (put formatI (a .word / 0x1_0000_0000) (a .value)) 0x1_0000_0000)
+    ∙ sym (put-append formatU formatI (a .word) (a .value))
+    ∙ sym (ap (λ f. put (layout f) (a .word) (a .value)) (c .before .before .enum-told8 .given .1)))
+
+returns-9 : tie.Need-returns-9
+returns-9 c =
+    let a = c .before .before .before .before .args in
+    c .put-data .ensures ∙ sym (ap (λ f. put (layout f) (a .word) (a .value)) (c .before .before .field .given .1))
+
+pub put-field-spec : {M : Type 1} → statement M
+put-field-spec =
+    tie.close
+    (tie.spec
+    enum-told
+    put-u-requires
+    enum-told-2
+    put-i-requires
+    enum-told-3
+    put-s-requires
+    enum-told-4
+    put-b-requires
+    enum-told-5
+    put-j-requires
+    enum-told-6
+    put-cb-requires
+    enum-told-7
+    put-cj-requires
+    enum-told-8
+    put-u-requires-2
+    put-i-requires-2
+    mul-result
+    add-result
+    enum-known-field
+    put-data-requires
+    returns
+    returns-2
+    returns-3
+    returns-4
+    returns-5
+    returns-6
+    returns-7
+    returns-8
+    returns-9)
