@@ -1,1 +1,1 @@
-// The demands of the fitter, stated over its definitions. There is no code here: what the code does is said by the contracts of `fitter`.
+// The demands, stated over the definitions: theorems, no code. What the code does is said by the contracts of `fitter`.

@@ -1,4 +1,4 @@
-// Runs the functions of `fields`, `riscv` and `types` over fixed inputs, and writes what goes in and what comes out, in hexadecimal, a line for each case.
+// Runs the functions of `encode`, `decode`, `riscv` and `types` over fixed inputs, and writes what goes in and what comes out, in hexadecimal, a line for each case.
 mod choices;
 mod lines;
 

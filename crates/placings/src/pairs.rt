@@ -3,18 +3,18 @@ ghost use mathlib.Core.Path.{_≡_};
 ghost use Prim.Native.Nat.{_≤_};
 ghost use Rattle.validate.specs.Sound.{SoundObject};
 ghost use Rattle.order.specs.Orders.{reading};
-use super::lines;
 use order::Counts;
 use order::Reading;
 use place::Fault;
+use symbols::SymbolValue;
 use validate::ObjectCheck;
 
 pub fn line(object: &[u8], order: &[u8], len: usize) {
     match order::read_order(order) {
-        Reading::Malformed => lines::answer(2, 0),
+        Reading::Malformed => harness::answer(2, 0),
         Reading::WellFormed(counts) => read(object, order, counts, len),
     }
-    lines::end();
+    harness::end();
 }
 
 // Checks 3 to 5.
@@ -22,12 +22,12 @@ fn read(object: &[u8], order: &[u8], counts: Counts, len: usize)
     requires { ⌜ reading (now order) ≡ Reading.WellFormed counts ⌝ }
 {
     if !order::window_allowed(counts.base, len) {
-        lines::answer(3, 0);
+        harness::answer(3, 0);
         return;
     }
     match validate::check_object(object) {
-        ObjectCheck::BadHeader => lines::answer(4, 0),
-        ObjectCheck::BadSection(i) => lines::answer(5, i as u64),
+        ObjectCheck::BadHeader => harness::answer(4, 0),
+        ObjectCheck::BadSection(i) => harness::answer(5, i as u64),
         ObjectCheck::Passed => placements(object, order, counts, len),
     }
 }
@@ -37,7 +37,7 @@ fn placements(object: &[u8], order: &[u8], counts: Counts, len: usize)
     requires { ⌜ SoundObject (now object) × (reading (now order) ≡ Reading.WellFormed counts) × (len ≤ 65536) ⌝ }
 {
     match place::check_placements(object, order, counts) {
-        Fault::At(i) => lines::answer(6, i as u64),
+        Fault::At(i) => harness::answer(6, i as u64),
         Fault::Nowhere => externals(object, order, counts, len),
     }
 }
@@ -47,7 +47,7 @@ fn externals(object: &[u8], order: &[u8], counts: Counts, len: usize)
     requires { ⌜ SoundObject (now object) × (reading (now order) ≡ Reading.WellFormed counts) × (len ≤ 65536) ⌝ }
 {
     match place::check_externals(object, order, counts) {
-        Fault::At(k) => lines::answer(7, k as u64),
+        Fault::At(k) => harness::answer(7, k as u64),
         Fault::Nowhere => placing(object, order, counts, len),
     }
 }
@@ -61,7 +61,7 @@ fn placing(object: &[u8], order: &[u8], counts: Counts, len: usize)
     let fault = placed.fault;
     let array = placed.addresses;
     match fault {
-        Fault::At(i) => lines::answer(8, i as u64),
+        Fault::At(i) => harness::answer(8, i as u64),
         Fault::Nowhere => passed(object, order, counts, array),
     }
 }
@@ -69,7 +69,7 @@ fn placing(object: &[u8], order: &[u8], counts: Counts, len: usize)
 fn passed(object: &[u8], order: &[u8], counts: Counts, array: [u32; 32])
     requires { ⌜ SoundObject (now object) × (reading (now order) ≡ Reading.WellFormed counts) ⌝ }
 {
-    lines::answer(0, 0);
+    harness::answer(0, 0);
     addresses(array);
     values(object, order, counts, array);
 }
@@ -77,7 +77,7 @@ fn passed(object: &[u8], order: &[u8], counts: Counts, array: [u32; 32])
 fn addresses(array: [u32; 32]) {
     let mut i: usize = 0;
     while i < 32 {
-        lines::then(array[i]);
+        then(array[i]);
         i += 1;
     }
 }
@@ -97,8 +97,21 @@ fn values(object: &[u8], order: &[u8], counts: Counts, array: [u32; 32])
     while k < end {
         let found = symbols::symbol_value(object, order, counts, symbols, known, k);
         let value = found.value;
-        lines::value(value);
+        print(value);
         known = found.addresses;
         k += 1;
     }
+}
+
+fn print(value: SymbolValue) {
+    match value {
+        SymbolValue::Resolved(n) => then(n),
+        SymbolValue::Unresolved => {
+            io::write_all(1, b" -");
+        }
+    }
+}
+
+fn then(n: u32) {
+    harness::then(n as u64);
 }

@@ -1,30 +1,19 @@
-// The lines: number and place in decimal, and what else is read in hexadecimal.
+// The lines: their letter, and of a window what check 3 says.
 
-// Document 01's number and place.
+// Document 01's number and place, behind the letter.
 pub fn answer(kind: u8, number: u64, place: u64) {
     let text = [kind, b' '];
     io::write_all(1, &text);
-    io::print_decimal(1, number);
-    io::write_all(1, b" ");
-    io::print_decimal(1, place);
-}
-
-pub fn then(n: u64) {
-    io::write_all(1, b" ");
-    io::print_hex(1, n, 1);
-}
-
-pub fn end() {
-    io::write_all(1, b"\n");
+    harness::answer(number, place);
 }
 
 // w: check 3 of an install, then that of a rollback.
 pub fn window(base: u32, length: usize) {
     answer(b'w', number(order::window_allowed(base, length)), 0);
-    then(number(order::length_allowed(length)));
-    then(base as u64);
-    then(length as u64);
-    end();
+    harness::then(number(order::length_allowed(length)));
+    harness::then(base as u64);
+    harness::then(length as u64);
+    harness::end();
 }
 
 fn number(is_allowed: bool) -> u64 {

@@ -15,7 +15,7 @@ pub fn line(s: &[u8]) {
         ObjectCheck::BadHeader => lines::answer(b'o', 4, 0),
         ObjectCheck::BadSection(i) => lines::answer(b'o', 5, i as u64),
     }
-    lines::end();
+    harness::end();
 }
 
 fn passed(s: &[u8]) {
@@ -39,10 +39,10 @@ fn passed(s: &[u8]) {
 fn sections(s: &[u8])
     requires { ⌜ TableInside (now s) ⌝ }
 {
-    lines::then(elf::section_count(s) as u64);
-    lines::then(headers(s));
-    lines::then(roles(s));
-    lines::then(bodies(s));
+    harness::then(elf::section_count(s) as u64);
+    harness::then(headers(s));
+    harness::then(roles(s));
+    harness::then(bodies(s));
 }
 
 // The symbol table, and the symbols; how many relocations there are, where they are, and they themselves.
@@ -50,12 +50,12 @@ fn entries(s: &[u8])
     requires { ⌜ TableInside (now s) ⌝ }
 {
     let n = elf::section_count(s);
-    lines::then(elf::symbol_table(s) as u64);
-    lines::then(elf::symbol_count(s) as u64);
-    lines::then(symbols(s));
-    lines::then(elf::relocations_below(s, n) as u64);
-    lines::then(locations(s));
-    lines::then(relocations(s));
+    harness::then(elf::symbol_table(s) as u64);
+    harness::then(elf::symbol_count(s) as u64);
+    harness::then(symbols(s));
+    harness::then(elf::relocations_below(s, n) as u64);
+    harness::then(locations(s));
+    harness::then(relocations(s));
 }
 
 fn headers(s: &[u8]) -> u64

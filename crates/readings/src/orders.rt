@@ -15,7 +15,7 @@ pub fn line(s: &[u8]) {
         Reading::Malformed => lines::answer(b'r', 2, 0),
         Reading::WellFormed(counts) => well_formed(s, counts),
     }
-    lines::end();
+    harness::end();
 }
 
 // Base and counts; both lists; the array; and the values of numbers that the lists have and that they do not have.
@@ -28,15 +28,15 @@ fn well_formed(s: &[u8], counts: Counts)
     }
     let start = 16 + 8 * placements;
     lines::answer(b'r', 0, 0);
-    lines::then(counts.base as u64);
-    lines::then(placements as u64);
-    lines::then(counts.externals as u64);
-    lines::then(entries(s, 12, placements));
-    lines::then(entries(s, start, counts.externals));
-    lines::then(addresses(lookup::address_array(s, counts)));
-    lines::then(low_values(s, counts));
-    lines::then(near_values(s, counts, 12, placements));
-    lines::then(near_values(s, counts, start, counts.externals));
+    harness::then(counts.base as u64);
+    harness::then(placements as u64);
+    harness::then(counts.externals as u64);
+    harness::then(entries(s, 12, placements));
+    harness::then(entries(s, start, counts.externals));
+    harness::then(addresses(lookup::address_array(s, counts)));
+    harness::then(low_values(s, counts));
+    harness::then(near_values(s, counts, 12, placements));
+    harness::then(near_values(s, counts, start, counts.externals));
 }
 
 fn entries(s: &[u8], at: usize, n: usize) -> u64 {

@@ -1,5 +1,5 @@
 // RISC-V instructions as relocations see them: halves, ranges, forms and sums.
-// Instructions and data are numbers of up to 64 bits, as `word` reads them from bytes.
+// Instructions and data are numbers of up to 64 bits, as `endian` reads them from bytes.
 pub mod data;
 pub mod forms;
 pub mod halves;

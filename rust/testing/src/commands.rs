@@ -1,17 +1,21 @@
 //! The commands that the compared programs read: a number of commands, then
-//! the commands, each a letter and `N` numbers. `s` stores bytes, which follow
-//! it, in the program's space; the other letters ask about what is there.
+//! the commands, each a letter and three numbers. `s` stores bytes, which
+//! follow it, in the program's space; the other letters ask about what is
+//! there.
+
+/// The length of a command.
+const COMMAND: usize = 13;
 
 /// What the program holds, and the commands so far.
-pub struct Commands<const N: usize> {
+pub struct Commands {
     space: Vec<u8>,
     text: Vec<u8>,
     count: u32,
 }
 
-impl<const N: usize> Commands<N> {
+impl Commands {
     /// For a space of this many bytes, which are zero at the start.
-    pub fn new(space: usize) -> Commands<N> {
+    pub fn new(space: usize) -> Commands {
         Commands {
             space: vec![0; space],
             text: Vec::new(),
@@ -19,18 +23,15 @@ impl<const N: usize> Commands<N> {
         }
     }
 
-    pub fn ask(&mut self, letter: u8, numbers: [u32; N]) {
+    pub fn ask(&mut self, letter: u8, numbers: [u32; 3]) {
         self.text.extend(encode(letter, numbers));
         self.count += 1;
     }
 
     /// Makes the space hold these bytes from `at` on.
     pub fn store(&mut self, at: usize, bytes: &[u8]) {
-        for (start, end) in differences::<N>(&self.space[at..], bytes) {
-            let mut numbers = [0; N];
-            numbers[0] = (at + start) as u32;
-            numbers[1] = (end - start) as u32;
-            self.ask(b's', numbers);
+        for (start, end) in differences(&self.space[at..], bytes) {
+            self.ask(b's', [(at + start) as u32, (end - start) as u32, 0]);
             self.text.extend(&bytes[start..end]);
             self.space[at + start..at + end].copy_from_slice(&bytes[start..end]);
         }
@@ -38,13 +39,11 @@ impl<const N: usize> Commands<N> {
 
     /// The program's input.
     pub fn input(self) -> Vec<u8> {
-        let mut numbers = [0; N];
-        numbers[0] = self.count;
-        [encode(b'n', numbers), self.text].concat()
+        [encode(b'n', [self.count, 0, 0]), self.text].concat()
     }
 }
 
-fn encode<const N: usize>(letter: u8, numbers: [u32; N]) -> Vec<u8> {
+fn encode(letter: u8, numbers: [u32; 3]) -> Vec<u8> {
     let mut command = vec![letter];
     command.extend(numbers.iter().flat_map(|number| number.to_le_bytes()));
     command
@@ -52,12 +51,11 @@ fn encode<const N: usize>(letter: u8, numbers: [u32; N]) -> Vec<u8> {
 
 /// Where the new bytes differ from the old, as starts and ends. A gap that is
 /// no longer than a command is part of one difference.
-fn differences<const N: usize>(old: &[u8], new: &[u8]) -> Vec<(usize, usize)> {
-    let command = 1 + 4 * N;
+fn differences(old: &[u8], new: &[u8]) -> Vec<(usize, usize)> {
     let mut found: Vec<(usize, usize)> = Vec::new();
     for at in (0..new.len()).filter(|at| old[*at] != new[*at]) {
         match found.last_mut() {
-            Some((_, end)) if at <= *end + command => *end = at + 1,
+            Some((_, end)) if at <= *end + COMMAND => *end = at + 1,
             _ => found.push((at, at + 1)),
         }
     }

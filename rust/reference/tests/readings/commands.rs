@@ -13,14 +13,14 @@ pub fn all(cases: &[Case]) -> Vec<u8> {
         match &case.question {
             Question::Object(bytes) => ask(&mut commands, b'o', bytes),
             Question::Order(bytes) => ask(&mut commands, b'r', bytes),
-            Question::Window(base, length) => commands.ask(b'w', [*base, *length]),
+            Question::Window(base, length) => commands.ask(b'w', [*base, *length, 0]),
         }
     }
     commands.input()
 }
 
 /// Makes the space begin with these bytes, and asks about them.
-fn ask(commands: &mut Commands<2>, letter: u8, bytes: &[u8]) {
+fn ask(commands: &mut Commands, letter: u8, bytes: &[u8]) {
     commands.store(0, bytes);
-    commands.ask(letter, [bytes.len() as u32, 0]);
+    commands.ask(letter, [bytes.len() as u32, 0, 0]);
 }

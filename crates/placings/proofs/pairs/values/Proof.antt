@@ -28,8 +28,8 @@ loop-holds c = search needs
 symbol-value-requires : tie.Need-symbol-value-requires Inv-loop μ-loop
 symbol-value-requires c κs = search needs
 
-value-requires : tie.Need-value-requires Inv-loop μ-loop
-value-requires c κs = search needs
+print-requires : tie.Need-print-requires Inv-loop μ-loop
+print-requires c κs = search needs
 
 add-k : tie.Need-add-k Inv-loop μ-loop
 add-k c = search needs
@@ -55,7 +55,7 @@ values-spec =
     add-end
     loop-holds
     symbol-value-requires
-    value-requires
+    print-requires
     add-k
     loop-less
     loop-again
