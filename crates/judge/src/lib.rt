@@ -4,16 +4,16 @@ ghost use mathlib.Core.Bool.{true};
 ghost use lib.Dec.{eqb};
 ghost use Rattle.order.specs.Orders.{reading};
 ghost use Rattle.place.specs.Placements.{placementCheck};
-ghost use Rattle.findings.specs.Search.{number, isBroken};
+ghost use Rattle.rules.specs.Search.{number, isBroken};
 ghost use Rattle.judgement.specs.Judgement.{judgement};
 ghost use Rattle.judgement.specs.Facts.{Readable, Named, Placeable};
 ghost use Rattle.judge.specs.Answers.{answerOf, verdictOf, packed};
-use findings::Finding;
-use findings::RelocationCheck;
 use order::Counts;
 use order::Reading;
 use place::Fault;
 use relocate::search::check_relocations;
+use rules::Finding;
+use rules::RelocationCheck;
 use validate::ObjectCheck;
 
 // What a call answers. A number is a section's, a symbol's, or a relocation's counted from 0 over all.

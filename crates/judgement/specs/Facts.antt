@@ -18,8 +18,8 @@ use Rattle.place.specs.Placements.{placementCheck}
 use Rattle.place.specs.Externals.{externalCheck}
 use Rattle.placing.specs.Placing.{placingCheck, hasBytes}
 use Rattle.stores.specs.Sections.{relocated}
-use Rattle.findings.specs.declared.RelocationCheck.the-variants.{Passed as AllKept}
-use Rattle.findings.specs.Search.{relocationCheck}
+use Rattle.rules.specs.declared.RelocationCheck.the-variants.{Passed as AllKept}
+use Rattle.rules.specs.Search.{relocationCheck}
 
 -- checks 2 to 5
 pub record Readable (object order : List ℕ) (counts : Counts) (len : ℕ) : Type 0 where

@@ -7,14 +7,14 @@ ghost use Rattle.elf.specs.Headers.{sectionCount};
 ghost use Rattle.elf.specs.Sections.{sectionAt, loaded};
 ghost use Rattle.validate.specs.Sound.{SoundObject};
 ghost use Rattle.order.specs.Orders.{reading};
-ghost use Rattle.findings.specs.Search.{relocationCheck};
+ghost use Rattle.rules.specs.Search.{relocationCheck};
 ghost use Rattle.rela.specs.Facts.{Placed};
 ghost use Rattle.journal.specs.Plans.{plan};
 ghost use Rattle.judgement.specs.Judgement.{planOf, judgement};
 use super::lines;
-use findings::RelocationCheck;
 use order::Counts;
 use order::Reading;
+use rules::RelocationCheck;
 
 pub fn line(object: &[u8], order: &[u8], len: usize) {
     let answer = judge::judge(object, order, len);

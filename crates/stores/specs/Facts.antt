@@ -3,9 +3,9 @@ use mathlib.Core.Path.{_≡_}
 use mathlib.Core.List.{List}
 use Prim.Native.Nat.{ℕ, _<_}
 use Rattle.rela.specs.declared.sites.Site.{Site}
-use Rattle.findings.specs.declared.Finding.the-variants.{Kept}
+use Rattle.rules.specs.declared.Finding.the-variants.{Kept}
 use Rattle.rela.specs.Sites.{count}
-use Rattle.findings.specs.Search.{finding}
+use Rattle.rules.specs.Search.{finding}
 use Rattle.rela.specs.Facts.{SoundSite}
 
 -- a site whose relocations break no rule

@@ -26,9 +26,9 @@ use Rattle.place.specs.declared.Fault.the-variants.{Nowhere, At}
 use Rattle.place.specs.Placements.{placementCheck}
 use Rattle.place.specs.Externals.{externalCheck}
 use Rattle.placing.specs.Placing.{placingCheck}
-use Rattle.findings.specs.declared.RelocationCheck.{RelocationCheck}
-use Rattle.findings.specs.declared.RelocationCheck.the-variants.{Passed as AllKept, Broken}
-use Rattle.findings.specs.Search.{number, relocationCheck}
+use Rattle.rules.specs.declared.RelocationCheck.{RelocationCheck}
+use Rattle.rules.specs.declared.RelocationCheck.the-variants.{Passed as AllKept, Broken}
+use Rattle.rules.specs.Search.{number, relocationCheck}
 use Rattle.place.proofs.Laws.Theorems.{nothing-to-place as «none-placed»}
 use Rattle.judgement.specs.Judgement.{afterObject, afterFault, afterRelocations, planOf, judgement}
 use Rattle.judgement.proofs.Laws.Judgement.{broken-is, some-number, Fits, plan-fits}

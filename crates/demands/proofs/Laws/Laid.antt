@@ -30,7 +30,7 @@ use Rattle.effects.specs.Effects.{isStore, touched}
 use Rattle.rela.specs.Shape.{end, staysInside}
 use Rattle.effects.proofs.Laws.Decisions.{store-width, width-some}
 use Rattle.values.specs.Values.{valueAt, S, T}
-use Rattle.findings.proofs.Laws.Search.{kept-rules}
+use Rattle.rules.proofs.Laws.Search.{kept-rules}
 use Rattle.stores.specs.Facts.{Checked}
 use Rattle.stores.specs.Sections.{pairDistance, relaOf, relocated, after}
 use Rattle.stores.specs.Promises.{touches, untouched, stackAt, Stored, ReadsBack}

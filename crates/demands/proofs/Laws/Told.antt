@@ -39,12 +39,12 @@ use Rattle.types.specs.declared.Decision.{Decision}
 use Rattle.rela.specs.declared.sites.Site.{Site}
 use Rattle.rela.specs.Shape.{shapeWell}
 use Rattle.rela.specs.Sites.{effect, A, P}
-use Rattle.findings.specs.declared.Finding.{Finding}
-use Rattle.findings.specs.declared.Finding.the-variants.{Kept, BadShape, BadSymbol, BadForm, NoPair, OutOfReach, OffBoundary}
-use Rattle.findings.specs.declared.RelocationCheck.the-variants.{Passed as AllKept, Broken}
+use Rattle.rules.specs.declared.Finding.{Finding}
+use Rattle.rules.specs.declared.Finding.the-variants.{Kept, BadShape, BadSymbol, BadForm, NoPair, OutOfReach, OffBoundary}
+use Rattle.rules.specs.declared.RelocationCheck.the-variants.{Passed as AllKept, Broken}
 use Rattle.values.specs.Values.{valueAt, S, T}
 use Rattle.rules.specs.Rules.{symbolWell, formWell, pairWell, distanceWell, boundaryWell}
-use Rattle.findings.specs.Search.{number, finding, findingOf, isBroken, relocationCheck}
+use Rattle.rules.specs.Search.{number, finding, findingOf, isBroken, relocationCheck}
 use Rattle.judgement.specs.Judgement.{afterObject, afterFault, afterRelocations, planOf, judgement}
 use Rattle.demands.specs.Rules.{OrderWell, WindowWell, HeaderWell, TableWell, PlacedAsAllocated, ValuedIfUndefined, PlacedIfAllocated, site, entryOf, Shape, SymbolResolves, FormIs, OnePair, Reaches, OnBoundary, Room}
 use Rattle.demands.specs.First.{Line, nil, rule, Checks, none, check, HoldAt, BrokenAt, one, each, table}

@@ -7,8 +7,8 @@ use native.Mathlib.Omega.{arith}
 use Rattle.history.specs.Calls.{Answer as Numbered}
 use lib.Dec.{eqb}
 use Rattle.journal.specs.Plans.{refused, plan}
-use Rattle.findings.specs.declared.Finding.{Finding}
-use Rattle.findings.specs.Search.{number, isBroken}
+use Rattle.rules.specs.declared.Finding.{Finding}
+use Rattle.rules.specs.Search.{number, isBroken}
 use Rattle.judgement.specs.Judgement.{planOf}
 use Rattle.judgement.proofs.Laws.Judgement.{some-number}
 use Rattle.judge.specs.Answers.{answerOf, verdictOf, packed}

@@ -4,8 +4,8 @@ use Rattle.order.specs.Orders.{base}
 use Rattle.lookup.specs.Addresses.{addresses}
 use Rattle.validate.proofs.Laws.Objects.{sound-object}
 use Rattle.rela.specs.Facts.{Placed}
-use Rattle.findings.specs.Search.{relocationCheck}
-use Rattle.findings.proofs.Laws.Sites.{placed}
+use Rattle.rules.specs.Search.{relocationCheck}
+use Rattle.rules.proofs.Laws.Sites.{placed}
 use Rattle.judgement.proofs.Laws.Judgement.{broken-is, gives-9-to-14, gives-plan}
 use Rattle.judge.proofs.Laws.Answers.{verdict-broken}
 use borrow.Author.Needs.{needs}

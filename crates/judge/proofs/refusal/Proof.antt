@@ -1,7 +1,7 @@
 -- `judge::refusal` meets its contract. Assumes nothing.
 use mathlib.Core.Path.{sym, ap, _∙_}
 use Rattle.word.proofs.Laws.Tests.{never}
-use Rattle.findings.specs.Search.{isBroken}
+use Rattle.rules.specs.Search.{isBroken}
 use borrow.Author.Needs.{needs}
 use Rattle.judge.proofs.refusal.Statement.{statement}
 use Rattle.judge.proofs.refusal.Tie as tie

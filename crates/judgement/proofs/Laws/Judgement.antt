@@ -25,11 +25,11 @@ use Rattle.place.specs.declared.Fault.the-variants.{Nowhere, At}
 use Rattle.place.specs.Placements.{placementCheck}
 use Rattle.place.specs.Externals.{externalCheck}
 use Rattle.placing.specs.Placing.{placingCheck}
-use Rattle.findings.specs.declared.Finding.{Finding}
-use Rattle.findings.specs.declared.Finding.the-variants.{Kept, BadShape, BadSymbol, BadForm, NoPair, OutOfReach, OffBoundary}
-use Rattle.findings.specs.declared.RelocationCheck.{RelocationCheck}
-use Rattle.findings.specs.declared.RelocationCheck.the-variants.{Passed as AllKept, Broken}
-use Rattle.findings.specs.Search.{number, findingOf, isBroken, relocationCheck}
+use Rattle.rules.specs.declared.Finding.{Finding}
+use Rattle.rules.specs.declared.Finding.the-variants.{Kept, BadShape, BadSymbol, BadForm, NoPair, OutOfReach, OffBoundary}
+use Rattle.rules.specs.declared.RelocationCheck.{RelocationCheck}
+use Rattle.rules.specs.declared.RelocationCheck.the-variants.{Passed as AllKept, Broken}
+use Rattle.rules.specs.Search.{number, findingOf, isBroken, relocationCheck}
 use Rattle.judgement.specs.Judgement.{afterObject, afterFault, afterRelocations, planOf, judgement}
 use Rattle.judgement.specs.Facts.{Readable, Named, Placeable, Fitting}
 

@@ -31,7 +31,7 @@ use Rattle.spans.proofs.Laws.Bounds.{highest-inside}
 use Rattle.spans.proofs.Laws.Laid.{span-of-pieces, from-base}
 use Rattle.rela.specs.Sites.{siteAt, count}
 use Rattle.rela.specs.Facts.{Placed}
-use Rattle.findings.proofs.Laws.Sites.{placed}
+use Rattle.rules.proofs.Laws.Sites.{placed}
 use Rattle.stores.specs.Sections.{relaOf, relocated}
 use Rattle.stores.proofs.Laws.Sections.{relocated-some, relocated-none, found-target}
 use Rattle.stores.proofs.Laws.After.{length-after}

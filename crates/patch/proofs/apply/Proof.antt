@@ -8,7 +8,7 @@ use Rattle.effects.proofs.Laws.Decisions.{store-width, store-data}
 use Rattle.rela.proofs.Laws.Sites.{found-length, store-inside}
 use Rattle.rela.proofs.Laws.Shape.{shape-inside}
 use Rattle.rules.proofs.Laws.Rules.{resolved-there, pair-symbol}
-use Rattle.findings.proofs.Laws.Search.{kept-rules}
+use Rattle.rules.proofs.Laws.Search.{kept-rules}
 use Rattle.stores.proofs.Laws.Sections.{applied-read, applied-marker, place-read}
 use borrow.Author.Needs.{needs}
 use Rattle.patch.proofs.apply.Statement.{statement}

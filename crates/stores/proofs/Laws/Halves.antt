@@ -31,7 +31,7 @@ use Rattle.effects.specs.Effects.{needsPair}
 use Rattle.values.specs.Pairs.{PCREL_HI20, isPair, pairOf}
 use Rattle.rules.specs.Rules.{symbol, isOne, pairWell}
 use Rattle.values.proofs.Laws.Pairs.{pair-there}
-use Rattle.findings.proofs.Laws.Search.{kept-rules}
+use Rattle.rules.proofs.Laws.Search.{kept-rules}
 use Rattle.stores.specs.Patches.{highPart}
 use Rattle.stores.specs.Sections.{distanceAt, distanceOf, pairDistance, after}
 use Rattle.stores.specs.Promises.{stackAt, Stored, ReadsBack, AddUp, Halves}

@@ -36,7 +36,7 @@ use Rattle.effects.specs.Widths.{isDataField}
 use Rattle.effects.proofs.Laws.Decisions.{fieldBytes, store-width, store-bytes, store-data, width-some}
 use Rattle.rela.proofs.Laws.Sites.{store-inside}
 use Rattle.rela.proofs.Laws.Shape.{shape-inside}
-use Rattle.findings.proofs.Laws.Search.{kept-rules}
+use Rattle.rules.proofs.Laws.Search.{kept-rules}
 use Rattle.stores.specs.Patches.{patched}
 use Rattle.stores.specs.Sections.{sumAt, pairDistance, after}
 use Rattle.stores.specs.Promises.{stackStep, stackOn, stackAt, Said, Stored, ReadsBack}

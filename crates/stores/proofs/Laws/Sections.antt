@@ -30,17 +30,17 @@ use Rattle.types.specs.declared.Decision.the-variants.{Marker, Align, Store, Re
 use Rattle.symbols.specs.declared.SymbolValue.{SymbolValue}
 use Rattle.symbols.specs.Values.{symbolValue}
 use Rattle.rela.specs.declared.sites.Site.{Site}
-use Rattle.findings.specs.declared.RelocationCheck.the-variants.{Passed}
+use Rattle.rules.specs.declared.RelocationCheck.the-variants.{Passed}
 use Rattle.rela.specs.Sites.{siteAt, count, entry, effect, offset, P, found}
 use Rattle.values.specs.Values.{S, T, valueAt}
 use Rattle.effects.specs.Effects.{takesPair, isStore}
 use Rattle.rela.specs.Shape.{end}
 use Rattle.rules.specs.Rules.{symbol}
-use Rattle.findings.specs.Search.{relocationCheck}
+use Rattle.rules.specs.Search.{relocationCheck}
 use Rattle.rela.specs.Facts.{SoundSite, Placed}
 use Rattle.rela.proofs.Laws.Sites.{sound-site, count-is}
 use Rattle.rules.proofs.Laws.Rules.{place-below}
-use Rattle.findings.proofs.Laws.Search.{counted, finding-entry, passed-kept}
+use Rattle.rules.proofs.Laws.Search.{counted, finding-entry, passed-kept}
 use Rattle.stores.specs.Patches.{patched}
 use Rattle.stores.specs.Sections.{stored, sumAt, distanceAt, pairDistance, applied, after, relaOf, relocated}
 use Rattle.stores.specs.Facts.{Checked}

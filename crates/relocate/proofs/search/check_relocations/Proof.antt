@@ -11,13 +11,13 @@ use Rattle.elf.specs.Headers.{sectionCount}
 use Rattle.elf.specs.Sections.{countingRela, relocationsIn, relocationsBelow}
 use Rattle.elf.specs.Entries.{relocationCount}
 use Rattle.validate.proofs.Laws.Bounds.{relocations-few}
-use Rattle.findings.specs.declared.RelocationCheck.the-variants.{Passed, Broken}
+use Rattle.rules.specs.declared.RelocationCheck.the-variants.{Passed, Broken}
 use Rattle.rela.specs.Sites.{siteAt}
 use Rattle.rela.specs.Shape.{previous as the-previous}
-use Rattle.findings.specs.Search.{finding, findingOf, isBroken}
+use Rattle.rules.specs.Search.{finding, findingOf, isBroken}
 use Rattle.rela.specs.Facts.{SoundSite}
 use Rattle.rela.proofs.Laws.Sites.{sound-site, count-is}
-use Rattle.findings.proofs.Laws.Search.{counted, finding-entry, check-broken, check-passed}
+use Rattle.rules.proofs.Laws.Search.{counted, finding-entry, check-broken, check-passed}
 use borrow.Author.Needs.{needs}
 use Rattle.relocate.proofs.search.check_relocations.Statement.{statement}
 use Rattle.relocate.proofs.search.check_relocations.Tie as tie

@@ -10,7 +10,7 @@ use Rattle.rela.specs.Sites.{entry, effect, A, P}
 use Rattle.values.specs.Values.{S, T, valueAt}
 use Rattle.rela.specs.Shape.{shapeWell}
 use Rattle.rules.specs.Rules.{symbolWell, formWell, pairWell, distanceWell, boundaryWell}
-use Rattle.findings.specs.Search.{finding}
+use Rattle.rules.specs.Search.{finding}
 use Rattle.rela.proofs.Laws.Shape.{shape-inside, padded}
 use Rattle.rules.proofs.Laws.Rules.{resolved-there, pair-symbol, reach-read, boundary-read}
 use borrow.Author.Needs.{needs}

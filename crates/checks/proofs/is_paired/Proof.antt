@@ -1,0 +1,74 @@
+-- `checks::is_paired` meets its contract. Assumes nothing.
+use mathlib.Core.Path.{_≡_}
+use mathlib.Core.Bool.{true, false}
+use Prim.Native.Nat.{_<_}
+use native.Mathlib.Omega.{arith}
+use borrow.Author.Tests.{not-true, not-false}
+use Rattle.elf.specs.Entries.{symbolCount}
+use Rattle.validate.proofs.Laws.Bounds.{symbol-inside}
+use Rattle.effects.specs.Effects.{needsPair}
+use Rattle.rela.specs.Sites.{effect}
+use Rattle.rules.specs.Rules.{pairWell}
+use borrow.Author.Needs.{needs}
+use Rattle.checks.proofs.is_paired.Statement.{statement}
+use Rattle.checks.proofs.is_paired.Tie as tie
+
+read-relocation-requires : tie.Need-read-relocation-requires
+read-relocation-requires c κs = search needs
+
+decide-requires : tie.Need-decide-requires
+decide-requires c κs = search needs
+
+needs-pair-requires : tie.Need-needs-pair-requires
+needs-pair-requires c κs = search needs
+
+returns : tie.Need-returns
+unfolding pairWell
+returns c =
+    let needless : c .before .needs-pair .result ≡ false = not-true _ (c .if1 .taken) in
+    rw (← (c .before .before .before .read-relocation .ensures), ← (c .before .before .decide .ensures), ← (c .before .needs-pair .ensures), needless)
+
+cast-read-symbol : tie.Need-cast-read-symbol
+cast-read-symbol c = search needs
+
+read-symbol-requires : tie.Need-read-symbol-requires
+read-symbol-requires c κs =
+    let a = c .before .before .before .before .before .before .args in
+    let s = a .object .now in
+    let f = c .before .before .before .before .before .before .pre in
+    let need : needsPair (effect s (a .site) (a .j)) ≡ true = rw (← (c .before .before .before .before .read-relocation .ensures), ← (c .before .before .before .decide .ensures), ← (c .before .before .needs-pair .ensures)) (not-false _ (c .before .if1 .left)) in
+    let known = f .3 need in
+    let there : c .before .before .before .before .read-relocation .result .symbol < symbolCount s = rw (c .before .before .before .before .read-relocation .ensures) (known .1 .inside (known .0)) in
+    rw (f .1 .table (omega (arith, f .1 .count))) (symbol-inside s (f .0) _ there)
+
+hi20-pair-requires : tie.Need-hi20-pair-requires
+hi20-pair-requires c κs = search needs
+
+is-one-requires : tie.Need-is-one-requires
+is-one-requires c κs = search needs
+
+returns-2 : tie.Need-returns-2
+unfolding pairWell
+returns-2 c =
+    let a = c .before .before .before .before .before .before .before .before .before .args in
+    let s = a .object .now in
+    let f = c .before .before .before .before .before .before .before .before .before .pre in
+    let need : needsPair (effect s (a .site) (a .j)) ≡ true = rw (← (c .before .before .before .before .before .before .before .read-relocation .ensures), ← (c .before .before .before .before .before .before .decide .ensures), ← (c .before .before .before .before .before .needs-pair .ensures)) (not-false _ (c .before .before .before .before .if1 .left)) in
+    let known = f .3 need in
+    let there = known .1 .inside (known .0) in
+    let table = f .1 .table (omega (arith, f .1 .count)) in
+    rw (need, c .is-one .ensures, c .before .hi20-pair .ensures, c .before .before .read-symbol .ensures, table, c .before .before .before .before .before .before .before .read-relocation .ensures)
+
+pub is-paired-spec : {M : Type 1} → statement M
+is-paired-spec =
+    tie.close
+    (tie.spec
+    read-relocation-requires
+    decide-requires
+    needs-pair-requires
+    returns
+    cast-read-symbol
+    read-symbol-requires
+    hi20-pair-requires
+    is-one-requires
+    returns-2)

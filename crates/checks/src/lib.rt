@@ -1,0 +1,189 @@
+// Checks 10 to 14 of one relocation. Everything is read out of the object as it came, and nothing is written.
+ghost use mathlib.Core.Path.{_≡_};
+ghost use mathlib.Core.Bool.{true};
+ghost use Prim.Native.Nat.{_+_, _^_, _≤_, _<_};
+ghost use lib.ListN.{length};
+ghost use Rattle.word.specs.Bytes.{leAt};
+ghost use Rattle.word.specs.Whole.{signed};
+ghost use Rattle.validate.specs.Sound.{SoundObject};
+ghost use Rattle.symbols.specs.Values.{SymbolsOf};
+ghost use Rattle.rela.specs.Sites.{entry, effect, offset};
+ghost use Rattle.effects.specs.Effects.{touched, needsPair};
+ghost use Rattle.rules.specs.Rules.{isResolved, inTarget, symbolWell, isData, standsWell, formWell, isOne, pairWell, reachesWell, distanceWell, boundaryWell};
+ghost use Rattle.rela.specs.Facts.{There, InTable};
+ghost use Rattle.effects.specs.Widths.{isWidth};
+use effects::is_store;
+use effects::needs_pair;
+use fields::Field;
+use rela::sites::Site;
+use riscv::forms::Form;
+use riscv::forms::has_form;
+use riscv::ranges::in_reach;
+use riscv::ranges::range_of;
+use symbols::SymbolValue;
+use symbols::Symbols;
+use types::Calculation;
+use types::Decision;
+use types::decide;
+use values::pairs::Pair;
+use values::pairs::hi20_pair;
+use values::read_bytes;
+use word::Address;
+
+fn is_resolved(value: SymbolValue) -> bool
+    ensures { λ r. ⌜ r ≡ isResolved value ⌝ }
+{
+    match value {
+        SymbolValue::Resolved(_) => true,
+        SymbolValue::Unresolved => false,
+    }
+}
+
+// Whether the symbol of relocation j is above 0 and defined in the section that is relocated.
+fn is_in_target(object: &[u8], symbols: Symbols, site: Site, j: usize) -> bool
+    requires { ⌜ SoundObject (now object) × SymbolsOf (now object) symbols × There (now object) site j × InTable (now object) site j ⌝ }
+    ensures { λ r. ⌜ r ≡ inTarget (now (object .entry)) site j ⌝ }
+{
+    let here = elf::read_relocation(object, site.rela, j);
+    let k = here.symbol as usize;
+    if k == 0 {
+        return false;
+    }
+    let symbol = elf::read_symbol(object, symbols.table, k);
+    symbol.section as u32 == site.index
+}
+
+// Check 10.
+pub fn is_symbol_kept(
+    object: &[u8],
+    symbols: Symbols,
+    site: Site,
+    j: usize,
+    value: SymbolValue,
+) -> bool
+    requires { ⌜ SoundObject (now object) × SymbolsOf (now object) symbols × There (now object) site j × (isResolved value ≡ true → InTable (now object) site j) ⌝ }
+    ensures { λ r. ⌜ r ≡ symbolWell (now (object .entry)) site j value ⌝ }
+{
+    let here = elf::read_relocation(object, site.rela, j);
+    let decision = decide(here.kind);
+    if !is_store(decision) {
+        return true;
+    }
+    if !is_resolved(value) {
+        return false;
+    }
+    if !needs_pair(decision) {
+        return true;
+    }
+    is_in_target(object, symbols, site, j)
+}
+
+fn is_data(form: Form) -> bool
+    ensures { λ r. ⌜ r ≡ isData form ⌝ }
+{
+    match form {
+        Form::Any => true,
+        Form::Lui => false,
+        Form::Auipc => false,
+        Form::Jal => false,
+        Form::Branch => false,
+        Form::LowI => false,
+        Form::LowS => false,
+        Form::CallPair => false,
+        Form::CBranch => false,
+        Form::CJump => false,
+    }
+}
+
+// Whether the n bytes at a place of a section, at address p, have a form.
+fn has_form_at(s: &[u8], at: usize, n: usize, form: Form, p: u64) -> bool
+    requires { ⌜ (at + n ≤ length (now s)) × (isWidth n ≡ true) ⌝ }
+    ensures { λ r. ⌜ r ≡ standsWell form p (leAt n (now (s .entry)) at) ⌝ }
+{
+    let w = read_bytes(s, at, n);
+    is_data(form) | ((p % 2 == 0) & has_form(form, w, w / 0x1_0000_0000))
+}
+
+// Check 11.
+pub fn is_form_kept(object: &[u8], site: Site, j: usize) -> bool
+    requires { ⌜ There (now object) site j × (offset (now object) site j + touched (effect (now object) site j) ≤ site .target .size) ⌝ }
+    ensures { λ r. ⌜ r ≡ formWell (now (object .entry)) site j ⌝ }
+{
+    let here = elf::read_relocation(object, site.rela, j);
+    let at = here.offset.0 as usize;
+    let p = site.address.0 as u64 + here.offset.0 as u64;
+    match decide(here.kind) {
+        Decision::Store(_, _, form, n) => {
+            has_form_at(elf::section_bytes(object, site.target), at, n, form, p)
+        }
+        Decision::Marker => true,
+        Decision::Align => true,
+        Decision::Refused => true,
+    }
+}
+
+fn is_one(pair: Pair) -> bool
+    ensures { λ r. ⌜ r ≡ isOne pair ⌝ }
+{
+    match pair {
+        Pair::At(_) => true,
+        Pair::NotOne => false,
+    }
+}
+
+// Check 12.
+pub fn is_paired(object: &[u8], symbols: Symbols, site: Site, j: usize) -> bool
+    requires { ⌜ SoundObject (now object) × SymbolsOf (now object) symbols × There (now object) site j × (needsPair (effect (now object) site j) ≡ true → (0 < entry (now object) site j .symbol) × InTable (now object) site j) ⌝ }
+    ensures { λ r. ⌜ r ≡ pairWell (now (object .entry)) site j ⌝ }
+{
+    let here = elf::read_relocation(object, site.rela, j);
+    if !needs_pair(decide(here.kind)) {
+        return true;
+    }
+    let symbol = elf::read_symbol(object, symbols.table, here.symbol as usize);
+    is_one(hi20_pair(object, site, symbol.value))
+}
+
+// Whether a distance from p to t is allowed for a calculation and its field.
+fn reaches_well(calculation: Calculation, field: Field, t: u32, p: u32) -> bool
+    ensures { λ r. ⌜ r ≡ reachesWell calculation field t p ⌝ }
+{
+    match calculation {
+        Calculation::Distance => in_reach(range_of(field), t, p),
+        Calculation::BothHalves => arith::sub32(t, p as u64) % 2 == 0,
+        Calculation::Absolute => true,
+        Calculation::PcRelative => true,
+        Calculation::HighPcRelative => true,
+        Calculation::HighAbsolute => true,
+        Calculation::LowAbsolute => true,
+        Calculation::LowOfPair => true,
+        Calculation::Add => true,
+        Calculation::Sub => true,
+        Calculation::Set => true,
+    }
+}
+
+// Check 13.
+pub fn is_in_reach(decision: Decision, t: u32, p: Address) -> bool
+    ensures { λ r. ⌜ r ≡ distanceWell decision t (p .0) ⌝ }
+{
+    match decision {
+        Decision::Store(calculation, field, _, _) => reaches_well(calculation, field, t, p.0),
+        Decision::Marker => true,
+        Decision::Align => true,
+        Decision::Refused => true,
+    }
+}
+
+// Check 14.
+pub fn is_on_boundary(decision: Decision, p: u64, addend: u64) -> bool
+    requires { ⌜ (p ≤ 2 ^ 33) × (decision ≡ Decision.Align → addend ≤ 4094) ⌝ }
+    ensures { λ r. ⌜ r ≡ boundaryWell decision p (signed 64 addend) ⌝ }
+{
+    match decision {
+        Decision::Align => (p + addend) % arith::ceil_power(addend as u32 + 2) == 0,
+        Decision::Store(_, _, _, _) => true,
+        Decision::Marker => true,
+        Decision::Refused => true,
+    }
+}
