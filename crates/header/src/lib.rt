@@ -4,11 +4,17 @@ ghost use Prim.Native.Nat.{_≤_};
 ghost use lib.ListN.{length};
 ghost use Rattle.header.specs.Headers.{headerAllowed, tableAllowed};
 
+// "at most 65,536 bytes"
+pub const MAX_OBJECT: usize = 65536;
+
+// "1 to 32 rows"
+pub const MAX_SECTIONS: usize = 32;
+
 // Check 4.
 pub fn check_header(object: &[u8]) -> bool
     ensures { λ r. ⌜ r ≡ headerAllowed (now (object .entry)) ⌝ }
 {
-    if 65536 < object.len() {
+    if MAX_OBJECT < object.len() {
         return false;
     }
     if object.len() < 52 {
@@ -31,5 +37,8 @@ pub fn check_table(object: &[u8]) -> bool
 {
     let n = endian::read16(object, 48) as usize;
     let start = endian::read32(object, 32) as usize;
-    (endian::read16(object, 46) == 40) & (1 <= n) & (n <= 32) & (start + 40 * n <= object.len())
+    (endian::read16(object, 46) == 40)
+        & (1 <= n)
+        & (n <= MAX_SECTIONS)
+        & (start + 40 * n <= object.len())
 }

@@ -11,6 +11,7 @@ ghost use Rattle.journal.specs.Plans.{overwritten};
 ghost use Rattle.stores.specs.Sections.{relocated};
 ghost use Rattle.judgement.specs.Judgement.{planOf};
 ghost use Rattle.judgement.specs.Facts.{Fitting, withSection};
+use lookup::Addresses;
 use order::Counts;
 
 // Lays section t into the image from `at` on.
@@ -18,7 +19,7 @@ fn lay_at(
     object: &[u8],
     order: &[u8],
     counts: Counts,
-    addresses: [u32; 32],
+    addresses: Addresses,
     t: usize,
     at: usize,
     image: &mut [u8],
@@ -36,7 +37,7 @@ fn lay_one(
     object: &[u8],
     order: &[u8],
     counts: Counts,
-    addresses: [u32; 32],
+    addresses: Addresses,
     t: usize,
     image: &mut [u8],
 )

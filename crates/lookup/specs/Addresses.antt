@@ -4,11 +4,9 @@ use mathlib.Core.List.{List}
 use Rattle.word.specs.First.{tabulate}
 use Rattle.lookup.specs.declared.Value.{Value}
 use Rattle.lookup.specs.declared.Value.the-variants.{Given, NotGiven}
+use Rattle.header.specs.Headers.{maxSections}
 use Rattle.order.specs.Orders.{placementCount}
 use Rattle.lookup.specs.Values.{valueIn}
-
-abbrev pub maxSections : ℕ
-maxSections = 32
 
 -- the address of a section, or 0, which means nothing, for one that the order does not place
 abbrev pub orZero : Value → ℕ
@@ -19,6 +17,6 @@ orZero NotGiven = 0
 unfoldable pub placedAt : List ℕ → ℕ → Value
 placedAt s section = valueIn s 12 (placementCount s) section
 
--- the array: an entry for each section number below 32
+-- the array: an entry for each section number
 unfoldable pub addresses : List ℕ → List ℕ
 addresses s = tabulate (λ section. orZero (placedAt s section)) maxSections

@@ -4,6 +4,7 @@ ghost use Rattle.order.specs.Orders.{reading};
 ghost use Rattle.lookup.specs.Values.{valueIn, externalValue};
 ghost use Rattle.lookup.specs.Facts.{Searchable};
 ghost use Rattle.lookup.specs.Addresses.{placedAt, addresses};
+use header::MAX_SECTIONS;
 use order::Counts;
 use order::Reading;
 
@@ -52,18 +53,21 @@ pub fn placed_at(order: &[u8], counts: Counts, section: u32) -> Value
     find(order, 12, counts.placements, section)
 }
 
-// The address of each section below 32; 0, which means nothing, for one that the order does not place.
-pub fn address_array(order: &[u8], counts: Counts) -> [u32; 32]
+// "The 32 row addresses travel as one array passed by value."
+pub type Addresses = [u32; MAX_SECTIONS];
+
+// The address of each section; 0, which means nothing, for one that the order does not place.
+pub fn address_array(order: &[u8], counts: Counts) -> Addresses
     requires { ⌜ reading (now order) ≡ Reading.WellFormed counts ⌝ }
     ensures { λ r. ⌜ r ≡ addresses (now (order .entry)) ⌝ }
 {
-    let mut array = [0u32; 32];
+    let mut array = [0u32; MAX_SECTIONS];
     let n = counts.placements;
     let mut i: usize = 0;
     while i < n {
         let e = order::read_entry(order, 12, i);
         let section = e.index as usize;
-        if section < 32 {
+        if section < MAX_SECTIONS {
             array[section] = e.value;
         }
         i += 1;

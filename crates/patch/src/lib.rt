@@ -25,6 +25,7 @@ use effects::takes_pair;
 use encode::put_field;
 use fields::Field;
 use fields::Width;
+use lookup::Addresses;
 use order::Counts;
 use order::Reading;
 use rela::sites::Site;
@@ -142,7 +143,7 @@ fn sum_at(
     order: &[u8],
     counts: Counts,
     symbols: Symbols,
-    addresses: [u32; 32],
+    addresses: Addresses,
     site: Site,
     j: usize,
 ) -> u64
@@ -161,7 +162,7 @@ fn distance_at(
     order: &[u8],
     counts: Counts,
     symbols: Symbols,
-    addresses: [u32; 32],
+    addresses: Addresses,
     site: Site,
     j: usize,
 ) -> u32
@@ -181,7 +182,7 @@ fn pair_distance(
     order: &[u8],
     counts: Counts,
     symbols: Symbols,
-    addresses: [u32; 32],
+    addresses: Addresses,
     site: Site,
     j: usize,
 ) -> u32
@@ -202,7 +203,7 @@ fn apply(
     order: &[u8],
     counts: Counts,
     symbols: Symbols,
-    addresses: [u32; 32],
+    addresses: Addresses,
     site: Site,
     j: usize,
     part: &mut [u8],
@@ -242,7 +243,7 @@ fn distance_for(
     order: &[u8],
     counts: Counts,
     symbols: Symbols,
-    addresses: [u32; 32],
+    addresses: Addresses,
     site: Site,
     j: usize,
 ) -> u32
@@ -274,7 +275,7 @@ fn apply_all(
     order: &[u8],
     counts: Counts,
     symbols: Symbols,
-    addresses: [u32; 32],
+    addresses: Addresses,
     site: Site,
     part: &mut [u8],
 )
@@ -311,7 +312,7 @@ pub fn lay_section(
     object: &[u8],
     order: &[u8],
     counts: Counts,
-    addresses: [u32; 32],
+    addresses: Addresses,
     t: usize,
     part: &mut [u8],
 )

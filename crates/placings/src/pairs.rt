@@ -3,6 +3,7 @@ ghost use mathlib.Core.Path.{_≡_};
 ghost use Prim.Native.Nat.{_≤_};
 ghost use Rattle.validate.specs.Sound.{SoundObject};
 ghost use Rattle.order.specs.Orders.{reading};
+use lookup::Addresses;
 use order::Counts;
 use order::Reading;
 use place::Fault;
@@ -66,7 +67,7 @@ fn placing(object: &[u8], order: &[u8], counts: Counts, len: usize)
     }
 }
 
-fn passed(object: &[u8], order: &[u8], counts: Counts, array: [u32; 32])
+fn passed(object: &[u8], order: &[u8], counts: Counts, array: Addresses)
     requires { ⌜ SoundObject (now object) × (reading (now order) ≡ Reading.WellFormed counts) ⌝ }
 {
     harness::answer(0, 0);
@@ -74,7 +75,7 @@ fn passed(object: &[u8], order: &[u8], counts: Counts, array: [u32; 32])
     values(object, order, counts, array);
 }
 
-fn addresses(array: [u32; 32]) {
+fn addresses(array: Addresses) {
     let mut i: usize = 0;
     while i < 32 {
         then(array[i]);
@@ -83,7 +84,7 @@ fn addresses(array: [u32; 32]) {
 }
 
 // The value of each symbol, and of three numbers past the table. There are at most 1,024 symbols: the `return` is never taken.
-fn values(object: &[u8], order: &[u8], counts: Counts, array: [u32; 32])
+fn values(object: &[u8], order: &[u8], counts: Counts, array: Addresses)
     requires { ⌜ SoundObject (now object) × (reading (now order) ≡ Reading.WellFormed counts) ⌝ }
 {
     let symbols = symbols::symbols_of(object);

@@ -5,6 +5,7 @@ ghost use mathlib.Core.Path.{_≡_};
 ghost use Rattle.order.specs.Orders.{reading};
 use super::digest;
 use super::lines;
+use lookup::Addresses;
 use lookup::Value;
 use order::Counts;
 use order::Entry;
@@ -66,7 +67,7 @@ fn entry(s: &[u8], at: usize, i: usize) -> Entry {
     order::read_entry(s, at, i)
 }
 
-fn addresses(array: [u32; 32]) -> u64 {
+fn addresses(array: Addresses) -> u64 {
     let mut d = digest::START;
     let mut i: usize = 0;
     while i < 32 {

@@ -7,6 +7,7 @@ ghost use Rattle.elf.specs.Sections.{countingRela};
 ghost use Rattle.validate.specs.Sound.{SoundObject};
 ghost use Rattle.rela.specs.Sites.{siteAt};
 use elf::Section;
+use lookup::Addresses;
 use word::Address;
 
 // A RELA section, the section that it relocates (document 01: the target row), and that one's number and address.
@@ -18,7 +19,7 @@ pub struct Site {
 }
 
 // The site of RELA section i.
-pub fn site_at(object: &[u8], addresses: [u32; 32], i: usize) -> Site
+pub fn site_at(object: &[u8], addresses: Addresses, i: usize) -> Site
     requires { ⌜ SoundObject (now object) × (i < sectionCount (now object)) × (countingRela (now object) i ≡ true) ⌝ }
     ensures { λ r. ⌜ r ≡ siteAt (now (object .entry)) addresses i ⌝ }
 {

@@ -12,6 +12,7 @@ use checks::is_in_reach;
 use checks::is_on_boundary;
 use checks::is_paired;
 use checks::is_symbol_kept;
+use lookup::Addresses;
 use order::Counts;
 use order::Reading;
 use rela::shape::Previous;
@@ -32,7 +33,7 @@ fn find_broken(
     order: &[u8],
     counts: Counts,
     symbols: Symbols,
-    addresses: [u32; 32],
+    addresses: Addresses,
     site: Site,
     previous: Previous,
     j: usize,
@@ -89,7 +90,7 @@ pub fn check_relocations(
     object: &[u8],
     order: &[u8],
     counts: Counts,
-    addresses: [u32; 32],
+    addresses: Addresses,
 ) -> RelocationCheck
     requires { ⌜ SoundObject (now object) × (reading (now order) ≡ Reading.WellFormed counts) × Placed (now object) addresses ⌝ }
     ensures { λ r. ⌜ r ≡ relocationCheck (now (object .entry)) (now (order .entry)) addresses ⌝ }

@@ -12,6 +12,7 @@ ghost use Rattle.rela.specs.Facts.{Placed};
 ghost use Rattle.journal.specs.Plans.{plan};
 ghost use Rattle.judgement.specs.Judgement.{planOf, judgement};
 use super::lines;
+use lookup::Addresses;
 use order::Counts;
 use order::Reading;
 use rules::RelocationCheck;
@@ -40,7 +41,7 @@ fn passed(object: &[u8], order: &[u8], len: usize)
     }
 }
 
-fn sections(object: &[u8], order: &[u8], counts: Counts, array: [u32; 32], room: &mut [u8])
+fn sections(object: &[u8], order: &[u8], counts: Counts, array: Addresses, room: &mut [u8])
     requires { ⌜ SoundObject (now object) × (reading (now order) ≡ Reading.WellFormed counts) × Placed (now object) array × (relocationCheck (now object) (now order) array ≡ RelocationCheck.Passed) × (length (now room) ≡ 65536) ⌝ }
 {
     let n = elf::section_count(object);
@@ -52,7 +53,7 @@ fn sections(object: &[u8], order: &[u8], counts: Counts, array: [u32; 32], room:
 }
 
 // Section t, unless it is not loaded or has no bytes.
-fn section(object: &[u8], order: &[u8], counts: Counts, array: [u32; 32], t: usize, room: &mut [u8])
+fn section(object: &[u8], order: &[u8], counts: Counts, array: Addresses, t: usize, room: &mut [u8])
     requires { ⌜ SoundObject (now object) × (reading (now order) ≡ Reading.WellFormed counts) × Placed (now object) array × (relocationCheck (now object) (now order) array ≡ RelocationCheck.Passed) × (t < sectionCount (now object)) × (length (now room) ≡ 65536) ⌝ }
 {
     let h = elf::read_section(object, t);
@@ -68,7 +69,7 @@ fn section(object: &[u8], order: &[u8], counts: Counts, array: [u32; 32], t: usi
     }
 }
 
-fn lay(object: &[u8], order: &[u8], counts: Counts, array: [u32; 32], t: usize, part: &mut [u8])
+fn lay(object: &[u8], order: &[u8], counts: Counts, array: Addresses, t: usize, part: &mut [u8])
     requires { ⌜ SoundObject (now object) × (reading (now order) ≡ Reading.WellFormed counts) × Placed (now object) array × (relocationCheck (now object) (now order) array ≡ RelocationCheck.Passed) × (t < sectionCount (now object)) × (loaded (sectionAt (now object) t) ≡ true) × (length (now part) ≡ sectionAt (now object) t .size) ⌝ }
 {
     patch::lay_section(object, order, counts, array, t, part);

@@ -8,6 +8,7 @@ ghost use Rattle.placing.specs.Placing.{hasBytes};
 ghost use Rattle.spans.specs.Spans.{highest, lowestByte, spanOf};
 use elf::Section;
 use journal::Span;
+use lookup::Addresses;
 
 // Whether a section has bytes in the image.
 fn has_bytes(h: Section) -> bool
@@ -56,7 +57,7 @@ fn lowered(h: Section, address: u32, base: u32, start: u64) -> u64
 }
 
 // The end of the highest laid byte of the first n sections.
-fn highest_end(object: &[u8], addresses: [u32; 32], base: u32, n: usize) -> u64
+fn highest_end(object: &[u8], addresses: Addresses, base: u32, n: usize) -> u64
     requires { ⌜ SoundObject (now object) × (n ≤ sectionCount (now object)) ⌝ }
     ensures { λ r. ⌜ r ≡ highest (now (object .entry)) addresses base n ⌝ }
 {
@@ -71,7 +72,7 @@ fn highest_end(object: &[u8], addresses: [u32; 32], base: u32, n: usize) -> u64
 }
 
 // The lowest laid byte of the first n sections; top with none laid.
-fn lowest_start(object: &[u8], addresses: [u32; 32], base: u32, top: u64, n: usize) -> u64
+fn lowest_start(object: &[u8], addresses: Addresses, base: u32, top: u64, n: usize) -> u64
     requires { ⌜ SoundObject (now object) × (n ≤ sectionCount (now object)) ⌝ }
     ensures { λ r. ⌜ r ≡ lowestByte (now (object .entry)) addresses base top n ⌝ }
 {
@@ -86,7 +87,7 @@ fn lowest_start(object: &[u8], addresses: [u32; 32], base: u32, top: u64, n: usi
 }
 
 // The span of an install, counted from the image's first byte. Where check 8 passes it lies inside the image.
-pub fn span_of(object: &[u8], addresses: [u32; 32], base: u32) -> Span
+pub fn span_of(object: &[u8], addresses: Addresses, base: u32) -> Span
     requires { ⌜ SoundObject (now object) × (highest (now object) addresses base (sectionCount (now object)) < 4294967296) ⌝ }
     ensures { λ r. ⌜ r ≡ spanOf (now (object .entry)) addresses base ⌝ }
 {

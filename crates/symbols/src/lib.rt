@@ -5,6 +5,7 @@ ghost use Rattle.order.specs.Orders.{reading};
 ghost use Rattle.symbols.specs.Values.{SymbolsOf, ofUndefined, ofSection, symbolValue};
 use elf::Section;
 use elf::Symbol;
+use lookup::Addresses;
 use lookup::Value;
 use order::Counts;
 use order::Reading;
@@ -34,7 +35,7 @@ fn undefined_value(symbol: Symbol, value: Value) -> SymbolValue
 // The value of a symbol, with the addresses that it was looked up in.
 pub struct Lookup {
     pub value: SymbolValue,
-    pub addresses: [u32; 32],
+    pub addresses: Addresses,
 }
 
 // The value of symbol k of the table, by the section that it is defined in.
@@ -42,7 +43,7 @@ fn value_in_section(
     object: &[u8],
     order: &[u8],
     counts: Counts,
-    addresses: [u32; 32],
+    addresses: Addresses,
     k: u32,
     symbol: Symbol,
 ) -> SymbolValue
@@ -93,7 +94,7 @@ pub fn symbol_value(
     order: &[u8],
     counts: Counts,
     symbols: Symbols,
-    addresses: [u32; 32],
+    addresses: Addresses,
     k: u32,
 ) -> Lookup
     requires { ⌜ SoundObject (now object) × (reading (now order) ≡ Reading.WellFormed counts) × SymbolsOf (now object) symbols ⌝ }

@@ -11,6 +11,11 @@ ghost use Rattle.elf.specs.Facts.{TableInside};
 ghost use Rattle.validate.specs.Rules.{startsNull, insideFile, allocatedWell, symbolTableWell, noCountingRel, relaKept, relocationsKept, relaWell, relocationsWell, sectionCheck, objectCheck};
 ghost use Rattle.validate.specs.Sound.{Targeted};
 
+// "whole entries, at most 1,024", and "at most 4,096 records"
+pub const MAX_SYMBOLS: u32 = 1024;
+
+pub const MAX_RELOCATIONS: usize = 4096;
+
 // What check 5 finds: nothing, or the first section that breaks a rule, 0 for the table itself.
 pub enum SectionCheck {
     Sound,
@@ -66,7 +71,7 @@ fn is_symbol_table_well(object: &[u8], i: usize) -> bool
         | ((i == elf::symbol_table(object))
             & (h.entsize == 16)
             & (h.size % 16 == 0)
-            & (h.size / 16 <= 1024))
+            & (h.size / 16 <= MAX_SYMBOLS))
 }
 
 // The rules of a counting RELA.
@@ -83,7 +88,7 @@ fn is_rela_kept(object: &[u8], i: usize) -> bool
         & linked
         & elf::is_loaded(target)
         & is_first_for(object, i, h.info)
-        & (elf::relocations_below(object, i + 1) <= 4096)
+        & (elf::relocations_below(object, i + 1) <= MAX_RELOCATIONS)
 }
 
 // The rules of RELA and REL sections.
