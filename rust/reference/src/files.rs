@@ -83,8 +83,12 @@ impl Replacement {
         Ok(replacement)
     }
 
+    /// The name is then on its device, so that what is renamed first stays
+    /// first.
     fn rename(&self) -> Result<(), String> {
-        fs::rename(&self.new, &self.old).map_err(|error| about(&self.old, &error.to_string()))
+        fs::rename(&self.new, &self.old).map_err(|error| about(&self.old, &error.to_string()))?;
+        sync_folder(&self.old);
+        Ok(())
     }
 }
 
@@ -92,6 +96,13 @@ impl Drop for Replacement {
     /// After a rename there is nothing left to remove, and that is no error.
     fn drop(&mut self) {
         let _ = fs::remove_file(&self.new);
+    }
+}
+
+/// Has the folder of a path on its device, where the file system can.
+fn sync_folder(path: &Path) {
+    if let Some(folder) = path.parent() {
+        let _ = File::open(folder).and_then(|folder| folder.sync_all());
     }
 }
 

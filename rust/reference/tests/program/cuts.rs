@@ -80,6 +80,26 @@ fn ended_at_every_call_of_either() {
     });
 }
 
+/// The folder is brought onto its device after each rename, and the second
+/// comes after that. Before it the new files themselves are.
+#[test]
+fn folder_synced_after_each_rename() {
+    on_both(|program| {
+        let (old, new) = before_and_after();
+        let cut = (old.0.clone(), new.1.clone());
+        let files = match program {
+            Program::Reference => 3,
+            Program::Aktinoph => 2,
+        };
+        for (at, state) in [(files, &old), (files + 1, &cut), (files + 2, &new)] {
+            let bench = Bench::new(program, &good());
+            let output = disturbed(&bench, &FIT, "end", "fsync", at);
+            assert_eq!(output.status.code(), Some(99));
+            assert_eq!(pair(&bench), *state);
+        }
+    });
+}
+
 /// Each call of the system that can fail, in its turn: nothing has changed and
 /// there is a message, or the call is done. Only where the line itself cannot
 /// be written are the files new and the output empty.
