@@ -1,7 +1,7 @@
 // o: checks 4 and 5 of an object, and of one that passes a digest for each function that reads it.
 //
 // What the checks say of offsets and counts is tested here again, so that no proof needs a law about them: such a `return` is never taken.
-ghost use Prim.Native.Nat.{_<_, _≤_};
+ghost use Prim.Native.Nat.{_<_};
 ghost use Rattle.elf.specs.Headers.{sectionCount};
 ghost use Rattle.elf.specs.Facts.{TableInside};
 use super::digest;

@@ -1,10 +1,9 @@
 -- `decode::read_field` meets its contract. Assumes nothing.
 use mathlib.Core.Path.{_≡_, sym, ap, _∙_}
 use Prim.Native.Nat.{_/_}
-use Rattle.fields.specs.Layouts.{formatU, formatI}
+use Rattle.fields.specs.Layouts.{formatU, formatI, read}
 use Rattle.fields.proofs.Laws.Layouts.{total, read-append}
 use native.Mathlib.Omega.{arith}
-use Rattle.fields.specs.Layouts.{read}
 use Rattle.fields.specs.Fields.{layout}
 use borrow.Author.Needs.{needs}
 use Rattle.decode.proofs.read_field.Statement.{statement}

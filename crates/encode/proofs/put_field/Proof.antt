@@ -2,10 +2,9 @@
 use mathlib.Core.Path.{_≡_, sym, ap, _∙_}
 use Prim.Native.Nat.{_+_, _/_}
 use native.Mathlib.Nat.{mul-comm}
-use Rattle.fields.specs.Layouts.{formatU, formatI}
+use Rattle.fields.specs.Layouts.{formatU, formatI, put}
 use Rattle.fields.proofs.Laws.Layouts.{total, put-append}
 use native.Mathlib.Omega.{arith}
-use Rattle.fields.specs.Layouts.{put}
 use Rattle.fields.specs.Fields.{layout}
 use borrow.Author.Needs.{needs}
 use Rattle.encode.proofs.put_field.Statement.{statement}

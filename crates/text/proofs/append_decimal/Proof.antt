@@ -1,7 +1,6 @@
 -- `text::append_decimal` meets its contract: the fewest digits are the decimal. Assumes nothing.
 use Rattle.text.specs.Lines.{decimal}
-use lib.ListN.{length}
-use mathlib.Core.Path.{_≡_, _∙_}
+use mathlib.Core.Path.{_∙_}
 use native.Mathlib.Omega.{arith}
 use Rattle.text.proofs.Laws.Lines.{appended-as, digits-decimal, fewest-most}
 use borrow.Author.Needs.{needs}
