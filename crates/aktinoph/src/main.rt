@@ -8,6 +8,8 @@
 ghost use mathlib.Core.Path.{_≡_};
 ghost use mathlib.Core.Bool.{_||_};
 ghost use lib.Dec.{ltb};
+use files::MAX_FILE;
+use files::ROOM;
 use files::replace_both;
 use text::Command;
 
@@ -29,7 +31,7 @@ fn usage() {
 }
 
 fn fit() {
-    let mut object = [0u8; 65537];
+    let mut object = [0u8; ROOM];
     let a = files::read(2, &mut object);
     let n = a.len;
     if a.is_read {
@@ -38,7 +40,7 @@ fn fit() {
 }
 
 fn fit_object(object: &[u8]) {
-    let mut order = [0u8; 65537];
+    let mut order = [0u8; ROOM];
     let a = files::read(3, &mut order);
     let n = a.len;
     if a.is_read {
@@ -52,7 +54,7 @@ fn take_back() {
 
 // A call over the files of image and ledger, which the arguments at these places name.
 fn over_files(is_fit: bool, object: &[u8], order: &[u8], image_at: usize, ledger_at: usize) {
-    let mut image = [0u8; 65537];
+    let mut image = [0u8; ROOM];
     let a = files::read(image_at, &mut image);
     let n = a.len;
     if a.is_read {
@@ -68,7 +70,7 @@ fn over_image(
     image: &mut [u8],
     ledger_at: usize,
 ) {
-    let mut ledger = [0u8; 65537];
+    let mut ledger = [0u8; ROOM];
     let a = files::read(ledger_at, &mut ledger);
     let n = a.len;
     if !a.is_read {
@@ -118,7 +120,7 @@ fn keep(code: u64, first: usize, new: &[u8], second: usize, other: &[u8]) {
 fn any_long(object: usize, order: usize, image: usize, ledger: usize) -> bool
     ensures { λ r. ⌜ r ≡ (ltb 65536 object || ltb 65536 order || ltb 65536 image || ltb 65536 ledger) ⌝ }
 {
-    (object > 65536) | (order > 65536) | (image > 65536) | (ledger > 65536)
+    (object > MAX_FILE) | (order > MAX_FILE) | (image > MAX_FILE) | (ledger > MAX_FILE)
 }
 
 // An answer has its number in the low half and its place in the high one.

@@ -5,18 +5,21 @@ ghost use Rattle.fields.specs.Fields.{layout, dataLayout};
 use fields::Field;
 use fields::Width;
 
+// imm[31:12]
 pub fn put_u(word: u64, value: u64) -> u64
     ensures { λ r. ⌜ r ≡ put formatU word value ⌝ }
 {
     word % 0x1000 + value / 0x1000 % 0x10_0000 * 0x1000
 }
 
+// imm[11:0]
 pub fn put_i(word: u64, value: u64) -> u64
     ensures { λ r. ⌜ r ≡ put formatI word value ⌝ }
 {
     word % 0x10_0000 + value % 0x1000 * 0x10_0000
 }
 
+// imm[4:0], imm[11:5]
 pub fn put_s(word: u64, value: u64) -> u64
     ensures { λ r. ⌜ r ≡ put formatS word value ⌝ }
 {
@@ -26,6 +29,7 @@ pub fn put_s(word: u64, value: u64) -> u64
         + value / 0x20 % 0x80 * 0x200_0000
 }
 
+// imm[11], imm[4:1], imm[10:5], imm[12]
 pub fn put_b(word: u64, value: u64) -> u64
     ensures { λ r. ⌜ r ≡ put formatB word value ⌝ }
 {
@@ -37,6 +41,7 @@ pub fn put_b(word: u64, value: u64) -> u64
         + value / 0x1000 % 2 * 0x8000_0000
 }
 
+// imm[19:12], imm[11], imm[10:1], imm[20]
 pub fn put_j(word: u64, value: u64) -> u64
     ensures { λ r. ⌜ r ≡ put formatJ word value ⌝ }
 {
@@ -47,6 +52,7 @@ pub fn put_j(word: u64, value: u64) -> u64
         + value / 0x10_0000 % 2 * 0x8000_0000
 }
 
+// imm[5], imm[2:1], imm[7:6], imm[4:3], imm[8]
 pub fn put_cb(word: u64, value: u64) -> u64
     ensures { λ r. ⌜ r ≡ put formatCB word value ⌝ }
 {
@@ -60,6 +66,7 @@ pub fn put_cb(word: u64, value: u64) -> u64
         + word / 0x2000 % 8 * 0x2000
 }
 
+// imm[5], imm[3:1], imm[7], imm[6], imm[10], imm[9:8], imm[4], imm[11]
 pub fn put_cj(word: u64, value: u64) -> u64
     ensures { λ r. ⌜ r ≡ put formatCJ word value ⌝ }
 {
@@ -75,6 +82,7 @@ pub fn put_cj(word: u64, value: u64) -> u64
         + word / 0x2000 % 8 * 0x2000
 }
 
+// A data field: all of its bytes, or the low six bits of one.
 pub fn put_data(width: Width, word: u64, value: u64) -> u64
     ensures { λ r. ⌜ r ≡ put (dataLayout width) word value ⌝ }
 {

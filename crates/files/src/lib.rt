@@ -7,6 +7,12 @@ ghost use Rattle.libc.specs.Io.{Ended};
 use text::append;
 use text::append_decimal;
 
+// "files of at most 65,536 bytes"
+pub const MAX_FILE: usize = 65536;
+
+// Room for a file, and for the byte by which one is seen to be longer.
+pub const ROOM: usize = 65537;
+
 // Where it is read, `len` bytes of it, at most one above the limit.
 pub struct Contents {
     pub is_read: bool,
@@ -120,7 +126,7 @@ fn replace_second(
 fn put_both(first: usize, tag: [u8; 7], a: &[u8], m: usize, b: &[u8], n: usize) -> bool
     requires { ⌜ (m ≤ length (now a)) × (n ≤ length (now b)) ⌝ }
 {
-    let mut old = [0u8; 65537];
+    let mut old = [0u8; ROOM];
     let contents = read(first, &mut old);
     let k = contents.len;
     if !contents.is_read {

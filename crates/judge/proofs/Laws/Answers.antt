@@ -1,4 +1,4 @@
--- An answer as one number: its number and its place are read out of it again. Assumes nothing.
+-- Laws of answers: number and place are read out of the one number again, and the verdict that an answer stands for. Assumes nothing.
 use mathlib.Core.Path.{_≡_, ap, _∙_}
 use mathlib.Core.Bool.{true, false, cond}
 use mathlib.Core.List.{List}
