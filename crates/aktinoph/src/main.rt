@@ -8,6 +8,11 @@
 ghost use mathlib.Core.Path.{_≡_};
 ghost use mathlib.Core.Bool.{_||_};
 ghost use lib.Dec.{ltb};
+ghost use lib.ListN.{take};
+ghost use Rattle.io.specs.Counts.{Counts};
+ghost use Rattle.text.specs.Lines.{line};
+ghost use Rattle.judge.specs.declared.Answer.{Answer};
+ghost use Rattle.judge.specs.Answers.{answerOf, packed};
 use files::MAX_FILE;
 use files::ROOM;
 use files::replace_both;
@@ -123,10 +128,17 @@ fn any_long(object: usize, order: usize, image: usize, ledger: usize) -> bool
     (object > MAX_FILE) | (order > MAX_FILE) | (image > MAX_FILE) | (ledger > MAX_FILE)
 }
 
-// An answer has its number in the low half and its place in the high one.
+// The line of the answer that a code packs: its number is in the low half, its place in the high one.
+fn line_of(code: u64, out: &mut [u8; 42]) -> usize
+    ensures { λ r. ⌜ Counts r (now (out .exit)) ⌝ }
+    ensures { λ r. ⌜ ((answer : Answer) → code ≡ packed (answerOf answer) → take r (now (out .exit)) ≡ line (answerOf answer)) ⌝ }
+{
+    text::answer_line(code % 4294967296, code / 4294967296, out)
+}
+
 fn print_answer(code: u64) {
     let mut line = [0u8; 42];
-    let n = text::answer_line(code % 4294967296, code / 4294967296, &mut line);
+    let n = line_of(code, &mut line);
     print(&line[..n]);
 }
 

@@ -1,0 +1,19 @@
+-- `aktinoph::line_of` meets its contract: number and place are read out of the one number again. Assumes nothing.
+use mathlib.Core.Path.{ap, _∙_}
+use Rattle.text.specs.Lines.{line}
+use Rattle.judge.proofs.Laws.Answers.{unpacked}
+use borrow.Author.Needs.{needs}
+use Rattle.aktinoph.proofs.line_of.Statement.{statement}
+use Rattle.aktinoph.proofs.line_of.Tie as tie
+
+answer-line-requires : tie.Need-answer-line-requires
+answer-line-requires c κs = search needs
+
+returns : tie.Need-returns
+returns c = (
+  c .answer-line .ensures .0,
+  λ answer e. c .answer-line .ensures .1 ∙ ap line (unpacked answer (c .before .before .args .code) e),
+)
+
+pub line-of-spec : {M : Type 1} → statement M
+line-of-spec = tie.close (tie.spec answer-line-requires returns)
