@@ -2,14 +2,14 @@
 //! types, sums, ranges and forms over fixed inputs, in hexadecimal. The program
 //! `encodings` writes the same lines from the proved functions.
 
-use std::fs;
-use std::path::{Path, PathBuf};
-
 use reference::fields::{extract, high_half, insert, low_half, Field, Layout};
 use reference::fields::{B, CB, CJ, I, J, S, U};
 use reference::instruction::Form;
 use reference::numbers::Whole;
 use reference::relocation::{effect_of, Calculation, Effect, Patch};
+use testing::compared::Compared;
+
+const PROGRAM: Compared = Compared("encodings");
 
 const FIELDS: [Field; 13] = [
     Field::U,
@@ -237,23 +237,13 @@ fn lines() -> String {
         + &run(192, form_line)
 }
 
-fn path() -> PathBuf {
-    Path::new(env!("CARGO_MANIFEST_DIR")).join("../../crates/encodings/stdout")
-}
-
 #[test]
 fn encodings() {
-    let text = fs::read_to_string(path()).expect("the file is in the repository");
-    let expected = lines();
-    let pairs = expected.lines().zip(text.lines());
-    if let Some((given, asked)) = pairs.into_iter().find(|(given, asked)| given != asked) {
-        panic!("{given}, and the file has {asked}");
-    }
-    assert!(expected == text, "as many lines and bytes");
+    PROGRAM.assert_lines(lines().lines().map(String::from).enumerate());
 }
 
 #[test]
 #[ignore = "writes the file anew"]
 fn write_encodings() {
-    fs::write(path(), lines()).expect("the file can be written");
+    PROGRAM.write_lines(lines().lines().map(String::from));
 }

@@ -3,12 +3,12 @@
 //! shared vectors, on journals that are unsound in one way alone, and at the
 //! ends of what lengths may be.
 
-use std::fs;
-use std::path::{Path, PathBuf};
-
 use reference::journal::Standing;
 use reference::{install, judge, rollback, Span, MAX_BYTES};
+use testing::compared::Compared;
 use testing::vectors::{bytes, bytes_after, lines};
+
+const PROGRAM: Compared = Compared("rollbacks");
 
 const SPACE: usize = 131_072;
 
@@ -259,7 +259,7 @@ impl Case {
 
     fn line(&self) -> String {
         let (image, journal) = (checksum(&self.image_after), checksum(&self.journal_after));
-        format!("{} {image:08x} {journal:08x}\n", self.number)
+        format!("{} {image:08x} {journal:08x}", self.number)
     }
 }
 
@@ -279,23 +279,11 @@ fn input(cases: &[Case]) -> Vec<u8> {
     input
 }
 
-fn output(cases: &[Case]) -> String {
-    cases.iter().map(Case::line).collect()
-}
-
-fn path(name: &str) -> PathBuf {
-    Path::new(env!("CARGO_MANIFEST_DIR"))
-        .join("../../crates/rollbacks")
-        .join(name)
-}
-
 #[test]
 fn files() {
     let cases = cases();
-    let stdin = fs::read(path("stdin")).expect("the file is in the repository");
-    let stdout = fs::read_to_string(path("stdout")).expect("the file is in the repository");
-    assert!(input(&cases) == stdin, "the cases are those of the file");
-    assert!(output(&cases) == stdout, "the lines are those of the file");
+    PROGRAM.assert_input(&input(&cases));
+    PROGRAM.assert_lines(cases.iter().map(Case::line).enumerate());
 }
 
 #[test]
@@ -319,6 +307,6 @@ fn each_answer() {
 #[ignore = "writes the files anew"]
 fn write_files() {
     let cases = cases();
-    fs::write(path("stdin"), input(&cases)).expect("the file can be written");
-    fs::write(path("stdout"), output(&cases)).expect("the file can be written");
+    PROGRAM.write_input(&input(&cases));
+    PROGRAM.write_lines(cases.iter().map(Case::line));
 }

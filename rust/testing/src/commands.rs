@@ -6,6 +6,10 @@
 /// The length of a command.
 const COMMAND: usize = 13;
 
+/// Where the order of a pair is, and the end of a space for pairs.
+const ORDER: usize = 65_600;
+const PAIRS: usize = 74_200;
+
 /// What the program holds, and the commands so far.
 pub struct Commands {
     space: Vec<u8>,
@@ -23,6 +27,11 @@ impl Commands {
         }
     }
 
+    /// For a space of pairs.
+    pub fn of_pairs() -> Commands {
+        Commands::new(PAIRS)
+    }
+
     pub fn ask(&mut self, letter: u8, numbers: [u32; 3]) {
         self.text.extend(encode(letter, numbers));
         self.count += 1;
@@ -35,6 +44,15 @@ impl Commands {
             self.text.extend(&bytes[start..end]);
             self.space[at + start..at + end].copy_from_slice(&bytes[start..end]);
         }
+    }
+
+    /// Asks about an object and an order, which is behind it, for an image of
+    /// this length.
+    pub fn ask_pair(&mut self, letter: u8, object: &[u8], order: &[u8], image_length: usize) {
+        self.store(0, object);
+        self.store(ORDER, order);
+        let lengths = [object.len(), order.len(), image_length];
+        self.ask(letter, lengths.map(|length| length as u32));
     }
 
     /// The program's input.

@@ -4,6 +4,7 @@
 
 pub mod build;
 pub mod commands;
+pub mod compared;
 pub mod damage;
 pub mod given;
 pub mod random;

@@ -10,10 +10,11 @@ mod orders;
 mod random;
 
 use std::collections::BTreeMap;
-use std::fs;
-use std::path::{Path, PathBuf};
 
 use lines::{answer, line};
+use testing::compared::{assert_stated, Compared};
+
+const PROGRAM: Compared = Compared("readings");
 
 /// What the program is asked.
 pub enum Question {
@@ -57,41 +58,21 @@ fn cases() -> Vec<Case> {
     cases
 }
 
-fn path(file: &str) -> PathBuf {
-    Path::new(env!("CARGO_MANIFEST_DIR"))
-        .join("../../crates/readings")
-        .join(file)
-}
-
-fn read(file: &str) -> Vec<u8> {
-    fs::read(path(file)).expect("the file is in the repository")
-}
-
 #[test]
 fn stated_answers() {
-    let differs = |case: &Case| {
-        let (given, stated) = (answer(&case.question), case.stated?);
-        (given != stated).then(|| format!("{}: {given:?}, stated {stated:?}", case.name))
-    };
-    let wrong: Vec<String> = cases().iter().filter_map(differs).collect();
-    assert!(wrong.is_empty(), "{}", wrong.join("\n"));
+    let given = |case: &Case| (case.name.clone(), answer(&case.question), case.stated);
+    assert_stated(cases().iter().map(given));
 }
 
 #[test]
-fn commands() {
-    assert!(commands::all(&cases()) == read("stdin"), "another stdin");
+fn input() {
+    PROGRAM.assert_input(&commands::all(&cases()));
 }
 
 #[test]
 fn lines() {
-    let text = String::from_utf8(read("stdout")).expect("text");
-    let cases = cases();
-    let pairs = cases.iter().zip(text.lines());
-    for (case, written) in pairs {
-        assert_eq!(line(&case.question), written, "{}", case.name);
-    }
-    assert_eq!(text.lines().count(), cases.len());
-    assert!(text.ends_with('\n'));
+    let named = |case: &Case| (case.name.clone(), line(&case.question));
+    PROGRAM.assert_lines(cases().iter().map(named));
 }
 
 /// Every answer occurs, and so does each place of a section up to 9.
@@ -116,7 +97,6 @@ fn many_answers() {
 #[ignore = "writes the files anew"]
 fn write_readings() {
     let cases = cases();
-    let lines = cases.iter().map(|case| line(&case.question) + "\n");
-    fs::write(path("stdout"), lines.collect::<String>()).expect("stdout can be written");
-    fs::write(path("stdin"), commands::all(&cases)).expect("stdin can be written");
+    PROGRAM.write_input(&commands::all(&cases));
+    PROGRAM.write_lines(cases.iter().map(|case| line(&case.question)));
 }

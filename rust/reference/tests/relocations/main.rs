@@ -20,17 +20,14 @@ mod symbols;
 mod types;
 
 use std::collections::BTreeMap;
-use std::fs;
-use std::path::{Path, PathBuf};
 
 use lines::{answer, line, relocate};
 use reference::install;
 use testing::build::{journal, Fit};
 use testing::commands::Commands;
+use testing::compared::{assert_stated, Compared};
 
-/// Where the order is in the program's space, and the space's end.
-const ORDER: usize = 65_600;
-const SPACE: usize = 74_200;
+const PROGRAM: Compared = Compared("relocations");
 
 /// Number and place.
 pub type Answer = (u32, u32);
@@ -95,34 +92,17 @@ fn cases() -> Vec<Case> {
 }
 
 fn commands(cases: &[Case]) -> Vec<u8> {
-    let mut commands = Commands::new(SPACE);
+    let mut commands = Commands::of_pairs();
     for case in cases {
-        commands.store(0, &case.object);
-        commands.store(ORDER, &case.order);
-        let lengths = [case.object.len(), case.order.len(), case.image_length];
-        commands.ask(b'r', lengths.map(|length| length as u32));
+        commands.ask_pair(b'r', &case.object, &case.order, case.image_length);
     }
     commands.input()
 }
 
-fn path(file: &str) -> PathBuf {
-    Path::new(env!("CARGO_MANIFEST_DIR"))
-        .join("../../crates/relocations")
-        .join(file)
-}
-
-fn read(file: &str) -> Vec<u8> {
-    fs::read(path(file)).expect("the file is in the repository")
-}
-
 #[test]
 fn stated_answers() {
-    let differs = |case: &Case| {
-        let (given, stated) = (answer(case), case.stated?);
-        (given != stated).then(|| format!("{}: {given:?}, stated {stated:?}", case.name))
-    };
-    let wrong: Vec<String> = cases().iter().filter_map(differs).collect();
-    assert!(wrong.is_empty(), "{}", wrong.join("\n"));
+    let given = |case: &Case| (case.name.clone(), answer(case), case.stated);
+    assert_stated(cases().iter().map(given));
 }
 
 #[test]
@@ -157,18 +137,12 @@ fn answers_of_the_whole() {
 
 #[test]
 fn input() {
-    assert!(commands(&cases()) == read("stdin"), "another stdin");
+    PROGRAM.assert_input(&commands(&cases()));
 }
 
 #[test]
 fn lines() {
-    let text = String::from_utf8(read("stdout")).expect("text");
-    let cases = cases();
-    for (case, written) in cases.iter().zip(text.lines()) {
-        assert_eq!(line(case), written, "{}", case.name);
-    }
-    assert_eq!(text.lines().count(), cases.len());
-    assert!(text.ends_with('\n'));
+    PROGRAM.assert_lines(cases().iter().map(|case| (&case.name, line(case))));
 }
 
 /// Every answer of 9 to 14 occurs often, and at many places.
@@ -191,7 +165,6 @@ fn many_answers() {
 #[ignore = "writes the files anew"]
 fn write_relocations() {
     let cases = cases();
-    let lines = cases.iter().map(|case| line(case) + "\n");
-    fs::write(path("stdout"), lines.collect::<String>()).expect("stdout can be written");
-    fs::write(path("stdin"), commands(&cases)).expect("stdin can be written");
+    PROGRAM.write_input(&commands(&cases));
+    PROGRAM.write_lines(cases.iter().map(line));
 }
