@@ -5,6 +5,7 @@ pub mod Relocations
 pub mod Told
 pub mod Images
 pub mod Laid
+pub mod Spans
 pub mod Demands
 pub mod Sample
 pub mod Wrong

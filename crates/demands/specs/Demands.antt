@@ -8,13 +8,15 @@ use Rattle.elf.specs.Headers.{sectionCount}
 use Rattle.elf.specs.Sections.{sectionAt, allocated}
 use Rattle.order.specs.Orders.{placementCount}
 use Rattle.order.specs.Windows.{maxImage}
+use Rattle.journal.specs.declared.Span.{Span}
 use Rattle.journal.specs.Journals.{count, Sound}
-use Rattle.history.specs.Calls.{Files, done, Call, Fit, TakeBack, calling}
+use Rattle.history.specs.Calls.{Files, done, install, rollback, Call, Fit, TakeBack, calling}
 use Rattle.history.specs.Histories.{Start, Holds}
+use Rattle.history.specs.Records.{Appended, Released}
 use Rattle.judgement.specs.Judgement.{judgement}
 use Rattle.demands.specs.Rules.{Rules}
-use Rattle.demands.specs.First.{Checks, none, one, FirstBroken, table}
-use Rattle.demands.specs.Laid.{Laid}
+use Rattle.demands.specs.First.{Checks, none, one, AllHold, FirstBroken, table}
+use Rattle.demands.specs.Laid.{IsSpan, Laid}
 
 -- "A taking-back checks 1, 3 (length only), 16."
 unfoldable pub backTable : Files → Checks
@@ -26,6 +28,9 @@ pub record Demand1 (fit : Fit) (takeBack : TakeBack) : Type 0 where
   pub fit-refused : (object order : List ℕ) (f : Files) → (fit object order f .answer ≡ done → ⊥)
       → FirstBroken (table object order f) (fit object order f .answer .number) (fit object order f .answer .place)
   pub back-refused : (f : Files) → (takeBack f .answer ≡ done → ⊥) → FirstBroken (backTable f) (takeBack f .answer .number) (takeBack f .answer .place)
+  -- of a taking-back, "given exactly when" (of a fit, demand 2 has it)
+  pub back-holds : (f : Files) → takeBack f .answer ≡ done → AllHold (backTable f)
+  pub back-first : (f : Files) (n p : ℕ) → FirstBroken (backTable f) n p → takeBack f .answer ≡ record { number = n; place = p }
   -- "and image and ledger then hold exactly the bytes they held."
   pub fit-kept : (object order : List ℕ) (f : Files) → (fit object order f .answer ≡ done → ⊥) → fit object order f .after ≡ f
   pub back-kept : (f : Files) → (takeBack f .answer ≡ done → ⊥) → takeBack f .after ≡ f
@@ -44,7 +49,22 @@ pub record Demand2 (fit : Fit) : Type 0 where
   pub nothing-to-place : (object order : List ℕ) (f : Files) → fit object order f .answer ≡ done → placementCount order ≡ 0
       → (t : ℕ) → t < sectionCount object → allocated (sectionAt object t) ≡ false
 
+-- Document 01, "Ledger": what a call that is done leaves there
+pub record Journalled (fit : Fit) (takeBack : TakeBack) : Type 0 where
+  -- "A fit appends the span's old bytes."
+  pub appends : (object order : List ℕ) (f : Files) → fit object order f .answer ≡ done
+      → (s : Span) × IsSpan object order s × Appended f (fit object order f .after) s
+  -- "A taking-back writes them back, zeroes the entry and the released bytes, and lowers n and k."
+  pub releases : (f : Files) → takeBack f .answer ≡ done → Released f (takeBack f .after)
+
 -- "Start with any image of allowed length and any sound ledger in which no fit stands. .. For every list of fits and takings-back from there,
 -- refused ones included, the following holds after it." The history goes by document 01's judgement.
 abbrev pub Demand3 : Fit → TakeBack → Type 0
 Demand3 fit takeBack = (start : Files) → Start start → (calls : List Call) → Holds (calling fit takeBack) judgement start calls
+
+-- the two calls that the fitter's contracts name
+abbrev pub ours : Fit
+ours = install judgement
+
+abbrev pub back : TakeBack
+back = rollback

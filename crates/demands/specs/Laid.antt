@@ -10,6 +10,7 @@ use Rattle.elf.specs.Sections.{sectionAt, countingRela}
 use Rattle.elf.specs.Entries.{bytesOf}
 use Rattle.order.specs.Orders.{base}
 use Rattle.lookup.specs.Addresses.{addresses}
+use Rattle.journal.specs.declared.Span.{Span}
 use Rattle.placing.specs.Placing.{hasBytes}
 use Rattle.fields.specs.declared.Field.{Field}
 use Rattle.fields.specs.declared.Field.the-variants.{U}
@@ -41,6 +42,13 @@ module _ (object order : List ℕ) where
     pub loaded : hasBytes (sectionAt object t) ≡ true
     pub from : start t ≤ b
     pub to : b < start t + sectionAt object t .size
+
+  -- "A fit's span runs from the lowest to the end of the highest laid byte; with none laid it is start 0, length 0."
+  pub record IsSpan (s : Span) : Type 0 where
+    pub covers-all : (t b : ℕ) → Covers t b → (s .start ≤ b) × (b < s .start + s .size)
+    pub first-laid : 0 < s .size → (t : ℕ) × Covers t (s .start)
+    pub last-laid : 0 < s .size → (t : ℕ) × Covers t (s .start + s .size - 1)
+    pub none-laid : s .size ≡ 0 → s .start ≡ 0
 
   -- the site of RELA section i
   abbrev pub siteOf : ℕ → Site

@@ -7,4 +7,5 @@ pub mod Agree
 pub mod History
 pub mod Corollaries
 pub mod Past
+pub mod Records
 pub mod Bench

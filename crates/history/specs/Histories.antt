@@ -2,14 +2,15 @@
 -- program's image or ledger". A list of standing installs (document 01: standing fits) has the newest first. Assumes nothing: these are
 -- definitions.
 use mathlib.Core.Path.{_≡_}
-use Prim.Native.Nat.{ℕ}
-use mathlib.Core.Bool.{true, cond}
+use Prim.Native.Nat.{ℕ, _≤_}
+use mathlib.Core.Bool.{cond}
 use mathlib.Core.List.{List, [], _∷_, _++_}
 use lib.ListN.{length, take, replicate}
-use Rattle.order.specs.Windows.{lengthAllowed}
+use Rattle.word.specs.Bytes.{part}
+use Rattle.order.specs.Windows.{maxImage}
 use Rattle.journal.specs.declared.Span.{Span}
 use Rattle.journal.specs.Plans.{Piece, Verdict, refused, plan, Judge, overwritten, spanOf}
-use Rattle.journal.specs.Journals.{count, entries, held, total, Sound, noRoom}
+use Rattle.journal.specs.Journals.{oldAt, count, entries, held, total, Sound, noRoom}
 use Rattle.history.specs.Calls.{done, journalFull, noneStands, Files, Outcome, refuse, succeed, Call, Install, Rollback, answers, run}
 
 -- ---- the history
@@ -50,6 +51,11 @@ laid start (x ∷ older) = overwritten (laid start older) (x .pieces)
 abbrev pub imageOf : History → List ℕ
 imageOf h = laid (h .start) (h .standing)
 
+-- the old bytes of their spans, the oldest first: of each, what the image held before it
+unfoldable pub olds : List ℕ → List Standing → List ℕ
+olds start [] = []
+olds start (x ∷ older) = olds start older ++ part (laid start older) (spanOf (x .pieces) .start) (spanOf (x .pieces) .size)
+
 -- "A fit: the checks are judged in their order from object, order and image length; 15 uses the history's n, k and ledger length; 1 is never
 -- broken. If one is broken, the answer is its number and place and nothing changes. Otherwise the answer is 0, place 0, and the fit stands
 -- as the newest"
@@ -76,7 +82,7 @@ told judge h Rollback = fall h (h .standing)
 -- elements or of the journal's length, so slices of bytes meet it as they are.
 pub record Start (f : Files) : Type 0 where
   -- "An image length is allowed if it passes check 3 of a taking-back."
-  pub allowed : lengthAllowed (length (f .image)) ≡ true
+  pub allowed : length (f .image) ≤ maxImage
   pub sound : Sound (f .journal) (length (f .image))
   pub none : count (f .journal) ≡ 0
 
@@ -87,7 +93,7 @@ filesAfter step start calls = run step start calls
 abbrev pub historyOf : Judge → Files → List Call → History
 historyOf judge start calls = run (told judge) (begin start) calls
 
--- "Equal to the history's are": image, n, k and the first n entries; and "the ledger is then still sound"
+-- "Equal to the history's are": image, n, k, the first n entries, and the old bytes; and "the ledger is then still sound"
 pub record AsTold (h : History) (f : Files) : Type 0 where
   -- "The image is, byte for byte, the starting image with the laid bytes of the fits still standing written over it, oldest first"
   pub image-is : f .image ≡ imageOf h
@@ -96,14 +102,19 @@ pub record AsTold (h : History) (f : Files) : Type 0 where
   pub held-is : held (f .journal) ≡ heldOf h
   -- "its first n entries, which are the spans of the standing fits, oldest first"
   pub entries-are : take (count (f .journal)) (entries (f .journal)) ≡ spans (h .standing)
+  -- the k old bytes, and the journal's length, so that every byte of it that is ever read is the history's
+  pub old-are : part (f .journal) oldAt (heldOf h) ≡ olds (h .start) (h .standing)
+  pub room-is : length (f .journal) ≡ h .room
   pub still-sound : Sound (f .journal) (length (f .image))
 
--- two files with "the same image, n, k and first n entries"
+-- two files with "the same image, n, k and first n entries"; the same old bytes and length of the journal too
 pub record Alike (f g : Files) : Type 0 where
   pub image-same : f .image ≡ g .image
   pub count-same : count (f .journal) ≡ count (g .journal)
   pub held-same : held (f .journal) ≡ held (g .journal)
   pub entries-same : take (count (f .journal)) (entries (f .journal)) ≡ take (count (g .journal)) (entries (g .journal))
+  pub old-same : part (f .journal) oldAt (held (f .journal)) ≡ part (g .journal) oldAt (held (g .journal))
+  pub room-same : length (f .journal) ≡ length (g .journal)
 
 -- "The standing fits alone, asked for in their order"
 unfoldable pub alone : List Standing → List Call

@@ -2,3 +2,4 @@ pub mod Writes
 pub mod Calls
 pub mod Histories
 pub mod Facts
+pub mod Records

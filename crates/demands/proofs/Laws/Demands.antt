@@ -17,8 +17,12 @@ use Rattle.validate.specs.declared.ObjectCheck.the-variants.{Passed, BadHeader,
 use Rattle.validate.specs.Rules.{objectCheck}
 use Rattle.journal.specs.Journals.{count, held, Sound, sound, noRoom}
 use Rattle.journal.specs.Plans.{Piece, Verdict, refused, plan, spanOf}
-use Rattle.history.specs.Calls.{Answer, done, journalUnsound, windowBroken, noneStands, journalFull, Files, refuse, succeed, installed, settle, install, rolledBack, rollback, Install, Rollback, Fit, TakeBack, calling}
+use Rattle.history.specs.Calls.{Answer, done, journalUnsound, windowBroken, noneStands, journalFull, Files, refuse, succeed, installed, settle, install, rolledBack, rollback, Install, Rollback, calling}
 use Rattle.journal.proofs.Laws.Sound.{test-sound, sound-test}
+use Rattle.history.specs.Records.{Appended, Released}
+use Rattle.history.proofs.Laws.Install.{held-small, plan-savable}
+use Rattle.history.proofs.Laws.Rollback.{undoable, done-with}
+use Rattle.history.proofs.Laws.Records.{installed-appends, releases}
 use Rattle.history.proofs.Laws.Corollaries.{refusal-keeps}
 use Rattle.history.proofs.Laws.History.{history-holds}
 use Rattle.place.specs.declared.Fault.{Fault}
@@ -32,21 +36,15 @@ use Rattle.rules.specs.Search.{number, relocationCheck}
 use Rattle.place.proofs.Laws.Theorems.{nothing-to-place as «none-placed»}
 use Rattle.judgement.specs.Judgement.{afterObject, afterFault, afterRelocations, planOf, judgement}
 use Rattle.judgement.proofs.Laws.Judgement.{broken-is, some-number, Fits, plan-fits}
-use Rattle.judgement.proofs.Laws.Laying.{lays-inside}
+use Rattle.judgement.proofs.Laws.Laying.{length-fits, length-short, plan-inside, lays-inside}
 use Rattle.demands.specs.Rules.{Rules}
 use Rattle.demands.specs.First.{nil, rule, Checks, none, one, HoldBelow, AllHold, FirstBroken, table}
 use Rattle.demands.specs.Laid.{Laid}
-use Rattle.demands.specs.Demands.{backTable, Demand1, Demand2, Demand3}
+use Rattle.demands.specs.Demands.{backTable, Demand1, Demand2, Demand3, Journalled, ours, back}
 use Rattle.demands.proofs.Laws.First.{none-broken, one-first, AllAbove, above, Told, later, at-once, broken-once}
 use Rattle.demands.proofs.Laws.Told.{told}
 use Rattle.demands.proofs.Laws.Laid.{laid-well}
-
--- the two calls that the fitter's contracts name
-abbrev pub ours : Fit
-ours = install judgement
-
-abbrev pub back : TakeBack
-back = rollback
+use Rattle.demands.proofs.Laws.Spans.{is-span}
 
 -- ---- every rule, from the table and back
 
@@ -287,6 +285,8 @@ demand-1 =
     record {
       fit-refused = λ object order f r. first-of (table object order f) (ours object order f .answer) (told object order f) r;
       back-refused = λ f r. first-of (backTable f) (back f .answer) (back-told f) r;
+      back-holds = λ f e. done-all (backTable f) (back f .answer) (back-above f) (back-told f) e;
+      back-first = λ f n p b. named (backTable f) (back f .answer) (back-told f) n p b;
       fit-kept = λ object order f r.
           refusal-keeps judgement f (Install object order)
           (not-zero (table object order f) (ours object order f .answer) (numbers-above object order f) (told object order f) r);
@@ -313,6 +313,42 @@ demand-2 =
       laid = λ object order f e. laid-of object order f (done-leaves object order f e);
       nothing-to-place = λ object order f e z t h.
           «none-placed» object order (done-leaves object order f e .fits .fitting .placeable .named .placements) z (omega (arith, rules-of object order f e .table-well .few)) t h;
+    }
+
+-- ---- what a done call leaves in the journal
+
+appends-of : (object order : List ℕ) (f : Files) → ours object order f .answer ≡ done → Appended f (ours object order f .after) (spanOf (planOf object order))
+appends-of object order f e =
+    let d = done-leaves object order f e in
+    let len = length (f .image) in
+    let fitting = d .fits .fitting in
+    subst (λ g. Appended f g (spanOf (planOf object order))) (sym (d .after-is))
+    (installed-appends (planOf object order) f
+    (plan-savable (f .image) (f .journal) (planOf object order) (sound-test (f .journal) len (rules-of object order f e .journal-sound))
+    (length-fits object order (d .fits .counts) len fitting) (d .room-is) (plan-inside object order (d .fits .counts) len fitting))
+    (length-short object order (d .fits .counts) len fitting))
+
+releases-of : (f : Files) → AllHold (backTable f) → Released f (back f .after)
+unfolding backTable lengthAllowed
+releases-of f h1 =
+    let h3 = h1 .1 in
+    let h16 = h3 .1 in
+    let len = length (f .image) in
+    let s : Sound (f .journal) len = holds-once 1 (h1 .0) in
+    let short : len ≤ 65536 = holds-once 3 (h3 .0) in
+    let some : 0 < count (f .journal) = holds-once 16 (h16 .0) in
+    let after-is : succeed (rolledBack f) ≡ rollback f =
+    done-with f (sound-test (f .journal) len s) (le-leb len 65536 short) (rolledBack f) (λ z. omega arith) refl in
+    subst (Released f) (ap (λ o. o .after) after-is)
+    (releases (f .image) (f .journal) (undoable (f .image) (f .journal) s some) (omega (arith, held-small (f .journal) len s short)))
+
+pub journalled : Journalled ours back
+journalled =
+    record {
+      appends = λ object order f e.
+          let fits = done-leaves object order f e .fits in
+          (spanOf (planOf object order), is-span object order (fits .counts) (length (f .image)) (fits .fitting), appends-of object order f e);
+      releases = λ f e. releases-of f (demand-1 .back-holds f e);
     }
 
 -- ---- demand 3, whole: every start, every list of calls

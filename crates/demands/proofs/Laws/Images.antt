@@ -6,10 +6,9 @@ use mathlib.Core.List.{List}
 use Prim.Native.Nat.{ℕ, zero, suc, _+_, _-_, _≤_, _<_}
 use native.Mathlib.Omega.{arith}
 use native.Mathlib.Decide.{decLt}
-use lib.ListN.{length, getD, take, drop}
-use lib.Seq.{sets, length-sets, take-at}
-use Rattle.word.specs.Bytes.{part}
-use Rattle.word.proofs.Laws.Lists.{take-sets, drop-sets, drop-sets-at, getD-sets-other, part-take}
+use lib.ListN.{length, getD}
+use lib.Seq.{sets, length-sets}
+use Rattle.word.proofs.Laws.Lists.{part-stored, part-other, getD-sets-other}
 use Rattle.elf.specs.Headers.{sectionCount}
 use Rattle.elf.specs.Sections.{sectionAt, loaded}
 use Rattle.order.specs.declared.Counts.{Counts}
@@ -23,20 +22,6 @@ use Rattle.judgement.specs.Facts.{Fitting}
 use Rattle.judgement.proofs.Laws.Laying.{bytes-inside, bytes-loaded, relocated-length, with-none, with-some, laidBelow, laid-none, laid-more, laid-all}
 use Rattle.stores.specs.Sections.{relocated}
 use Rattle.demands.specs.Laid.{start, sectionIn, Covers}
-
--- ---- parts of lists with a run of stores
-
-part-stored : (l : List ℕ) (i : ℕ) (v : List ℕ) (n : ℕ) → length v ≡ n → i + n ≤ length l → part (sets l i v) i n ≡ v
-unfolding part
-part-stored l i v n e h = ap (take n) (drop-sets-at l i v (omega arith)) ∙ take-at v (drop (i + length v) l) n e
-
-part-other : (l : List ℕ) (i : ℕ) (v : List ℕ) (j n : ℕ) → i ≤ length l → (j + n ≤ i) ⊎ (i + length v ≤ j) → part (sets l i v) j n ≡ part l j n
-unfolding part
-part-other l i v j n h (inl b) =
-    sym (part-take i (sets l i v) j n b (omega (arith, length-sets l i v)))
-    ∙ ap (λ s. part s j n) (take-sets i l i v (omega arith))
-    ∙ part-take i l j n b h
-part-other l i v j n h (inr b) = ap (take n) (drop-sets j l i v b)
 
 -- ---- section by section
 

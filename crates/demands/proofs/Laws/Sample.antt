@@ -64,7 +64,7 @@ order = words (1 ∷ 0x20000000 ∷ 1 ∷ 1 ∷ 0x20000000 ∷ 0 ∷ [])
 
 -- an image of four bytes, and a journal with room for them
 unfoldable pub files : Files
-files = record { image = replicate 4 0; journal = replicate 140 0 }
+files = record { image = replicate 4 0xA5; journal = replicate 140 0 }
 
 pub journal-is : Sound (files .journal) (length (files .image))
 unfolding files sound everywhere first entries tabulate entry total leAt le isBlank endsWithin

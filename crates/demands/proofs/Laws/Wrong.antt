@@ -1,10 +1,10 @@
 -- Fitters that the demands shut out, each by a sentence of them. Assumes nothing.
 use mathlib.Core.Logic.{inl, inr}
 use mathlib.Core.Path.{_≡_, refl, sym, ap, _∙_}
-use mathlib.Core.List.{List, [], _∷_}
+use mathlib.Core.List.{List, [], _∷_, _++_}
 use Prim.Native.Nat.{ℕ, zero, suc, _-_, _<_}
 use native.Mathlib.Omega.{arith}
-use lib.ListN.{length, getD}
+use lib.ListN.{length, getD, take, drop, replicate}
 use Rattle.word.proofs.Laws.Tests.{never}
 use Rattle.word.specs.Bytes.{le, leAt, bytes, part}
 use Rattle.word.specs.First.{first, everywhere, tabulate}
@@ -21,7 +21,8 @@ use Rattle.order.specs.Orders.{base, entryAt, ascending, wellFormed}
 use Rattle.lookup.specs.Values.{valueIn}
 use Rattle.order.specs.Windows.{lengthAllowed, windowAllowed}
 use Rattle.lookup.specs.Addresses.{placedAt, addresses}
-use Rattle.journal.specs.Journals.{count, entry, total, sound}
+use Rattle.journal.specs.Journals.{oldAt, count, entry, entries, total, isBlank, endsWithin, sound, Sound}
+use Rattle.journal.proofs.Laws.Sound.{test-sound}
 use Rattle.journal.specs.Plans.{overwritten}
 use Rattle.history.specs.Calls.{Answer, done, Files, succeed, Install, Rollback, Fit, TakeBack, calling, run}
 use Rattle.history.specs.Histories.{Standing, begin, spans, laid, stand, fall, told, Start}
@@ -36,10 +37,10 @@ use Rattle.stores.specs.Promises.{ReadsBack}
 use Rattle.spans.specs.Pieces.{pieces}
 use Rattle.judgement.specs.Judgement.{planOf, judgement}
 use Rattle.demands.specs.Rules.{PlacedAsAllocated}
-use Rattle.demands.specs.First.{FirstBroken, table as table-of}
+use Rattle.demands.specs.First.{AllHold, FirstBroken, table as table-of}
 use Rattle.demands.specs.Laid.{sectionIn}
-use Rattle.demands.proofs.Laws.First.{at-once, at-each}
-use Rattle.demands.specs.Demands.{Demand1, Demand2, Demand3}
+use Rattle.demands.proofs.Laws.First.{none-broken, at-once, at-each}
+use Rattle.demands.specs.Demands.{backTable, Demand1, Demand2, Demand3, Journalled}
 use Rattle.demands.proofs.Laws.Sample.{words, object, order, files, journal-is, header-is, table-is, sections-are, keeps-all}
 use Rattle.demands.proofs.Laws.Demands.{Done, done-leaves, demand-2}
 use Rattle.demands.proofs.Laws.Rules.{order-well, window-well, header-well}
@@ -71,7 +72,7 @@ module _ (fit : Fit) (d : Demand2 fit) where
   pub writes-nothing : ((o r : List ℕ) (f : Files) → fit o r f .after .image ≡ f .image) → ⊥
   unfolding object order files words bytes le leAt part sectionAt addresses tabulate placedAt valueIn entryAt first read
   writes-nothing wrong =
-      let z : _≡_ {A = ℕ} 0 0x12345678 = read-out (files .image) (wrong object order files) in
+      let z : _≡_ {A = ℕ} 0xA5A5A5A5 0x12345678 = read-out (files .image) (wrong object order files) in
       omega arith
 
   -- one that lays each section as it is in the object: the same sentence
@@ -127,7 +128,7 @@ unfolding object bare files words bytes le leAt part sectionAt allocated loaded 
 lays-anyway fit takeBack d₁ d₂ wrong =
     let refused : fit object bare files .answer ≡ done → ⊥ = λ e. omega (arith, ap (λ a. a .number) (sym (names-the-section fit d₂) ∙ e)) in
     let same : overwritten (files .image) (planOf object bare) ≡ files .image = sym (wrong object bare files) ∙ ap (λ f. f .image) (d₁ .fit-kept object bare files refused) in
-    let z : _≡_ {A = ℕ} 0x78 0 = ap (λ l. getD l 0 0) same in
+    let z : _≡_ {A = ℕ} 0x78 0xA5 = ap (λ l. getD l 0 0) same in
     omega arith
 
 -- ---- demand 3, at that install and its rollback
@@ -135,7 +136,7 @@ lays-anyway fit takeBack d₁ d₂ wrong =
 -- nothing stands at the start
 start-is : Start files
 unfolding files leAt le lengthAllowed
-start-is = record { allowed = refl; sound = journal-is; none = refl }
+start-is = record { allowed = omega arith; sound = journal-is; none = refl }
 
 -- the install, as the history has it
 stands : Standing
@@ -152,10 +153,10 @@ stood =
 -- each of the four laid bytes is another than the starting image's
 differs : (b : ℕ) → b < 4 → getD (files .image) b 0 ≡ getD (overwritten (files .image) (planOf object order)) b 0 → ⊥
 unfolding object order files words bytes le leAt part sectionAt allocated loaded hasBytes addresses tabulate placedAt valueIn entryAt first read put overwritten pieces planOf relocated relaOf countingRela targets siteAt after applied sumAt relocationAt decision table lookup among bytesOf patched symbolValue residue signed
-differs zero h e = let z : _≡_ {A = ℕ} 0 0x78 = e in omega arith
-differs (suc zero) h e = let z : _≡_ {A = ℕ} 0 0x56 = e in omega arith
-differs (suc (suc zero)) h e = let z : _≡_ {A = ℕ} 0 0x34 = e in omega arith
-differs (suc (suc (suc zero))) h e = let z : _≡_ {A = ℕ} 0 0x12 = e in omega arith
+differs zero h e = let z : _≡_ {A = ℕ} 0xA5 0x78 = e in omega arith
+differs (suc zero) h e = let z : _≡_ {A = ℕ} 0xA5 0x56 = e in omega arith
+differs (suc (suc zero)) h e = let z : _≡_ {A = ℕ} 0xA5 0x34 = e in omega arith
+differs (suc (suc (suc zero))) h e = let z : _≡_ {A = ℕ} 0xA5 0x12 = e in omega arith
 differs (suc (suc (suc (suc b)))) h e = omega arith
 
 module _ (fit : Fit) (takeBack : TakeBack) (d : Demand3 fit takeBack) where
@@ -217,3 +218,67 @@ module _ (fit : Fit) (takeBack : TakeBack) (d : Demand3 fit takeBack) where
   pub records-nothing : ((o r : List ℕ) (f : Files) → fit o r f .after .journal ≡ f .journal) → ⊥
   unfolding after-fit files leAt le
   records-nothing wrong = omega (arith, one-stands, ap (λ j. count j) (wrong object order files))
+
+-- ---- the journal, byte for byte
+
+-- one that is always done: "given exactly when" the ledger is unsound
+pub always-taken-back : (fit : Fit) (takeBack : TakeBack) → Demand1 fit takeBack → ((f : Files) → takeBack f .answer ≡ done) → ⊥
+unfolding backTable
+always-taken-back fit takeBack d wrong =
+    let none : Files = record { image = []; journal = [] } in
+    let s : Sound [] 0 = d .back-holds none (wrong none) .0 0 (omega arith) .0 in
+    omega (arith, s .fits)
+
+-- document 01's bench ledger, with one byte of room, and an image that its span lies in
+unfoldable pub standing : Files
+standing = record { image = replicate 12 0; journal = words (1 ∷ 8 ∷ 4 ∷ []) ++ replicate 120 0 ++ words (4 ∷ 0xDDCCBBAA ∷ []) ++ 0x55 ∷ [] }
+
+standing-sound : Sound (standing .journal) (length (standing .image))
+unfolding standing words bytes sound everywhere first entries tabulate entry total leAt le isBlank endsWithin
+standing-sound = test-sound (standing .journal) (length (standing .image)) refl
+
+-- it can be taken back
+standing-holds : AllHold (backTable standing)
+unfolding backTable standing words bytes leAt le
+standing-holds = (at-once 1 standing-sound, (at-once 3 (omega arith), (at-once 16 (omega arith), tt)))
+
+module _ (fit : Fit) (takeBack : TakeBack) (d : Demand1 fit takeBack) (k : Journalled fit takeBack) where
+  -- so that it is taken back, and what follows from that holds
+  taken-back : (takeBack standing .answer ≡ done → ⊥) → ⊥
+  taken-back not-done = none-broken (backTable standing) _ _ standing-holds (d .back-refused standing not-done)
+
+  -- one that leaves the old bytes in the journal: "zeroes the entry and the released bytes"
+  pub leaves-old-bytes : ((f : Files) → drop oldAt (takeBack f .after .journal) ≡ drop oldAt (f .journal)) → ⊥
+  unfolding standing words bytes leAt le entry part
+  leaves-old-bytes wrong =
+      taken-back (λ e.
+      let zero-now : part (takeBack standing .after .journal) oldAt 4 ≡ replicate 4 0 = k .releases standing e .released-zero in
+      let z : _≡_ {A = ℕ} 0xAA 0 = ap (λ l. getD l 0 0) (sym (ap (take 4) (wrong standing)) ∙ zero-now) in
+      omega arith)
+
+  -- one that clears the journal to its end: "Bytes past 136 + k are .. not written otherwise"
+  pub clears-to-the-end : ((f : Files) → drop 140 (takeBack f .after .journal) ≡ replicate (length (f .journal) - 140) 0) → ⊥
+  unfolding standing words bytes leAt le
+  clears-to-the-end wrong =
+      taken-back (λ e.
+      let same : drop 140 (takeBack standing .after .journal) ≡ 0x55 ∷ [] = k .releases standing e .past-same in
+      let z : _≡_ {A = ℕ} 0x55 0 = ap (λ l. getD l 0 0) (sym same ∙ wrong standing) in
+      omega arith)
+
+-- a fit that does not record the old bytes: "A fit appends the span's old bytes."
+pub records-no-old-bytes : (fit : Fit) (takeBack : TakeBack) → Demand2 fit → Journalled fit takeBack
+    → ((o r : List ℕ) (f : Files) → drop oldAt (fit o r f .after .journal) ≡ drop oldAt (f .journal)) → ⊥
+unfolding object order files words bytes le leAt part sectionAt allocated loaded hasBytes addresses tabulate placedAt valueIn entryAt first
+records-no-old-bytes fit takeBack d k wrong =
+    let a = k .appends object order files (is-done fit d) in
+    let s = a .0 in
+    let inside = a .1 .covers-all 1 0 (record { there = omega arith; loaded = refl; from = omega arith; to = omega arith }) in
+    let recorded : part (fit object order files .after .journal) oldAt (s .size) ≡ part (files .image) (s .start) (s .size) = a .2 .old-are in
+    go (s .start) (s .size) (omega (arith, inside .0)) (omega (arith, inside .0, inside .1)) recorded
+  where
+    go : (at size : ℕ) → at ≡ 0 → 0 < size → part (fit object order files .after .journal) oldAt size ≡ part (files .image) at size → ⊥
+    go at zero e h recorded = omega arith
+    go at (suc size) e h recorded =
+        let z : _≡_ {A = ℕ} 0 0xA5 =
+        ap (λ l. getD l 0 0) (sym (ap (take (suc size)) (wrong object order files)) ∙ recorded ∙ ap (λ n. part (files .image) n (suc size)) e) in
+        omega arith

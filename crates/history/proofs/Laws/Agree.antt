@@ -12,21 +12,16 @@ use Rattle.word.specs.Bytes.{part}
 use Rattle.word.proofs.Laws.Lists.{length-part}
 use Rattle.order.specs.Windows.{lengthAllowed}
 use Rattle.journal.specs.Plans.{Piece, Verdict, refused, plan, Judge, LaysInside, Inside, spanOf}
-use Rattle.journal.specs.Journals.{count, entries, held, blank, total, Sound, sound, noRoom}
+use Rattle.journal.specs.Journals.{oldAt, count, entries, held, blank, total, Sound, sound, noRoom}
 use Rattle.history.specs.Calls.{journalFull, Files, Outcome, refuse, succeed, installed, settle, install, rolledBack, rollback, Call, Install, Rollback, calling, call}
-use Rattle.history.specs.Histories.{Standing, History, spans, laid, stand, fall, told, AsTold}
+use Rattle.history.specs.Histories.{Standing, History, spans, laid, olds, stand, fall, told, AsTold}
 use Rattle.journal.proofs.Laws.Sound.{total-append, sound-test}
 use Rattle.history.proofs.Laws.Install.{room-left}
 use Rattle.journal.proofs.Laws.Span.{length-overwritten, span-inside, undone}
 use Rattle.history.proofs.Laws.Stack.{AllIn, all-in-append, journalOf, length-journal, count-journal, held-journal, entries-journal, sound-journal}
-use Rattle.history.proofs.Laws.Moves.{pushed, popped}
+use Rattle.history.proofs.Laws.Moves.{old-bytes, pushed, popped}
 
 -- ---- the invariant
-
--- the old bytes of the standing installs' spans, the oldest first: of each, what the image held before it
-unfoldable pub olds : List ℕ → List Standing → List ℕ
-olds base [] = []
-olds base (x ∷ xs) = olds base xs ++ part (laid base xs) (spanOf (x .pieces) .start) (spanOf (x .pieces) .size)
 
 -- each standing install was planned by the judgement, and had room when it was asked for
 abbrev pub Stands : Judge → List ℕ → ℕ → List Standing → Type 0
@@ -183,6 +178,8 @@ module _ (judge : Judge) (lays : LaysInside judge) (base : List ℕ) (room : ℕ
           count-is = count-files;
           held-is = held-files;
           entries-are = rw count-files entries-files;
+          old-are = old-bytes (spans xs) free [] (olds base xs) rest oldAt (total (spans xs)) (w .slots) refl (length-olds xs (w .stands));
+          room-is = length-files;
           still-sound = sound-files;
         }
 

@@ -6,14 +6,13 @@ use native.Mathlib.Numerals.{add-one}
 use mathlib.Core.Bool.{Bool, true, false, cond}
 use mathlib.Core.List.{List, [], _∷_, _++_}
 use lib.ListN.{length, drop, length-drop, replicate, replicate-append-replicate}
-use borrow.Author.Tests.{leb-true}
-use Rattle.order.specs.Windows.{lengthAllowed}
+use Rattle.word.specs.Bytes.{part}
 use Rattle.journal.specs.Plans.{Verdict, refused, plan, Judge, LaysInside, spanOf}
-use Rattle.journal.specs.Journals.{total, noRoom}
+use Rattle.journal.specs.Journals.{oldAt, total, noRoom}
 use Rattle.history.specs.Calls.{Answer, done, journalFull, noneStands, Files, Outcome, refuse, succeed, Call, Install, Rollback, calling, call, answers, run}
-use Rattle.history.specs.Histories.{Standing, History, begin, countOf, heldOf, spans, laid, stand, fall, told, Start, filesAfter, historyOf, Alike, alone, standingAlone, Holds}
+use Rattle.history.specs.Histories.{Standing, History, begin, countOf, heldOf, spans, laid, olds, stand, fall, told, Start, filesAfter, historyOf, Alike, alone, standingAlone, Holds}
 use Rattle.history.proofs.Laws.Stack.{empty}
-use Rattle.history.proofs.Laws.Agree.{olds, Stands, Agrees, agrees, agrees-told}
+use Rattle.history.proofs.Laws.Agree.{Stands, Agrees, agrees, agrees-told}
 
 -- ---- lists of calls
 
@@ -52,6 +51,8 @@ module _ (judge : Judge) (lays : LaysInside judge) where
         count-same = s .count-is ∙ sym (t .count-is);
         held-same = s .held-is ∙ sym (t .held-is);
         entries-same = s .entries-are ∙ sym (t .entries-are);
+        old-same = ap (part (f .journal) oldAt) (s .held-is) ∙ s .old-are ∙ sym (ap (part (g .journal) oldAt) (t .held-is) ∙ t .old-are);
+        room-same = s .room-is ∙ sym (t .room-is);
       }
 
   -- ---- the standing installs alone
@@ -121,7 +122,7 @@ module _ (judge : Judge) where
 -- ---- the start
 
 started : (judge : Judge) (start : Files) → Start start → Agrees judge (begin start) start
-unfolding spans laid olds total lengthAllowed
+unfolding spans laid olds total
 started judge start s =
     let j = start .journal in
     let e = empty j (length (start .image)) (s .sound) (s .none) in
@@ -129,7 +130,7 @@ started judge start s =
       free = 16;
       rest = drop 136 j;
       shape = record {
-        short = leb-true (length (start .image)) 65536 (s .allowed);
+        short = s .allowed;
         slots = refl;
         space = simp length-drop (omega (arith, e .0));
         stands = tt;

@@ -17,7 +17,7 @@ use Rattle.journal.proofs.Laws.Format.{spelt}
 use Rattle.history.proofs.Laws.Stack.{AllIn, journalOf, count-journal, held-journal, entry-journal, length-journal, save-journal, release-journal, newest-at}
 
 -- the bytes that the newest span of a stack holds
-old-bytes : (ss : List Span) (free : ℕ) (o p r : List ℕ) (at n : ℕ) → length ss + free ≡ 16 → oldAt + length o ≡ at → length p ≡ n
+pub old-bytes : (ss : List Span) (free : ℕ) (o p r : List ℕ) (at n : ℕ) → length ss + free ≡ 16 → oldAt + length o ≡ at → length p ≡ n
     → part (journalOf ss free (o ++ p ++ r)) at n ≡ p
 unfolding part journalOf spelt
 old-bytes ss free o p r at n slots ea en =

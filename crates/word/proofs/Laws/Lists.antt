@@ -1,11 +1,12 @@
 -- Laws of `sets`, a run of stores, and of `part`. Assumes nothing.
+use mathlib.Core.Logic.{_⊎_, inl, inr}
 use mathlib.Core.Path.{_≡_, refl, sym, ap, _∙_}
 use Prim.Native.Nat.{ℕ, suc, _+_, _≤_, _<_}
 use native.Mathlib.Numerals.{add-one}
 use native.Mathlib.Omega.{arith}
 use mathlib.Core.List.{List, [], _∷_, _++_, append-assoc}
 use lib.ListN.{length, take, drop, set, getD, replicate, length-append, length-drop, replicate-append-replicate}
-use lib.Seq.{sets, sets-eq, take-at, drop-at, take-set-le, drop-set-lt, take-suc, getD-drop, getD-take, getD-set-other, ext-getD, length-take-le, take-add, take-all, drop-drop}
+use lib.Seq.{sets, sets-eq, length-sets, take-at, drop-at, take-set-le, drop-set-lt, take-suc, getD-drop, getD-take, getD-set-other, ext-getD, length-take-le, take-add, take-all, drop-drop}
 use Rattle.word.specs.Bytes.{part}
 
 -- ---- sets
@@ -83,6 +84,19 @@ part-take m s i n h l =
     ext-getD 0 _ _ (short ∙ sym long)
     (λ k b. rw (getD-take n (drop i (take m s)) k 0 (omega arith), getD-take n (drop i s) k 0 (omega arith), getD-drop, getD-drop)
     (getD-take m s (i + k) 0 (omega arith)))
+
+-- a part after a run of stores: the run itself, and what lies before or behind it
+pub part-stored : (l : List ℕ) (i : ℕ) (v : List ℕ) (n : ℕ) → length v ≡ n → i + n ≤ length l → part (sets l i v) i n ≡ v
+unfolding part
+part-stored l i v n e h = ap (take n) (drop-sets-at l i v (omega arith)) ∙ take-at v (drop (i + length v) l) n e
+
+pub part-other : (l : List ℕ) (i : ℕ) (v : List ℕ) (j n : ℕ) → i ≤ length l → (j + n ≤ i) ⊎ (i + length v ≤ j) → part (sets l i v) j n ≡ part l j n
+unfolding part
+part-other l i v j n h (inl b) =
+    sym (part-take i (sets l i v) j n b (omega (arith, length-sets l i v)))
+    ∙ ap (λ s. part s j n) (take-sets i l i v (omega arith))
+    ∙ part-take i l j n b h
+part-other l i v j n h (inr b) = ap (take n) (drop-sets j l i v b)
 
 -- ---- replicate
 
