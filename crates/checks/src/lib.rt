@@ -5,7 +5,7 @@ ghost use Prim.Native.Nat.{_+_, _^_, _≤_, _<_};
 ghost use lib.ListN.{length};
 ghost use Rattle.word.specs.Bytes.{leAt};
 ghost use Rattle.word.specs.Whole.{signed};
-ghost use Rattle.validate.specs.Sound.{SoundObject};
+ghost use Rattle.validate.specs.Facts.{SoundObject};
 ghost use Rattle.symbols.specs.Values.{SymbolsOf};
 ghost use Rattle.rela.specs.Sites.{entry, effect, offset};
 ghost use Rattle.effects.specs.Effects.{touched, needsPair};

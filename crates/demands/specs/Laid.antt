@@ -55,14 +55,14 @@ module _ (object order : List ℕ) where
   siteOf i = siteAt object (addresses order) i
 
   -- relocation j of RELA section i, which counts
-  pub record Relocation (i j : ℕ) : Type 0 where
+  pub record IsRelocation (i j : ℕ) : Type 0 where
     pub there : i < sectionCount object
     pub counts : countingRela object i ≡ true
     pub entry : j < count (siteOf i)
 
   -- no relocation touches byte b of section t
   abbrev pub Untouched : ℕ → ℕ → Type 0
-  Untouched t b = (i j : ℕ) → Relocation i j → sectionAt object i .info ≡ t → offset object (siteOf i) j ≤ b → b < end object (siteOf i) j → ⊥
+  Untouched t b = (i j : ℕ) → IsRelocation i j → sectionAt object i .info ≡ t → offset object (siteOf i) j ≤ b → b < end object (siteOf i) j → ⊥
 
   -- the bytes of relocation j of RELA section i in an image, n of them, as one number
   abbrev pub bytesAt : List ℕ → ℕ → ℕ → ℕ → ℕ
@@ -81,12 +81,12 @@ module _ (object order : List ℕ) where
     pub own : (t b : ℕ) → Covers t (start t + b) → Untouched t b → getD after (start t + b) 0 ≡ getD (bytesOf object (sectionAt object t)) b 0
     -- "or the field that the RISC-V ELF psABI 1.0 asks for": each relocation, read back by the manual. So "every jump gives its whole
     -- distance", and the bits outside a field are the object's.
-    pub fields : (i j : ℕ) → Relocation i j → ReadsBack object order (addresses order) (siteOf i) (sectionIn after (sectionAt object i .info)) j
+    pub fields : (i j : ℕ) → IsRelocation i j → ReadsBack object order (addresses order) (siteOf i) (sectionIn after (sectionAt object i .info)) j
     -- "the high half and the low half laid for one address .. add up to it modulo 2^32": 26 with 27 or 28, in any two sections
-    pub addresses-whole : (h i l j : ℕ) → Relocation h i → Relocation l j → (f g : Field) (a b : Form) (m n : ℕ)
+    pub addresses-whole : (h i l j : ℕ) → IsRelocation h i → IsRelocation l j → (f g : Field) (a b : Form) (m n : ℕ)
         → effect object (siteOf h) i ≡ Store HighAbsolute f a m → effect object (siteOf l) j ≡ Store LowAbsolute g b n → target h i ≡ target l j
         → AddUp f (bytesAt after h i m) g (bytesAt after l j n) (target h i)
     -- ".. or distance": 24 or 25 with the one 23 that is its pair
-    pub distances-whole : (i j : ℕ) → Relocation i j → (g : Field) (b : Form) (n : ℕ) → effect object (siteOf i) j ≡ Store LowOfPair g b n
+    pub distances-whole : (i j : ℕ) → IsRelocation i j → (g : Field) (b : Form) (n : ℕ) → effect object (siteOf i) j ≡ Store LowOfPair g b n
         → (k : ℕ) × (k < count (siteOf i)) × (pairOf object (siteOf i) (symbol object (siteOf i) j .value) ≡ At k)
         × AddUp U (bytesAt after i k 4) g (bytesAt after i j n) (distanceAt object order (addresses order) (siteOf i) k)

@@ -6,28 +6,31 @@ use mathlib.Core.Bool.{true, false}
 use mathlib.Core.List.{List}
 use Prim.Native.Nat.{ℕ, suc, _+_, _*_, _/_, _%_, _^_, _≤_, _<_}
 use lib.ListN.{length, getD}
-use lib.IntN.{natAbs}
+use lib.IntN.{ℤ, pos, negsuc, natAbs}
 use Rattle.word.specs.Bytes.{leAt}
-use Rattle.word.specs.Whole.{within, even}
+use Rattle.word.specs.Whole.{minus}
 use Rattle.word.specs.Powers.{ceilPower}
 use Rattle.fields.specs.declared.Field.{Field}
 use Rattle.riscv.specs.declared.forms.Form.{Form}
 use Rattle.riscv.specs.Forms.{hasForm}
+use Rattle.riscv.specs.declared.ranges.Range.{Range}
+use Rattle.riscv.specs.Ranges.{distance, rangeOf}
 use Rattle.types.specs.declared.Calculation.{Calculation}
+use Rattle.types.specs.declared.Calculation.the-variants.{Absolute, PcRelative, Distance, BothHalves, HighPcRelative, HighAbsolute, LowAbsolute, LowOfPair, Add, Sub, Set}
 use Rattle.types.specs.declared.Decision.the-variants.{Align, Store}
-use Rattle.elf.specs.Headers.{sectionTable, sectionCount}
+use Rattle.elf.specs.Headers.{sectionTable, sectionCount, maxSections}
 use Rattle.elf.specs.Sections.{sectionAt, allocated, symbolTable}
 use Rattle.elf.specs.Entries.{symbolAt, symbolCount, relocationCount, locationOf}
-use Rattle.header.specs.Headers.{maxObject, maxSections}
+use Rattle.header.specs.Headers.{maxObject}
 use Rattle.validate.specs.Sound.{SoundSection}
 use Rattle.order.specs.Orders.{maxPlacements, maxExternals, base, placementCount, placement, externalsStart, externalCount, external}
 use Rattle.order.specs.Windows.{maxImage}
-use Rattle.lookup.specs.Values.{externalValue}
+use Rattle.lookup.specs.Values.{isGiven, externalValue}
 use Rattle.lookup.specs.Addresses.{addresses, placedAt}
 use Rattle.journal.specs.Journals.{maxEntries, oldAt, count as countOf, held, Sound}
 use Rattle.journal.specs.Plans.{spanOf}
 use Rattle.history.specs.Calls.{Files}
-use Rattle.place.specs.Placements.{isGiven, isAllocated}
+use Rattle.place.specs.Placements.{isAllocated}
 use Rattle.placing.specs.Placing.{endOf, unit, hasBytes}
 use Rattle.symbols.specs.declared.SymbolValue.{SymbolValue}
 use Rattle.rela.specs.declared.sites.Site.{Site}
@@ -37,7 +40,7 @@ use Rattle.effects.specs.Effects.{isStore, isRefused, stackWidth, needsPair}
 use Rattle.rela.specs.Shape.{end, previous}
 use Rattle.values.specs.Values.{valueAt, S, T}
 use Rattle.values.specs.Pairs.{isPair, howMany}
-use Rattle.rules.specs.Rules.{isResolved, symbol, isData, distanceWell}
+use Rattle.rules.specs.Rules.{isResolved, symbol, isData}
 use Rattle.judgement.specs.Judgement.{planOf}
 
 -- ---- 1 "ledger unsound": `Sound` of the journal
@@ -123,6 +126,15 @@ pub record PlacedWell (object a : List ℕ) (start len i : ℕ) : Type 0 where
 abbrev pub PlacedIfAllocated : List ℕ → List ℕ → ℕ → ℕ → Type 0
 PlacedIfAllocated object order len i = allocated (sectionAt object i) ≡ true → PlacedWell object (addresses order) (base order) len i
 
+-- ---- of a whole number: -back ≤ z ≤ ahead, and it is even
+
+abbrev pub Within : ℕ → ℕ → ℤ → Type 0
+Within back ahead (pos n) = n ≤ ahead
+Within back ahead (negsuc n) = suc n ≤ back
+
+abbrev pub Even : ℤ → Type 0
+Even z = natAbs z % 2 ≡ 0
+
 -- ---- 9 "type, offset, overlap, addend rule", of relocation j of a site
 
 -- "both are of 33..40, 52..56 with equal offset and width (SUB6 and SET6 have a width of their own)"
@@ -133,8 +145,8 @@ pub record SharePlace (object : List ℕ) (x : Site) (i j : ℕ) : Type 0 where
 
 -- ALIGN: "A even, 0 to 4,094, offset + A inside the row"
 pub record PaddingWell (object : List ℕ) (x : Site) (j : ℕ) : Type 0 where
-  pub in-range : within 0 4094 (A object x j) ≡ true
-  pub is-even : even (A object x j) ≡ true
+  pub in-range : Within 0 4094 (A object x j)
+  pub is-even : Even (A object x j)
   pub inside : offset object x j + natAbs (A object x j) ≤ x .target .size
 
 pub record ShapeWell (object : List ℕ) (x : Site) (j : ℕ) : Type 0 where
@@ -172,10 +184,29 @@ FormWell object x j =
 abbrev pub PairWell : List ℕ → Site → ℕ → Type 0
 PairWell object x j = needsPair (effect object x j) ≡ true → howMany (isPair object x (symbol object x j .value)) (count x) ≡ 1
 
--- ---- 13 "distance odd or too far", for T: `reachesWell` of `rules` has a line for each calculation
+-- ---- 13 "distance odd or too far", for t, which is T, and p, which is P
+
+-- 16, 17, 44, 45: "the distance is the whole number T - P", "even", and in the field's range
+pub record InReach (r : Range) (z : ℤ) : Type 0 where
+  pub is-even : Even z
+  pub in-range : Within (r .back) (r .ahead) z
+
+-- 18, 19: "T - P modulo 2^32, which is even". No other type has such a rule.
+abbrev pub Reachable : Calculation → Field → ℕ → ℕ → Type 0
+Reachable Distance f t p = InReach (rangeOf f) (distance t p)
+Reachable BothHalves f t p = Even (pos (minus 32 t p))
+Reachable Absolute f t p = Unit {0}
+Reachable PcRelative f t p = Unit {0}
+Reachable HighPcRelative f t p = Unit {0}
+Reachable HighAbsolute f t p = Unit {0}
+Reachable LowAbsolute f t p = Unit {0}
+Reachable LowOfPair f t p = Unit {0}
+Reachable Add f t p = Unit {0}
+Reachable Sub f t p = Unit {0}
+Reachable Set f t p = Unit {0}
 
 abbrev pub ReachWell : List ℕ → Site → ℕ → ℕ → Type 0
-ReachWell object x j t = distanceWell (effect object x j) t (P object x j) ≡ true
+ReachWell object x j t = (c : Calculation) (f : Field) (form : Form) (n : ℕ) → effect object x j ≡ Store c f form n → Reachable c f t (P object x j)
 
 -- ---- 14 "padding not on its boundary": "P + A a multiple of the smallest power of two at least A + 2"
 

@@ -2,7 +2,7 @@
 use mathlib.Core.List.{List}
 use Prim.Native.Nat.{ℕ, _+_, _*_, _≤_}
 use lib.ListN.{length}
-use Rattle.elf.specs.Headers.{sectionTable, sectionCount}
+use Rattle.elf.specs.Headers.{sectionTable, sectionCount, maxSections}
 
 -- the header of section i lies in the file
 pub record HeaderInside (s : List ℕ) (i : ℕ) : Type 0 where
@@ -12,7 +12,7 @@ pub record HeaderInside (s : List ℕ) (i : ℕ) : Type 0 where
 -- all headers do, and they are few
 pub record TableInside (s : List ℕ) : Type 0 where
   pub header : 52 ≤ length s
-  pub few : sectionCount s ≤ 32
+  pub few : sectionCount s ≤ maxSections
   pub inside : sectionTable s + 40 * sectionCount s ≤ length s
 
 -- a part of the file of so many bytes

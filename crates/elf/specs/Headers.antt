@@ -9,3 +9,7 @@ sectionTable s = leAt 4 s 32
 
 abbrev pub sectionCount : List ℕ → ℕ
 sectionCount s = leAt 2 s 48
+
+-- "1 to 32 rows"
+abbrev pub maxSections : ℕ
+maxSections = 32

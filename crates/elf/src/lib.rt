@@ -9,6 +9,9 @@ ghost use Rattle.elf.specs.Entries.{bytesOf, symbolAt, symbolCount, relo
 use word::FileOffset;
 use word::SectionOffset;
 
+// "1 to 32 rows"
+pub const MAX_SECTIONS: usize = 32;
+
 // A section header (document 01: row).
 pub struct Section {
     pub kind: u32,

@@ -51,16 +51,16 @@ formatCJ =
 unfoldable pub read : List Bits → ℕ → ℕ
 read [] w = 0
 read (keep n ∷ runs) w = read runs (w / 2 ^ n)
-read (imm high low ∷ runs) w = w % 2 ^ (suc high - low) * 2 ^ low + read runs (w / 2 ^ (suc high - low))
+read (imm high low ∷ runs) w = w % 2 ^ size (imm high low) * 2 ^ low + read runs (w / 2 ^ size (imm high low))
 
 -- the instruction w with the value v put in: its kept bits are w's, its immediate's bits are v's
 unfoldable pub put : List Bits → ℕ → ℕ → ℕ
 put [] w v = 0
 put (keep n ∷ runs) w v = w % 2 ^ n + 2 ^ n * put runs (w / 2 ^ n) v
-put (imm high low ∷ runs) w v = v / 2 ^ low % 2 ^ (suc high - low) + 2 ^ (suc high - low) * put runs (w / 2 ^ (suc high - low)) v
+put (imm high low ∷ runs) w v = v / 2 ^ low % 2 ^ size (imm high low) + 2 ^ size (imm high low) * put runs (w / 2 ^ size (imm high low)) v
 
 -- the bits outside the field: w with zeros where the immediate lies
 unfoldable pub outside : List Bits → ℕ → ℕ
 outside [] w = 0
 outside (keep n ∷ runs) w = w % 2 ^ n + 2 ^ n * outside runs (w / 2 ^ n)
-outside (imm high low ∷ runs) w = 2 ^ (suc high - low) * outside runs (w / 2 ^ (suc high - low))
+outside (imm high low ∷ runs) w = 2 ^ size (imm high low) * outside runs (w / 2 ^ size (imm high low))

@@ -5,13 +5,10 @@ use mathlib.Core.List.{List}
 use lib.ListN.{length}
 use lib.Dec.{leb, eqb}
 use Rattle.word.specs.Bytes.{leAt}
-use Rattle.elf.specs.Headers.{sectionTable, sectionCount}
+use Rattle.elf.specs.Headers.{sectionTable, sectionCount, maxSections}
 
 abbrev pub maxObject : ℕ
 maxObject = 65536
-
-abbrev pub maxSections : ℕ
-maxSections = 32
 
 -- check 4: "at least 52 bytes, magic 7F 45 4C 46, class 1, data 1, ident version 1, e_type 1, e_machine 243, e_version 1, e_ehsize 52",
 -- and "at most 65,536 bytes". e_flags refuses nothing.

@@ -3,12 +3,10 @@ ghost use mathlib.Core.Path.{_≡_};
 ghost use Prim.Native.Nat.{_≤_};
 ghost use lib.ListN.{length};
 ghost use Rattle.header.specs.Headers.{headerAllowed, tableAllowed};
+use elf::MAX_SECTIONS;
 
 // "at most 65,536 bytes"
 pub const MAX_OBJECT: usize = 65536;
-
-// "1 to 32 rows"
-pub const MAX_SECTIONS: usize = 32;
 
 // Check 4.
 pub fn check_header(object: &[u8]) -> bool

@@ -4,7 +4,7 @@ use mathlib.Core.List.{List}
 use Rattle.word.specs.First.{tabulate}
 use Rattle.lookup.specs.declared.Value.{Value}
 use Rattle.lookup.specs.declared.Value.the-variants.{Given, NotGiven}
-use Rattle.header.specs.Headers.{maxSections}
+use Rattle.elf.specs.Headers.{maxSections}
 use Rattle.order.specs.Orders.{placementCount}
 use Rattle.lookup.specs.Values.{valueIn}
 

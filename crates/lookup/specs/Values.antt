@@ -1,6 +1,6 @@
 -- The value that an order gives a number. Assumes nothing: these are definitions.
 use Prim.Native.Nat.{ℕ}
-use mathlib.Core.Bool.{cond}
+use mathlib.Core.Bool.{Bool, true, false, cond}
 use mathlib.Core.List.{List}
 use lib.Dec.{ltb, eqb}
 use Rattle.word.specs.First.{first}
@@ -13,6 +13,11 @@ unfoldable pub valueIn : List ℕ → ℕ → ℕ → ℕ → Value
 valueIn s at n k =
     let i = first (λ j. eqb (entryAt s at j .index) k) n in
     cond (ltb i n) (Given (entryAt s at i .value)) NotGiven
+
+-- an order gives a value
+abbrev pub isGiven : Value → Bool
+isGiven (Given a) = true
+isGiven NotGiven = false
 
 -- the external value of a symbol
 unfoldable pub externalValue : List ℕ → ℕ → Value

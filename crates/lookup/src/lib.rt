@@ -4,7 +4,7 @@ ghost use Rattle.order.specs.Orders.{reading};
 ghost use Rattle.lookup.specs.Values.{valueIn, externalValue};
 ghost use Rattle.lookup.specs.Facts.{Searchable};
 ghost use Rattle.lookup.specs.Addresses.{placedAt, addresses};
-use header::MAX_SECTIONS;
+use elf::MAX_SECTIONS;
 use order::Counts;
 use order::Reading;
 

@@ -9,7 +9,7 @@ ghost use Rattle.word.specs.Bytes.{bytes};
 ghost use Rattle.word.specs.Whole.{residue, signed};
 ghost use Rattle.elf.specs.Headers.{sectionCount};
 ghost use Rattle.elf.specs.Sections.{sectionAt, loaded};
-ghost use Rattle.validate.specs.Sound.{SoundObject};
+ghost use Rattle.validate.specs.Facts.{SoundObject};
 ghost use Rattle.order.specs.Orders.{reading};
 ghost use Rattle.symbols.specs.Values.{SymbolsOf};
 ghost use Rattle.rela.specs.Sites.{count, entry, found};

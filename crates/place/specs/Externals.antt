@@ -5,9 +5,9 @@ use mathlib.Core.List.{List}
 use lib.Dec.{ltb, eqb}
 use Rattle.elf.specs.Sections.{sectionAt, symbolTable}
 use Rattle.elf.specs.Entries.{symbolAt, symbolCount}
-use Rattle.lookup.specs.Values.{externalValue}
+use Rattle.lookup.specs.Values.{isGiven, externalValue}
 use Rattle.place.specs.declared.Fault.{Fault}
-use Rattle.place.specs.Placements.{lowest, isGiven}
+use Rattle.place.specs.Placements.{lowest}
 
 -- "undefined symbols (section 0, index above 0)", of the table
 unfoldable pub isUndefined : List ℕ → ℕ → Bool

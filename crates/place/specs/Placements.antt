@@ -1,13 +1,12 @@
 -- Check 6: placements against allocated sections. Assumes nothing: these are definitions.
 use Prim.Native.Nat.{ℕ, _^_}
-use mathlib.Core.Bool.{Bool, true, false, not, cond, _&&_, _||_}
+use mathlib.Core.Bool.{Bool, not, cond, _&&_, _||_}
 use mathlib.Core.List.{List}
 use lib.Dec.{ltb}
 use Rattle.word.specs.First.{first}
 use Rattle.elf.specs.Headers.{sectionCount}
 use Rattle.elf.specs.Sections.{sectionAt, allocated}
-use Rattle.lookup.specs.declared.Value.{Value}
-use Rattle.lookup.specs.declared.Value.the-variants.{Given, NotGiven}
+use Rattle.lookup.specs.Values.{isGiven}
 use Rattle.lookup.specs.Addresses.{placedAt}
 use Rattle.place.specs.declared.Fault.{Fault}
 use Rattle.place.specs.declared.Fault.the-variants.{Nowhere, At}
@@ -15,11 +14,6 @@ use Rattle.place.specs.declared.Fault.the-variants.{Nowhere, At}
 -- the least number below n at which a rule is broken, if there is one
 unfoldable pub lowest : (ℕ → Bool) → ℕ → Fault
 lowest broken n = cond (ltb (first broken n) n) (At (first broken n)) Nowhere
-
--- an order places a section
-abbrev pub isGiven : Value → Bool
-isGiven (Given a) = true
-isGiven NotGiven = false
 
 -- a number names an allocated section of the object
 unfoldable pub isAllocated : List ℕ → ℕ → Bool

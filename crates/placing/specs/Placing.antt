@@ -35,7 +35,7 @@ unfoldable pub inWindow : List ℕ → List ℕ → ℕ → ℕ → ℕ → Bool
 inWindow object addresses base len i =
     not (hasBytes (sectionAt object i)) || (leb base (getD addresses i 0) && leb (endOf object addresses i) (base + len))
 
--- two allocated sections of size above 0 share an address
+-- two sections of size above 0 share an address
 unfoldable pub share : List ℕ → List ℕ → ℕ → ℕ → Bool
 share object addresses i j =
     ltb 0 (sectionAt object i .size)

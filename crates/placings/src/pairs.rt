@@ -1,7 +1,7 @@
 // p: the first of checks 2 to 8 that an object and an order break; where they break none, the addresses and the values of the symbols.
 ghost use mathlib.Core.Path.{_≡_};
 ghost use Prim.Native.Nat.{_≤_};
-ghost use Rattle.validate.specs.Sound.{SoundObject};
+ghost use Rattle.validate.specs.Facts.{SoundObject};
 ghost use Rattle.order.specs.Orders.{reading};
 use lookup::Addresses;
 use order::Counts;

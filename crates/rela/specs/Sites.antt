@@ -31,7 +31,7 @@ offset object x j = entry object x j .offset .0
 abbrev pub effect : List ℕ → Site → ℕ → Decision
 effect object x j = decision (entry object x j .kind)
 
--- A, a signed number
+-- A, a signed number: the third word of the entry in two's complement, which the entry keeps modulo 2^64 (`Addends.addend-is`)
 abbrev pub A : List ℕ → Site → ℕ → ℤ
 A object x j = signed 64 (entry object x j .addend)
 

@@ -4,7 +4,7 @@ ghost use mathlib.Core.Bool.{true};
 ghost use Prim.Native.Nat.{_<_};
 ghost use Rattle.elf.specs.Headers.{sectionCount};
 ghost use Rattle.elf.specs.Sections.{countingRela};
-ghost use Rattle.validate.specs.Sound.{SoundObject};
+ghost use Rattle.validate.specs.Facts.{SoundObject};
 ghost use Rattle.rela.specs.Sites.{siteAt};
 use elf::Section;
 use lookup::Addresses;

@@ -1,7 +1,7 @@
 // Checks 9 to 14 over all relocations: the first that breaks a rule, and which.
 ghost use mathlib.Core.Path.{_≡_};
 ghost use mathlib.Core.Bool.{true};
-ghost use Rattle.validate.specs.Sound.{SoundObject};
+ghost use Rattle.validate.specs.Facts.{SoundObject};
 ghost use Rattle.order.specs.Orders.{reading};
 ghost use Rattle.symbols.specs.Values.{SymbolsOf};
 ghost use Rattle.rela.specs.Shape.{previous as «the-previous»};

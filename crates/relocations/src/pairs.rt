@@ -5,7 +5,7 @@ ghost use Prim.Native.Nat.{_<_};
 ghost use lib.ListN.{length};
 ghost use Rattle.elf.specs.Headers.{sectionCount};
 ghost use Rattle.elf.specs.Sections.{sectionAt, loaded};
-ghost use Rattle.validate.specs.Sound.{SoundObject};
+ghost use Rattle.validate.specs.Facts.{SoundObject};
 ghost use Rattle.order.specs.Orders.{reading};
 ghost use Rattle.rules.specs.Search.{relocationCheck};
 ghost use Rattle.rela.specs.Facts.{Placed};

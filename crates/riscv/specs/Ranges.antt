@@ -25,7 +25,7 @@ rvcBranch = record { back = 256; ahead = 254 }
 abbrev pub rvcJump : Range
 rvcJump = record { back = 2048; ahead = 2046 }
 
--- other fields hold every distance between two addresses; a CALL's is still even
+-- no jump or branch has another field, and no rule asks for its range: every distance between two addresses
 abbrev pub anywhere : Range
 anywhere = record { back = 0xFFFFFFFF; ahead = 0xFFFFFFFF }
 

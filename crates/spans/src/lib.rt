@@ -3,7 +3,7 @@ ghost use mathlib.Core.Path.{_≡_};
 ghost use mathlib.Core.Bool.{cond};
 ghost use Prim.Native.Nat.{_+_, _-_, _≤_, _<_, min, max};
 ghost use Rattle.elf.specs.Headers.{sectionCount};
-ghost use Rattle.validate.specs.Sound.{SoundObject};
+ghost use Rattle.validate.specs.Facts.{SoundObject};
 ghost use Rattle.placing.specs.Placing.{hasBytes};
 ghost use Rattle.spans.specs.Spans.{highest, lowestByte, spanOf};
 use elf::Section;

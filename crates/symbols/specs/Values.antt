@@ -17,29 +17,29 @@ use Rattle.symbols.specs.declared.SymbolValue.{SymbolValue}
 use Rattle.symbols.specs.declared.SymbolValue.the-variants.{Resolved, Unresolved}
 use Rattle.place.specs.Placements.{isAllocated}
 
-abbrev pub ABSOLUTE : ℕ
-ABSOLUTE = 0xFFF1
+abbrev pub SHN_ABS : ℕ
+SHN_ABS = 0xFFF1
 
-abbrev pub WEAK : ℕ
-WEAK = 2
+abbrev pub STB_WEAK : ℕ
+STB_WEAK = 2
 
-abbrev pub TLS : ℕ
-TLS = 6
+abbrev pub STT_TLS : ℕ
+STT_TLS = 6
 
-abbrev pub IFUNC : ℕ
-IFUNC = 10
+abbrev pub STT_GNU_IFUNC : ℕ
+STT_GNU_IFUNC = 10
 
 -- "for an undefined symbol the order's value, else 0 if weak (binding 2)"
 abbrev pub ofUndefined : Symbol → Value → SymbolValue
 ofUndefined y (Given v) = Resolved v
-ofUndefined y NotGiven = cond (eqb (y .binding) WEAK) (Resolved 0) Unresolved
+ofUndefined y NotGiven = cond (eqb (y .binding) STB_WEAK) (Resolved 0) Unresolved
 
 -- a symbol of the table, by the section that it is defined in: "placed address plus value modulo 2^32 for a symbol of an allocated row;
 -- the value for section 0xFFF1; for an undefined symbol the order's value, else 0 if weak". "Anything else" does not resolve.
 unfoldable pub ofSection : List ℕ → List ℕ → List ℕ → ℕ → Symbol → SymbolValue
 ofSection object order addresses k y =
     cond (isAllocated object (y .section)) (Resolved (plus 32 (getD addresses (y .section) 0) (y .value)))
-    (cond (eqb (y .section) ABSOLUTE) (Resolved (y .value))
+    (cond (eqb (y .section) SHN_ABS) (Resolved (y .value))
     (cond (eqb (y .section) 0) (ofUndefined y (externalValue order k)) Unresolved))
 
 -- "0 for symbol 0, whatever its entry holds and even in an empty table"; "an index past the table, and types TLS 6 and IFUNC 10 do not
@@ -49,7 +49,7 @@ symbolValue object order addresses k =
     let y = symbolAt object (sectionAt object (symbolTable object)) k in
     cond (eqb k 0) (Resolved 0)
     (cond (ltb k (symbolCount object))
-    (cond (eqb (y .kind) TLS || eqb (y .kind) IFUNC) Unresolved (ofSection object order addresses k y))
+    (cond (eqb (y .kind) STT_TLS || eqb (y .kind) STT_GNU_IFUNC) Unresolved (ofSection object order addresses k y))
     Unresolved)
 
 -- what a lookup asks of the symbol table that it is given

@@ -1,6 +1,6 @@
 // What symbols are worth.
 ghost use mathlib.Core.Path.{_≡_};
-ghost use Rattle.validate.specs.Sound.{SoundObject};
+ghost use Rattle.validate.specs.Facts.{SoundObject};
 ghost use Rattle.order.specs.Orders.{reading};
 ghost use Rattle.symbols.specs.Values.{SymbolsOf, ofUndefined, ofSection, symbolValue};
 use elf::Section;

@@ -9,7 +9,7 @@ ghost use Rattle.elf.specs.Headers.{sectionCount};
 ghost use Rattle.elf.specs.Sections.{sectionAt, countingRela};
 ghost use Rattle.elf.specs.Facts.{TableInside};
 ghost use Rattle.validate.specs.Rules.{startsNull, insideFile, allocatedWell, symbolTableWell, noCountingRel, relaKept, relocationsKept, relaWell, relocationsWell, sectionCheck, objectCheck};
-ghost use Rattle.validate.specs.Sound.{Targeted};
+ghost use Rattle.validate.specs.Facts.{Targeted};
 
 // "whole entries, at most 1,024", and "at most 4,096 records"
 pub const MAX_SYMBOLS: u32 = 1024;

@@ -6,15 +6,18 @@ use mathlib.Core.List.{List}
 use Prim.Native.Nat.{ℕ, zero, suc, _+_, _/_, _%_, _^_, _≤_}
 use native.Mathlib.Omega.{arith}
 use lib.Dec.{leb, ltb, eqb}
-use lib.IntN.{natAbs}
+use lib.IntN.{ℤ, pos, negsuc, natAbs}
 use borrow.Author.Tests.{leb-true, ltb-true, eqb-true, le-leb, lt-ltb, eq-eqb, not-true}
 use Rattle.word.specs.Bytes.{leAt}
+use Rattle.word.specs.Whole.{within, even, minus}
 use Rattle.word.specs.Powers.{ceilPower}
 use Rattle.word.proofs.Laws.Tests.{and-left, and-right, never, both, one-of-two, or-two, given, implied}
 use Rattle.fields.specs.declared.Field.{Field}
 use Rattle.riscv.specs.declared.forms.Form.{Form}
 use Rattle.riscv.specs.Forms.{hasForm}
+use Rattle.riscv.specs.Ranges.{distance, rangeOf, reaches}
 use Rattle.types.specs.declared.Calculation.{Calculation}
+use Rattle.types.specs.declared.Calculation.the-variants.{Absolute, PcRelative, Distance, BothHalves, HighPcRelative, HighAbsolute, LowAbsolute, LowOfPair, Add, Sub, Set}
 use Rattle.types.specs.declared.Decision.{Decision}
 use Rattle.types.specs.declared.Decision.the-variants.{Marker, Align, Store, Refused}
 use Rattle.symbols.specs.declared.SymbolValue.{SymbolValue}
@@ -26,8 +29,8 @@ use Rattle.effects.specs.Effects.{isStore, isRefused, takesPair, needsPair}
 use Rattle.rela.specs.Shape.{neverFalls, end, staysInside, previous, sharesPlace, clears, noOverlap, addendWell, shapeWell}
 use Rattle.values.specs.Pairs.{pairOf}
 use Rattle.values.specs.declared.pairs.Pair.the-variants.{At, NotOne}
-use Rattle.rules.specs.Rules.{isResolved, symbol, inTarget, symbolWell, isData, standsWell, asksWell, formWell, isOne, pairWell, boundaryWell}
-use Rattle.demands.specs.Rules.{SharePlace, PaddingWell, ShapeWell, SymbolWell, FormWell, PairWell, BoundaryWell}
+use Rattle.rules.specs.Rules.{isResolved, symbol, inTarget, symbolWell, isData, standsWell, asksWell, formWell, isOne, pairWell, reachesWell, distanceWell, boundaryWell}
+use Rattle.demands.specs.Rules.{Within, Even, SharePlace, PaddingWell, ShapeWell, SymbolWell, FormWell, PairWell, Reachable, ReachWell, BoundaryWell}
 
 -- 24 and 25 are no markers
 needs-store : (d : Decision) → needsPair d ≡ true → isStore d ≡ true
@@ -35,6 +38,26 @@ needs-store (Store c f form n) e = refl
 needs-store Marker e = never e
 needs-store Align e = never e
 needs-store Refused e = never e
+
+-- whole numbers
+
+within-is : (back ahead : ℕ) (z : ℤ) → within back ahead z ≡ true → Within back ahead z
+unfolding within
+within-is back ahead (pos n) e = leb-true _ _ e
+within-is back ahead (negsuc n) e = leb-true _ _ e
+
+is-within : (back ahead : ℕ) (z : ℤ) → Within back ahead z → within back ahead z ≡ true
+unfolding within
+is-within back ahead (pos n) h = le-leb _ _ h
+is-within back ahead (negsuc n) h = le-leb _ _ h
+
+even-is : (z : ℤ) → even z ≡ true → Even z
+unfolding even
+even-is z e = eqb-true _ _ e
+
+is-even : (z : ℤ) → Even z → even z ≡ true
+unfolding even
+is-even z h = eq-eqb _ _ h
 
 module _ (object : List ℕ) (x : Site) where
   -- ---- 9
@@ -86,8 +109,8 @@ module _ (object : List ℕ) (x : Site) where
   padded : (j : ℕ) → addendIs Align j ≡ true → PaddingWell object x j
   padded j e =
       record {
-        in-range = search (and-left, and-right);
-        is-even = search (and-left, and-right);
+        in-range = within-is 0 4094 (A object x j) (search (and-left, and-right));
+        is-even = even-is (A object x j) (search (and-left, and-right));
         inside = leb-true _ _ (search (and-left, and-right));
       }
 
@@ -99,7 +122,7 @@ module _ (object : List ℕ) (x : Site) where
 
   addend-back : (d : Decision) (j : ℕ) → (d ≡ Align → PaddingWell object x j) → (needsPair d ≡ true → natAbs (A object x j) ≡ 0) → addendIs d j ≡ true
   addend-back (Store c f form n) j h g = implied (takesPair c) (eqb (natAbs (A object x j)) 0) (λ p. eq-eqb _ _ (g p))
-  addend-back Align j h g = let w = h refl in both _ _ (both _ _ (w .in-range) (w .is-even)) (le-leb _ _ (w .inside))
+  addend-back Align j h g = let w = h refl in both _ _ (both _ _ (is-within 0 4094 (A object x j) (w .in-range)) (is-even (A object x j) (w .is-even))) (le-leb _ _ (w .inside))
   addend-back Marker j h g = refl
   addend-back Refused j h g = refl
 
@@ -189,6 +212,55 @@ module _ (object : List ℕ) (x : Site) where
   pub well-pair : (j : ℕ) → PairWell object x j → pairWell object x j ≡ true
   unfolding pairWell pairOf
   well-pair j h = implied (needsPair (effect object x j)) (isOne (pairOf object x (symbol object x j .value))) (λ p. is-one _ _ ∙ eq-eqb _ _ (h p))
+
+  -- ---- 13
+
+  reached : (c : Calculation) (f : Field) (t p : ℕ) → reachesWell c f t p ≡ true → Reachable c f t p
+  unfolding reaches
+  reached Distance f t p e =
+      let z : ℤ = distance t p in
+      record {
+        is-even = even-is z (and-left (even z) (within (rangeOf f .back) (rangeOf f .ahead) z) e);
+        in-range = within-is (rangeOf f .back) (rangeOf f .ahead) z (and-right (even z) (within (rangeOf f .back) (rangeOf f .ahead) z) e);
+      }
+  reached BothHalves f t p e = even-is (pos (minus 32 t p)) e
+  reached Absolute f t p e = tt
+  reached PcRelative f t p e = tt
+  reached HighPcRelative f t p e = tt
+  reached HighAbsolute f t p e = tt
+  reached LowAbsolute f t p e = tt
+  reached LowOfPair f t p e = tt
+  reached Add f t p e = tt
+  reached Sub f t p e = tt
+  reached Set f t p e = tt
+
+  reaches-back : (c : Calculation) (f : Field) (t p : ℕ) → Reachable c f t p → reachesWell c f t p ≡ true
+  unfolding reaches
+  reaches-back Distance f t p r =
+      both _ _ (is-even (distance t p) (r .is-even)) (is-within (rangeOf f .back) (rangeOf f .ahead) (distance t p) (r .in-range))
+  reaches-back BothHalves f t p r = is-even (pos (minus 32 t p)) r
+  reaches-back Absolute f t p r = refl
+  reaches-back PcRelative f t p r = refl
+  reaches-back HighPcRelative f t p r = refl
+  reaches-back HighAbsolute f t p r = refl
+  reaches-back LowAbsolute f t p r = refl
+  reaches-back LowOfPair f t p r = refl
+  reaches-back Add f t p r = refl
+  reaches-back Sub f t p r = refl
+  reaches-back Set f t p r = refl
+
+  pub reach-well : (j t : ℕ) → distanceWell (effect object x j) t (P object x j) ≡ true → ReachWell object x j t
+  reach-well j t e c f form n is = reached c f t (P object x j) (ap (λ d. distanceWell d t (P object x j)) (sym is) ∙ e)
+
+  pub well-reach : (j t : ℕ) → ReachWell object x j t → distanceWell (effect object x j) t (P object x j) ≡ true
+  well-reach j t h = go (effect object x j) h
+    where
+      go : (d : Decision) → ((c : Calculation) (f : Field) (form : Form) (n : ℕ) → d ≡ Store c f form n → Reachable c f t (P object x j))
+          → distanceWell d t (P object x j) ≡ true
+      go (Store c f form n) h = reaches-back c f t (P object x j) (h c f form n refl)
+      go Marker h = refl
+      go Align h = refl
+      go Refused h = refl
 
   -- ---- 14
 

@@ -14,14 +14,14 @@ use Rattle.word.proofs.Laws.First.{first-below, first-at, everywhere-at, everyw
 use Rattle.elf.specs.Sections.{sectionAt, allocated}
 use Rattle.header.specs.Headers.{headerAllowed, tableAllowed}
 use Rattle.order.specs.Orders.{placementCount, placement, externalCount, external, ascending, wellFormed}
-use Rattle.lookup.specs.Values.{externalValue}
+use Rattle.lookup.specs.Values.{isGiven, externalValue}
 use Rattle.order.specs.Windows.{lengthAllowed, windowAllowed}
 use Rattle.lookup.specs.Addresses.{placedAt}
 use Rattle.order.proofs.Laws.Sound.{wellFormed-sound, sound-wellFormed}
 use Rattle.journal.specs.Journals.{count, held, noRoom}
 use Rattle.journal.specs.Plans.{spanOf}
 use Rattle.place.specs.declared.Fault.the-variants.{Nowhere, At}
-use Rattle.place.specs.Placements.{lowest, isGiven, isAllocated, differs}
+use Rattle.place.specs.Placements.{lowest, isAllocated, differs}
 use Rattle.place.specs.Externals.{isUndefined}
 use Rattle.placing.specs.Placing.{endOf, aligned, endsInMemory, hasBytes, inWindow, share, apart, misplaced}
 use Rattle.rela.specs.Sites.{A}

@@ -38,7 +38,7 @@ use Rattle.spans.specs.Pieces.{pieces}
 use Rattle.judgement.specs.Judgement.{planOf}
 use Rattle.demands.specs.Rules.{Rules, OrderWell, WindowWell, HeaderWell, TableWell, PlacedAsAllocated, ValuedIfUndefined, PlacedIfAllocated, site, entryOf, valueOf, Shape, SymbolResolves, FormIs, OnePair, Reaches, OnBoundary, Room}
 use Rattle.demands.proofs.Laws.Rules.{order-well, window-well, header-well, table-well, placed-well, has-room}
-use Rattle.demands.proofs.Laws.Relocations.{shape-well, symbol-well, form-well, pair-well, boundary-well}
+use Rattle.demands.proofs.Laws.Relocations.{shape-well, symbol-well, form-well, pair-well, reach-well, boundary-well}
 
 -- ---- an install that can be done: a section of four bytes with one relocation of type 1, whose T is 0x12345678
 
@@ -144,7 +144,7 @@ pair-is = pair-well object (site object order 0) (entryOf object order 0) refl
 
 reach-is : Reaches object order 0
 unfolding object order words bytes leAt le sum relocationsIn locationOf countingRela targets sectionAt allocated siteAt relocationAt decision table lookup among first addresses tabulate placedAt valueIn entryAt
-reach-is = refl
+reach-is = reach-well object (site object order 0) (entryOf object order 0) _ refl
 
 boundary-is : OnBoundary object order 0
 unfolding object order words bytes leAt le sum relocationsIn locationOf countingRela targets sectionAt allocated siteAt relocationAt decision table lookup among first addresses tabulate placedAt valueIn entryAt

@@ -21,7 +21,7 @@ use Rattle.validate.specs.Sound.{SoundSection}
 use Rattle.validate.proofs.Laws.Objects.{section-sound, well-section}
 use Rattle.validate.proofs.Laws.Tables.{check-table-broken, check-broken, check-sound}
 use Rattle.order.specs.Orders.{base, wellFormed}
-use Rattle.lookup.specs.Values.{externalValue}
+use Rattle.lookup.specs.Values.{isGiven, externalValue}
 use Rattle.order.specs.Windows.{windowAllowed}
 use Rattle.lookup.specs.Addresses.{addresses}
 use Rattle.journal.specs.Journals.{count, held, Sound, sound, noRoom}
@@ -30,7 +30,7 @@ use Rattle.history.specs.Calls.{Answer, journalUnsound, journalFull, Files, ref
 use Rattle.journal.proofs.Laws.Sound.{test-sound, sound-test}
 use Rattle.place.specs.declared.Fault.{Fault}
 use Rattle.place.specs.declared.Fault.the-variants.{Nowhere, At}
-use Rattle.place.specs.Placements.{lowest, isGiven, differs, placementCheck}
+use Rattle.place.specs.Placements.{lowest, differs, placementCheck}
 use Rattle.place.specs.Externals.{isUndefined, externalCheck}
 use Rattle.placing.specs.Placing.{misplaced, placingCheck}
 use Rattle.place.proofs.Laws.Theorems.{nowhere-holds}
@@ -50,7 +50,7 @@ use Rattle.demands.specs.Rules.{OrderWell, WindowWell, HeaderWell, Table
 use Rattle.demands.specs.First.{Line, nil, rule, Checks, none, check, HoldAt, BrokenAt, one, each, table}
 use Rattle.demands.proofs.Laws.First.{Told, later, at-once, at-each, broken-once, broken-at}
 use Rattle.demands.proofs.Laws.Rules.{lowest-found, order-well, well-order, window-well, well-window, header-well, well-header, table-well, well-table, matches, no-match, valued, not-valued, placed-well, placed-wrong, has-room, room-left}
-use Rattle.demands.proofs.Laws.Relocations.{shape-well, well-shape, symbol-well, well-symbol, form-well, well-form, pair-well, well-pair, boundary-well, well-boundary}
+use Rattle.demands.proofs.Laws.Relocations.{shape-well, well-shape, symbol-well, well-symbol, form-well, well-form, pair-well, well-pair, boundary-well, reach-well, well-reach, well-boundary}
 
 -- ---- checks 9 to 14 of relocation k
 
@@ -102,14 +102,14 @@ module _ (object order : List ℕ) where
       go true e₁ true e₂ true e₃ false e₄ q e₅ r e₆ =
           inr (shape-well object x j e₁, inr (symbol-well object x j v e₂, inr (form-well object x j e₃, inl (refl, λ s. clash _ e₄ (well-pair object x j s)))))
       go true e₁ true e₂ true e₃ true e₄ false e₅ r e₆ =
-          inr (shape-well object x j e₁, inr (symbol-well object x j v e₂, inr (form-well object x j e₃, inr (pair-well object x j e₄, inl (refl, λ s. clash _ e₅ s)))))
+          inr (shape-well object x j e₁, inr (symbol-well object x j v e₂, inr (form-well object x j e₃, inr (pair-well object x j e₄, inl (refl, λ s. clash _ e₅ (well-reach object x j t s))))))
       go true e₁ true e₂ true e₃ true e₄ true e₅ false e₆ =
           inr (
             shape-well object x j e₁,
-            inr (symbol-well object x j v e₂, inr (form-well object x j e₃, inr (pair-well object x j e₄, inr (e₅, inl (refl, λ s. clash _ e₆ (well-boundary object x j s)))))),
+            inr (symbol-well object x j v e₂, inr (form-well object x j e₃, inr (pair-well object x j e₄, inr (reach-well object x j t e₅, inl (refl, λ s. clash _ e₆ (well-boundary object x j s)))))),
           )
       go true e₁ true e₂ true e₃ true e₄ true e₅ true e₆ =
-          (shape-well object x j e₁, (symbol-well object x j v e₂, (form-well object x j e₃, (pair-well object x j e₄, (e₅, (boundary-well object x j e₆, tt))))))
+          (shape-well object x j e₁, (symbol-well object x j v e₂, (form-well object x j e₃, (pair-well object x j e₄, (reach-well object x j t e₅, (boundary-well object x j e₆, tt))))))
 
   kept-holds : (k : ℕ) (f : Finding) → isBroken f ≡ false → Means k f → HoldAt line k
   kept-holds k Kept e m = m

@@ -19,7 +19,7 @@ use Rattle.lookup.specs.Addresses.{addresses}
 use Rattle.elf.specs.Headers.{sectionCount}
 use Rattle.elf.specs.Sections.{sectionAt, loaded}
 use Rattle.elf.specs.Entries.{bytesOf}
-use Rattle.validate.specs.Sound.{SoundObject}
+use Rattle.validate.specs.Facts.{SoundObject}
 use Rattle.validate.proofs.Laws.Bounds.{loaded-inside}
 use Rattle.validate.proofs.Laws.Objects.{sound-object}
 use Rattle.journal.specs.Plans.{Piece, piece, Inside, LaysInside, overwritten, spanOf as spanOfPieces}

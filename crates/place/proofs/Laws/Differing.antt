@@ -15,7 +15,8 @@ use Rattle.elf.specs.Sections.{sectionAt, allocated}
 use Rattle.order.specs.Orders.{placement, placementCount, entryAt, ascending}
 use Rattle.lookup.specs.Addresses.{placedAt}
 use Rattle.place.specs.declared.Fault.the-variants.{Nowhere, At}
-use Rattle.place.specs.Placements.{isGiven, isAllocated, differs, placementCheck}
+use Rattle.place.specs.Placements.{isAllocated, differs, placementCheck}
+use Rattle.lookup.specs.Values.{isGiven}
 use Rattle.place.proofs.Laws.Lowest.{lowest-at, lowest-nowhere, named-below, named-none, named-given}
 
 -- a number that names an allocated section is in the table

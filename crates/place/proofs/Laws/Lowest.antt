@@ -11,10 +11,10 @@ use Rattle.word.specs.First.{first}
 use Rattle.word.proofs.Laws.First.{first-is, first-at, first-below}
 use Rattle.lookup.specs.declared.Value.the-variants.{Given, NotGiven}
 use Rattle.order.specs.Orders.{entryAt, ascending}
-use Rattle.lookup.specs.Values.{valueIn}
+use Rattle.lookup.specs.Values.{isGiven, valueIn}
 use Rattle.order.proofs.Laws.Ascending.{ascending-lt}
 use Rattle.place.specs.declared.Fault.the-variants.{Nowhere, At}
-use Rattle.place.specs.Placements.{lowest, isGiven}
+use Rattle.place.specs.Placements.{lowest}
 
 pub lowest-at : (p : ℕ → Bool) (n k : ℕ) → k < n → ((j : ℕ) → j < k → p j ≡ false) → p k ≡ true → lowest p n ≡ At k
 unfolding lowest

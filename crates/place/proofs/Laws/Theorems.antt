@@ -12,10 +12,10 @@ use Rattle.word.proofs.Laws.First.{first-below}
 use Rattle.elf.specs.Headers.{sectionCount}
 use Rattle.elf.specs.Sections.{sectionAt, allocated}
 use Rattle.order.specs.Orders.{placementCount}
-use Rattle.lookup.specs.Values.{valueIn}
+use Rattle.lookup.specs.Values.{isGiven, valueIn}
 use Rattle.lookup.specs.Addresses.{placedAt}
 use Rattle.place.specs.declared.Fault.the-variants.{Nowhere, At}
-use Rattle.place.specs.Placements.{lowest, isGiven, isAllocated, differs, placementCheck}
+use Rattle.place.specs.Placements.{lowest, isAllocated, differs, placementCheck}
 use Rattle.place.proofs.Laws.Lowest.{given-named}
 
 -- where nothing is broken, the rule holds everywhere

@@ -5,10 +5,10 @@ use mathlib.Core.Bool.{true, false, not, _&&_}
 use native.Mathlib.Omega.{arith}
 use borrow.Author.Count.{below-more}
 use Rattle.order.specs.Orders.{entryAt}
-use Rattle.lookup.specs.Values.{valueIn, externalValue}
+use Rattle.lookup.specs.Values.{isGiven, valueIn, externalValue}
 use Rattle.order.proofs.Laws.Sound.{countsOf, reading-sound, sound-counts}
 use Rattle.place.specs.declared.Fault.the-variants.{At}
-use Rattle.place.specs.Placements.{lowest, isGiven}
+use Rattle.place.specs.Placements.{lowest}
 use Rattle.place.specs.Externals.{isUndefined, externalCheck}
 use Rattle.place.proofs.Laws.Lowest.{lowest-named, lowest-unnamed}
 use borrow.Author.Needs.{needs}

@@ -1,17 +1,22 @@
 -- Addends in two's complement. Assumes nothing.
 use mathlib.Core.Path.{_≡_, refl}
 use mathlib.Core.Bool.{true, false, not, _&&_, _||_}
+use mathlib.Core.List.{List}
 use Prim.Native.Nat.{ℕ, suc, _+_, _-_, _*_, _%_, _^_, _≤_, _<_}
 use native.Mathlib.Omega.{arith}
 use native.Mathlib.Decide.{decLt}
 use lib.Dec.{leb, eqb}
 use lib.IntN.{ℤ, pos, negsuc, natAbs}
 use borrow.Author.Tests.{lt-ltb, le-ltb, le-leb, lt-leb, ne-eqb}
-use Rattle.word.specs.Whole.{signed, within, even}
-use Rattle.word.proofs.Laws.Whole.{sub-back}
+use Rattle.word.specs.Bytes.{leAt}
+use Rattle.word.specs.Whole.{residue, signed, within, even}
+use Rattle.word.proofs.Laws.Whole.{sub-back, signed-residue}
+use Rattle.elf.specs.Entries.{relocationAt}
 use Rattle.types.specs.declared.Decision.{Decision}
 use Rattle.types.specs.declared.Decision.the-variants.{Marker, Align, Store, Refused}
 use Rattle.effects.specs.Effects.{isStore, needsPair}
+use Rattle.rela.specs.declared.sites.Site.{Site}
+use Rattle.rela.specs.Sites.{A}
 use Rattle.rela.specs.Shape.{addendWell}
 
 -- the lower half of the numbers of w bits are themselves, and the others negative
@@ -22,6 +27,19 @@ signed-low w a h = rw (lt-ltb (2 * a) (2 ^ w) h)
 pub signed-high : (w a : ℕ) → 2 ^ w ≤ 2 * a → a < 2 ^ w → signed w a ≡ negsuc (2 ^ w - suc a)
 unfolding signed
 signed-high w a h b = rw (le-ltb (2 * a) (2 ^ w) h) (sub-back a (2 ^ w) b)
+
+-- A is the signed word that stands third in the relocation's entry: the code keeps it in 64 bits, and that loses nothing
+wider : (u : ℕ) → u < 2 ^ 32 → signed 64 (residue 64 (signed 32 u)) ≡ signed 32 u
+wider u h = go (decLt (2 * u) (2 ^ 32))
+  where
+    go : Dec (2 * u < 2 ^ 32) → signed 64 (residue 64 (signed 32 u)) ≡ signed 32 u
+    go (yes l) = rw (signed-low 32 u l) (signed-residue 64 (pos u) (omega arith))
+    go (no l) = rw (signed-high 32 u (omega arith) h) (signed-residue 64 (negsuc (2 ^ 32 - suc u)) (omega arith))
+
+pub addend-is : (object : List ℕ) (x : Site) (j : ℕ) → leAt 4 object (x .rela .offset .0 + 12 * j + 8) < 2 ^ 32
+    → A object x j ≡ signed 32 (leAt 4 object (x .rela .offset .0 + 12 * j + 8))
+unfolding relocationAt
+addend-is object x j h = wider (leAt 4 object (x .rela .offset .0 + 12 * j + 8)) h
 
 -- ---- ALIGN
 

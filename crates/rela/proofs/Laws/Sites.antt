@@ -12,7 +12,7 @@ use Rattle.word.proofs.Laws.Lists.{length-part}
 use Rattle.elf.specs.Headers.{sectionCount}
 use Rattle.elf.specs.Sections.{RELA, NOBITS, sectionAt, allocated, loaded, targets, countingRela, relocationsIn}
 use Rattle.elf.specs.Entries.{bytesOf}
-use Rattle.validate.specs.Sound.{SoundObject}
+use Rattle.validate.specs.Facts.{SoundObject}
 use Rattle.validate.proofs.Laws.Bounds.{loaded-inside}
 use Rattle.rela.specs.declared.sites.Site.{Site}
 use Rattle.rela.specs.Sites.{siteAt, count, offset, effect, found}

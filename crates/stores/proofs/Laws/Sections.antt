@@ -21,7 +21,7 @@ use Rattle.elf.specs.declared.Relocation.{Relocation}
 use Rattle.elf.specs.Headers.{sectionCount}
 use Rattle.elf.specs.Sections.{sectionAt, symbolTable, countingRela, relocationsIn}
 use Rattle.elf.specs.Entries.{bytesOf, symbolAt}
-use Rattle.validate.specs.Sound.{SoundObject}
+use Rattle.validate.specs.Facts.{SoundObject}
 use Rattle.fields.specs.declared.Field.{Field}
 use Rattle.riscv.specs.declared.forms.Form.{Form}
 use Rattle.types.specs.declared.Calculation.{Calculation}

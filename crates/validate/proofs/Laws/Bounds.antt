@@ -19,7 +19,7 @@ use Rattle.elf.specs.Sections.{NULL, SYMTAB, RELA, NOBITS, sectionAt, allocated
 use Rattle.elf.specs.Entries.{symbolCount, relocationCount, locationOf}
 use Rattle.elf.specs.Facts.{Inside}
 use Rattle.validate.specs.Rules.{maxSymbols, maxRelocations}
-use Rattle.validate.specs.Sound.{SoundObject}
+use Rattle.validate.specs.Facts.{SoundObject}
 
 -- ---- what a test on a header says of its type
 

@@ -19,7 +19,8 @@ use Rattle.validate.specs.declared.SectionCheck.the-variants.{Sound, Bro
 use Rattle.validate.specs.declared.ObjectCheck.the-variants.{Passed, BadHeader}
 use Rattle.header.specs.Headers.{headerAllowed, tableAllowed}
 use Rattle.validate.specs.Rules.{startsNull, insideFile, allocatedWell, symbolTableWell, noCountingRel, relaKept, relocationsKept, relaWell, relocationsWell, sectionWell, sectionCheck, afterHeader, objectCheck}
-use Rattle.validate.specs.Sound.{SoundSymbols, SoundRela, SoundSection, SoundObject}
+use Rattle.validate.specs.Sound.{SoundSymbols, SoundRela, SoundSection}
+use Rattle.validate.specs.Facts.{SoundObject}
 use Rattle.header.proofs.Laws.Headers.{header-long, table-inside, table-entries, table-some, allowed-table}
 use Rattle.validate.proofs.Laws.Tables.{target-inside, check-sound}
 

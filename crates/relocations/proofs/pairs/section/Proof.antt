@@ -9,7 +9,7 @@ use Rattle.word.proofs.Laws.Tests.{and-left}
 use Rattle.elf.specs.Headers.{sectionCount}
 use Rattle.elf.specs.Sections.{sectionAt, loaded}
 use Rattle.elf.specs.Facts.{Inside}
-use Rattle.validate.specs.Sound.{SoundObject}
+use Rattle.validate.specs.Facts.{SoundObject}
 use Rattle.header.proofs.Laws.Headers.{header-short}
 use Rattle.validate.proofs.Laws.Bounds.{loaded-inside}
 use borrow.Author.Needs.{needs}
