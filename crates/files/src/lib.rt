@@ -202,12 +202,13 @@ fn write_beside(i: usize, tag: [u8; 7], bytes: &[u8], name: &mut [u8]) -> usize
     let mut given = io::buffer();
     let g = os::arg(i, &mut given);
     let mut path = io::buffer();
-    let n = target(&given[..g], &mut path);
+    let old = target(&given[..g], &mut path);
+    let n = old.len;
     if n == 0 {
         return 0;
     }
     let end = text::beside(&path[..n], tag, name);
-    if write_new(&given[..g], &name[..end], bytes) {
+    if write_new(&given[..g], &name[..end], old.mode, bytes) {
         return n;
     }
     0
@@ -235,14 +236,14 @@ fn letter(b: u8) -> u8
     b'a' + b % 26
 }
 
-// Makes the file `name` with the bytes, or says of the file `given` why it cannot. It is then on its device.
-fn write_new(given: &[u8], name: &[u8], bytes: &[u8]) -> bool {
+// Makes the file `name` with the mode and the bytes, or says of the file `given` why it cannot. It is then on its device.
+fn write_new(given: &[u8], name: &[u8], mode: u32, bytes: &[u8]) -> bool {
     let fd = os::create(name);
     if fd < 0 {
         os::fail(given);
         return false;
     }
-    let is_stored = store(fd, bytes);
+    let is_stored = store(fd, mode, bytes);
     if !is_stored {
         os::fail(given);
         os::unlink(name);
@@ -251,23 +252,34 @@ fn write_new(given: &[u8], name: &[u8], bytes: &[u8]) -> bool {
     is_stored
 }
 
-fn store(fd: i32, bytes: &[u8]) -> bool {
+// The mode comes first, so that nobody reads what the old file did not let them.
+fn store(fd: i32, mode: u32, bytes: &[u8]) -> bool {
+    if libc::fchmod(fd, mode) != 0 {
+        return false;
+    }
     if !io::write_all(fd, bytes) {
         return false;
     }
     libc::fsync(fd) == 0
 }
 
-// Puts the path of the file that is to be replaced into `path`, and answers its length; or says why there is none, and answers 0.
-fn target(given: &[u8], path: &mut [u8]) -> usize
-    ensures { λ r. ⌜ Counts r (now (path .exit)) ⌝ }
+// A file that is to be replaced: the length of its path, 0 where there is none, and its permission bits.
+struct Replaced {
+    len: usize,
+    mode: u32,
+}
+
+// Puts the path of the file that is to be replaced into `path`, or says why there is none.
+fn target(given: &[u8], path: &mut [u8]) -> Replaced
+    ensures { λ r. ⌜ Counts (r .len) (now (path .exit)) ⌝ }
 {
     let fd = os::open_read(given);
     if fd < 0 {
         os::fail(given);
-        return 0;
+        return Replaced { len: 0, mode: 0 };
     }
-    let n = own_path(fd, path);
+    let mode = modes::mode_of(fd);
+    let n = own_path(fd, mode.is_plain, path);
     libc::close(fd);
     if n == 0 {
         io::write_all(libc::STDERR_FILENO, given);
@@ -276,15 +288,18 @@ fn target(given: &[u8], path: &mut [u8]) -> usize
             b": not a plain file that can be replaced\n",
         );
     }
-    n
+    Replaced {
+        len: n,
+        mode: mode.bits,
+    }
 }
 
-// The path of an open file, as Linux has it: absolute and with every link followed. 0 where there is none: a device cannot be
-// sought in, a pipe has no path, and a file may be gone.
-fn own_path(fd: i32, path: &mut [u8]) -> usize
+// The path of an open plain file, as Linux has it: absolute and with every link followed. 0 where there is none: the file may be
+// gone, or something else than a plain one.
+fn own_path(fd: i32, is_plain: bool, path: &mut [u8]) -> usize
     ensures { λ r. ⌜ Counts r (now (path .exit)) ⌝ }
 {
-    if libc::lseek(fd, 1, libc::SEEK_SET) != 1 {
+    if !is_plain {
         return 0;
     }
     let link = link_of(descriptor(fd));

@@ -95,8 +95,7 @@ module _ (image j : List ℕ) (s : Span) (v : Savable image j s) (short : length
   saved-old =
       let few : count j < maxEntries = v .few in
       part-clear j₁ (oldAt + held j) (s .size)
-      (piece (entryAt (count j)) (entryBytes s) ∷ piece heldAt (bytes 4 (held j + s .size)) ∷ piece countAt (bytes 4 (count j + 1)) ∷ [])
-      (
+      (piece (entryAt (count j)) (entryBytes s) ∷ piece heldAt (bytes 4 (held j + s .size)) ∷ piece countAt (bytes 4 (count j + 1)) ∷ []) (
         rw (length-entry s) (omega (arith, length₁, v .room)),
         (rw length-bytes (omega (arith, length₁, v .room)), (rw length-bytes (omega (arith, length₁, v .room)), tt)),
       )
@@ -107,8 +106,7 @@ module _ (image j : List ℕ) (s : Span) (v : Savable image j s) (short : length
   unfolding saved saving
   saved-older =
       let few : count j < maxEntries = v .few in
-      part-clear j oldAt (held j) (saving image j s)
-      (
+      part-clear j oldAt (held j) (saving image j s) (
         rw length-old (v .room),
         (rw (length-entry s) (omega (arith, v .room)), (rw length-bytes (omega (arith, v .room)), (rw length-bytes (omega (arith, v .room)), tt))),
       )
@@ -210,8 +208,7 @@ module _ (image j : List ℕ) (u : Undoable image j) (small : held j < 2 ^ 32) w
   released-older =
       let few : count j ≤ maxEntries = u .few in
       let some : 0 < count j = u .some in
-      part-clear j oldAt (heldBelow j) (releasing j)
-      (
+      part-clear j oldAt (heldBelow j) (releasing j) (
         rw length-bytes (omega (arith, u .room)),
         (rw length-bytes (omega (arith, u .room)), (rw (length-entry blank) (omega (arith, u .room)), (rw length-replicate (omega (arith, u .room, u .within)), tt))),
       )

@@ -3,7 +3,7 @@
 use std::fs;
 use std::os::unix::fs::{symlink, PermissionsExt};
 
-use crate::bench::{good, line, on_both, Bench, Program};
+use crate::bench::{good, line, on_both, Bench};
 
 /// Through a link, the file behind it is replaced.
 #[test]
@@ -37,24 +37,24 @@ fn second_names() {
     });
 }
 
-/// The second program keeps the mode. `aktinoph` cannot read it: the new file
-/// has the mode of any new file.
+/// A file that is replaced keeps its mode, at a fit and at a taking-back.
 #[test]
 fn modes() {
     on_both(|program| {
         let bench = Bench::new(program, &good());
         let mode = |name: &str| {
             let file = fs::metadata(bench.path(name)).expect("the file is there");
-            file.permissions().mode() & 0o777
+            file.permissions().mode() & 0o7777
         };
-        bench.write("new", &[]);
-        let expected = match program {
-            Program::Reference => 0o640,
-            Program::Aktinoph => mode("new"),
-        };
-        let kept = fs::Permissions::from_mode(0o640);
-        fs::set_permissions(bench.path("image"), kept).expect("permissions");
-        assert_eq!(line(&bench.fit()), "0 0\n");
-        assert_eq!(mode("image"), expected);
+        for (image, ledger) in [(0o640, 0o600), (0o444, 0o666), (0o1775, 0o707)] {
+            for (name, bits) in [("image", image), ("ledger", ledger)] {
+                let kept = fs::Permissions::from_mode(bits);
+                fs::set_permissions(bench.path(name), kept).expect("permissions");
+            }
+            for call in [Bench::fit, Bench::take_back] {
+                assert_eq!(line(&call(&bench)), "0 0\n");
+                assert_eq!((mode("image"), mode("ledger")), (image, ledger));
+            }
+        }
     });
 }

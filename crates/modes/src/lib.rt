@@ -1,0 +1,61 @@
+// What an open file is: whether it is a plain one, and its permission bits.
+ghost use Prim.Native.Nat.{_<_};
+use libc::types::stat;
+use libc::types::timespec;
+
+// The permission bits, of 0o7777; they mean nothing where the file is not a plain one.
+pub struct Mode {
+    pub is_plain: bool,
+    pub bits: u32,
+}
+
+// What fstat answered, and the mode that it left.
+struct Asked {
+    status: i32,
+    mode: u32,
+}
+
+fn blank() -> stat {
+    let never = timespec {
+        tv_sec: 0,
+        tv_nsec: 0,
+    };
+    let none = [0i64; 3];
+    stat {
+        st_dev: 0,
+        st_ino: 0,
+        st_nlink: 0,
+        st_mode: 0,
+        st_uid: 0,
+        st_gid: 0,
+        __pad: 0,
+        st_rdev: 0,
+        st_size: 0,
+        st_blksize: 0,
+        st_blocks: 0,
+        st_atim: never,
+        st_mtim: never,
+        st_ctim: never,
+        __unused: none,
+    }
+}
+
+// The one function that lends a struct, which the borrow checker does not cover: its proof is by hand, and follows this text.
+fn ask(fd: i32, mut st: stat) -> Asked {
+    let status = libc::fstat(fd, &mut st);
+    Asked {
+        status: status,
+        mode: st.st_mode,
+    }
+}
+
+// The mode of an open file. S_IFREG, a plain file, is 8 in the bits above the permission's.
+pub fn mode_of(fd: i32) -> Mode
+    ensures { λ r. ⌜ r .bits < 4096 ⌝ }
+{
+    let a = ask(fd, blank());
+    Mode {
+        is_plain: (a.status == 0) & (a.mode / 0o10000 == 8),
+        bits: a.mode % 0o10000,
+    }
+}
