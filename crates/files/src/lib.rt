@@ -4,6 +4,7 @@ ghost use Prim.Native.Nat.{_+_, _≤_};
 ghost use lib.ListN.{length};
 ghost use Rattle.io.specs.Counts.{Counts};
 ghost use Rattle.libc.specs.Io.{Ended};
+use modes::Mode;
 use text::append;
 use text::append_decimal;
 
@@ -237,7 +238,7 @@ fn letter(b: u8) -> u8
 }
 
 // Makes the file `name` with the mode and the bytes, or says of the file `given` why it cannot. It is then on its device.
-fn write_new(given: &[u8], name: &[u8], mode: u32, bytes: &[u8]) -> bool {
+fn write_new(given: &[u8], name: &[u8], mode: Mode, bytes: &[u8]) -> bool {
     let fd = os::create(name);
     if fd < 0 {
         os::fail(given);
@@ -252,9 +253,11 @@ fn write_new(given: &[u8], name: &[u8], mode: u32, bytes: &[u8]) -> bool {
     is_stored
 }
 
-// The mode comes first, so that nobody reads what the old file did not let them.
-fn store(fd: i32, mode: u32, bytes: &[u8]) -> bool {
-    if libc::fchmod(fd, mode) != 0 {
+// The mode comes first, so that nobody reads what the old file did not let them. Owner and group are kept where the system lets the
+// program, as it lets root.
+fn store(fd: i32, mode: Mode, bytes: &[u8]) -> bool {
+    libc::fchown(fd, mode.owner, mode.group);
+    if libc::fchmod(fd, mode.bits) != 0 {
         return false;
     }
     if !io::write_all(fd, bytes) {
@@ -263,10 +266,10 @@ fn store(fd: i32, mode: u32, bytes: &[u8]) -> bool {
     libc::fsync(fd) == 0
 }
 
-// A file that is to be replaced: the length of its path, 0 where there is none, and its permission bits.
+// A file that is to be replaced: the length of its path, 0 where there is none, and its mode.
 struct Replaced {
     len: usize,
-    mode: u32,
+    mode: Mode,
 }
 
 // Puts the path of the file that is to be replaced into `path`, or says why there is none.
@@ -276,7 +279,10 @@ fn target(given: &[u8], path: &mut [u8]) -> Replaced
     let fd = os::open_read(given);
     if fd < 0 {
         os::fail(given);
-        return Replaced { len: 0, mode: 0 };
+        return Replaced {
+            len: 0,
+            mode: modes::unknown(),
+        };
     }
     let mode = modes::mode_of(fd);
     let n = own_path(fd, mode.is_plain, path);
@@ -288,10 +294,7 @@ fn target(given: &[u8], path: &mut [u8]) -> Replaced
             b": not a plain file that can be replaced\n",
         );
     }
-    Replaced {
-        len: n,
-        mode: mode.bits,
-    }
+    Replaced { len: n, mode }
 }
 
 // The path of an open plain file, as Linux has it: absolute and with every link followed. 0 where there is none: the file may be

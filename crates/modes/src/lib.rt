@@ -1,18 +1,24 @@
-// What an open file is: whether it is a plain one, and its permission bits.
+// What an open file is: whether it is a plain one, its permission bits, and whose it is.
+ghost use mathlib.Core.Path.{_≡_};
+ghost use mathlib.Core.Bool.{false};
 ghost use Prim.Native.Nat.{_<_};
 use libc::types::stat;
 use libc::types::timespec;
 
-// The permission bits, of 0o7777; they mean nothing where the file is not a plain one.
+// The permission bits, of 0o7777, the owner and the group; they mean nothing where the file is not a plain one.
 pub struct Mode {
     pub is_plain: bool,
     pub bits: u32,
+    pub owner: u32,
+    pub group: u32,
 }
 
-// What fstat answered, and the mode that it left.
+// What fstat answered, and the mode, the owner and the group that it left.
 struct Asked {
     status: i32,
     mode: u32,
+    owner: u32,
+    group: u32,
 }
 
 fn blank() -> stat {
@@ -46,6 +52,20 @@ fn ask(fd: i32, mut st: stat) -> Asked {
     Asked {
         status: status,
         mode: st.st_mode,
+        owner: st.st_uid,
+        group: st.st_gid,
+    }
+}
+
+// That of a file that is not open.
+pub fn unknown() -> Mode
+    ensures { λ r. ⌜ (r .is_plain ≡ false) × (r .bits < 4096) ⌝ }
+{
+    Mode {
+        is_plain: false,
+        bits: 0,
+        owner: 0,
+        group: 0,
     }
 }
 
@@ -57,5 +77,7 @@ pub fn mode_of(fd: i32) -> Mode
     Mode {
         is_plain: (a.status == 0) & (a.mode / 0o10000 == 8),
         bits: a.mode % 0o10000,
+        owner: a.owner,
+        group: a.group,
     }
 }

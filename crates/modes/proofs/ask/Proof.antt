@@ -70,13 +70,19 @@ num z = vint w32 (ofZ w32 z)
 
 -- the result, of the status r and of the record z that the call left, and what whoever returns it owes
 abbrev answer : ℤ → stat → Asked
-answer r z = record { status = r; mode = z .«st_mode» }
+answer r z = record { status = r; mode = z .«st_mode»; owner = z .«st_uid»; group = z .«st_gid» }
 
 mode-fits : (z : stat) (vs : List Val) → Is T.the-row z vs → z .«st_mode» < 2 ^ 32
 mode-fits z vs is = LL.owed T.the-type T′.the-laws z vs is .1 .1 .1 .0 .1
 
+owner-fits : (z : stat) (vs : List Val) → Is T.the-row z vs → z .«st_uid» < 2 ^ 32
+owner-fits z vs is = LL.owed T.the-type T′.the-laws z vs is .1 .1 .1 .1 .0 .1
+
+group-fits : (z : stat) (vs : List Val) → Is T.the-row z vs → z .«st_gid» < 2 ^ 32
+group-fits z vs is = LL.owed T.the-type T′.the-laws z vs is .1 .1 .1 .1 .1 .0 .1
+
 made : (r : ℤ) (z : stat) → mag r < 2 ^ 31 → (vs : List Val) → Is T.the-row z vs → Is R.the-row (answer r z) (R′.lowered (answer r z) ∷ [])
-made r z fits vs is = LL.owes R.the-type R′.the-laws (answer r z) ((refl, fits), ((refl, mode-fits z vs is), tt))
+made r z fits vs is = LL.owes R.the-type R′.the-laws (answer r z) ((refl, fits), ((refl, mode-fits z vs is), ((refl, owner-fits z vs is), ((refl, group-fits z vs is), tt))))
 
 module _ {M : Type 1} (𝓤 : URA M) (H : Heap 𝓤) (A : Atoms 𝓤) (mem′ : Memory → SProp 𝓤) (run : Routine → Fun 𝓤) where
   -- the contract that the proof cites
@@ -124,31 +130,34 @@ module _ {M : Type 1} (𝓤 : URA M) (H : Heap 𝓤) (A : Atoms 𝓤) (W : Given
     walk =
         let wt = LL.lawful T.the-type T′.the-laws 𝓤 H A W .typed h _ is-h .0 in
         qed W (‵ ftrue ∷ ‵ (owns (i32 ∷ T.the-row ∷ []) a vss) ∷ []) ∵ keep ! [] $ enter ! C Λ code.function (num n ∷ T′.lowered h ∷ []) _ $
-        alloc1 ! (λ l₀. alloc1 ! (λ l₁. alloc1 ! (λ l₂. alloc1 ! (λ l₃. alloc1 ! (λ l₄. alloc1 ! (λ l₅. alloc1 ! (λ l₆. alloc0 ! $ params1 ! $
-        pass1 ! (init ! 10 refl (sint-lawful 𝓤 H A W w32 .typed n _ is-n .0)) $ pass1 ! (init ! 8 refl wt) $ pass0 ! $
-        -- [_6; …; _5; …; _4; …; _3; …; _2; …; _1; …; room for _0; …]
-        assigns ! (of-opd ! (load ! (from ! (stop !)) (look ! 8 refl))) (from ! (stop !)) (init ! 6 refl wt) $
-        assigns ! (addr ! (from ! (stop !))) (from ! (stop !)) (init ! 2 refl (tt, tt)) $
+        alloc1 ! (λ l₀. alloc1 ! (λ l₁. alloc1 ! (λ l₂. alloc1 ! (λ l₃. alloc1 ! (λ l₄. alloc1 ! (λ l₅. alloc1 ! (λ l₆. alloc1 ! (λ l₇. alloc1 ! (λ l₈. alloc0 ! $ params1 ! $
+        pass1 ! (init ! 14 refl (sint-lawful 𝓤 H A W w32 .typed n _ is-n .0)) $ pass1 ! (init ! 12 refl wt) $ pass0 ! $
+        -- [_8; …; _7; …; _6; …; _5; …; _4; …; _3; …; _2; …; _1; …; room for _0; …]
+        assigns ! (of-opd ! (load ! (from ! (stop !)) (look ! 12 refl))) (from ! (stop !)) (init ! 10 refl wt) $
+        assigns ! (addr ! (from ! (stop !))) (from ! (stop !)) (init ! 6 refl (tt, tt)) $
         -- `st` is lent for a new lifetime
-        owned ! T.the-row (Is T.the-row) (LL.makes T.the-type T′.the-plain 𝓤 H A) h (vals h) is-h $ move ! (7 ∷ 0 ∷ []) $ use2 W (‵ (partAt T.the-row fullShare h l₃ 0)) (part-in 𝓤 H A W T.the-row refl fullShare h l₃ 0 (T′.lowered h)) $
+        owned ! T.the-row (Is T.the-row) (LL.makes T.the-type T′.the-plain 𝓤 H A) h (vals h) is-h $ move ! (11 ∷ 0 ∷ []) $ use2 W (‵ (partAt T.the-row fullShare h l₃ 0)) (part-in 𝓤 H A W T.the-row refl fullShare h l₃ 0 (T′.lowered h)) $
         lft-new ! tt (λ α. move ! (1 ∷ []) $
         use1 W (later (some (λ (γ : GName). ‵ (MutRef (named 0) (α ∷ []) T.the-row .own (ref l₃ γ) (vptr l₃ 0 ∷ [])) ⊛ ‵ (flent (α ∷ []) (Body (mem T.the-row) l₃ 0 γ))))) (lends-ref 𝓤 H A W T.the-row (named 0) (α ∷ []) h l₃ 0) $ await ! tt $ pick ! (λ γ.
         split ! $ move ! (2 ∷ 0 ∷ []) $ use2 W (raw (Fstat 𝓤 H A mem′ run .pre (to-fstat α l₃ γ))) (goes-fstat α l₃ γ) $
-        calls-at ! fm (Fstat 𝓤 H A mem′ run) known (to-fstat α l₃ γ) (and-then ! (load ! (from ! (stop !)) (look ! 11 refl)) (and-then ! (load ! (from ! (stop !)) (look ! 4 refl)) (no-more !))) (λ v.
+        calls-at ! fm (Fstat 𝓤 H A mem′ run) known (to-fstat α l₃ γ) (and-then ! (load ! (from ! (stop !)) (look ! 15 refl)) (and-then ! (load ! (from ! (stop !)) (look ! 8 refl)) (no-more !))) (λ v.
         use1 W (later (some (λ (r : ℤ). ((‵ (flft (α ∷ []) fullShare) ⊛ ‵ ftrue) ⊛ ‵ (i32 .own r (v ∷ []))) ⊛ raw (ensured 𝓤 H A fstat.ended (fstat.clauses 𝓤 H A mem′ run) (α ∷ [], tt) (n, (ref l₃ γ, tt)) tt r)))) (id⊢ 𝓤 _) $ await ! tt $ pick ! (λ r.
         split ! $ split ! $ move ! (2 ∷ []) $ drop ! $ move ! (1 ∷ []) $ peeks ! i32 (Is i32) (shows 𝓤 H A i32) r (v ∷ []) (λ is-r. drop ! $
-        -- [the token; the lender's part; room for _6; …; _5; …; room for _4; …; that _3 dies; _2; …; _1; …; room for _0; …]
-        land ! (from ! (stop !)) (init ! 6 refl (sint-lawful 𝓤 H A W w32 .typed r _ is-r .0)) $ rewrite ! 6 (λ (y : Val). ‵ (fat fullShare (tyInt w32) l₄ 0 y)) (ap only (is-r .0)) refl $
+        -- [the token; the lender's part; room for _8; …; room for _7; …; room for _6; …; _5; …; room for _4; …; that _3 dies; _2; …; _1; …; room for _0; …]
+        land ! (from ! (stop !)) (init ! 10 refl (sint-lawful 𝓤 H A W w32 .typed r _ is-r .0)) $ rewrite ! 10 (λ (y : Val). ‵ (fat fullShare (tyInt w32) l₄ 0 y)) (ap only (is-r .0)) refl $
         -- the lifetime is ended, and `st` is taken back at some z
         split ! $ lft-end ! tt $ move ! (0 ∷ 2 ∷ []) $ lent-back ! tt $ fpick ! (λ z. fsplit ! $
         use1 W (some (λ (u : Val). ‵ (fat fullShare T′.mir l₃ 0 u) ⊛ ‵ (T.the-row .own z (u ∷ [])))) (part-out 𝓤 H A W T.the-row refl fullShare z l₃ 0) $ pick ! (λ u. split ! $ move ! (1 ∷ 2 ∷ 3 ∷ []) $
         peeks ! T.the-row (Is T.the-row) (shows 𝓤 H A T.the-row) z (u ∷ []) (λ is-z. drop ! $ drop ! $ drop ! $ rewrite ! 0 (λ (y : Val). ‵ (fat fullShare T′.mir l₃ 0 y)) (ap only (T′.lowers .val-is z _ is-z)) refl $
-        -- [_3; room for _6; …; _5; …; _4; …; that _3 dies; _2; …; _1; …; room for _0; …]
-        assigns ! (of-opd ! (load ! (from ! (fld ! {d = 24} refl (stop !))) (look-in ! 0 (sub ! 3 {d = 24} refl (whole !))))) (from ! (stop !)) (init ! 1 refl (tt, record { fits = mode-fits z _ is-z })) $
-        assigns ! (agg ! (and-then ! (load ! (from ! (stop !)) (look ! 5 refl)) (and-then ! (load ! (from ! (stop !)) (look ! 1 refl)) (no-more !)))) (from ! (stop !)) (init ! 12 refl (LL.lawful R.the-type R′.the-laws 𝓤 H A W .typed (answer r z) _ (made r z (is-r .1) _ is-z) .0)) $
-        returns ! (look ! 12 refl) $ forget ! 0 refl $ forget ! 1 refl $ forget ! 3 refl $ forget ! 5 refl $ forget ! 8 refl $ forget ! 10 refl $ forget ! 12 refl $
-        move ! (12 ∷ 13 ∷ []) $ free1 ! $ move ! (10 ∷ 11 ∷ []) $ free1 ! $ move ! (8 ∷ 9 ∷ []) $ free1 ! $ move ! (0 ∷ 7 ∷ []) $ free1 ! $ move ! (4 ∷ 5 ∷ []) $ free1 ! $ move ! (2 ∷ 3 ∷ []) $ free1 ! $ free1 ! $ free0 ! $
-        by ! (exits r z (made r z (is-r .1) _ is-z)))))))))))))))))
+        -- [_3; room for _8; …; room for _7; …; room for _6; …; _5; …; _4; …; that _3 dies; _2; …; _1; …; room for _0; …]
+        assigns ! (of-opd ! (load ! (from ! (fld ! {d = 24} refl (stop !))) (look-in ! 0 (sub ! 3 {d = 24} refl (whole !))))) (from ! (stop !)) (init ! 5 refl (tt, record { fits = mode-fits z _ is-z })) $
+        assigns ! (of-opd ! (load ! (from ! (fld ! {d = 28} refl (stop !))) (look-in ! 0 (sub ! 4 {d = 28} refl (whole !))))) (from ! (stop !)) (init ! 3 refl (tt, record { fits = owner-fits z _ is-z })) $
+        assigns ! (of-opd ! (load ! (from ! (fld ! {d = 32} refl (stop !))) (look-in ! 0 (sub ! 5 {d = 32} refl (whole !))))) (from ! (stop !)) (init ! 1 refl (tt, record { fits = group-fits z _ is-z })) $
+        assigns ! (agg ! (and-then ! (load ! (from ! (stop !)) (look ! 9 refl)) (and-then ! (load ! (from ! (stop !)) (look ! 5 refl)) (and-then ! (load ! (from ! (stop !)) (look ! 3 refl)) (and-then ! (load ! (from ! (stop !)) (look ! 1 refl)) (no-more !)))))) (from ! (stop !)) (init ! 16 refl (LL.lawful R.the-type R′.the-laws 𝓤 H A W .typed (answer r z) _ (made r z (is-r .1) _ is-z) .0)) $
+        returns ! (look ! 16 refl) $ forget ! 0 refl $ forget ! 1 refl $ forget ! 3 refl $ forget ! 5 refl $ forget ! 7 refl $ forget ! 9 refl $ forget ! 12 refl $ forget ! 14 refl $ forget ! 16 refl $
+        move ! (16 ∷ 17 ∷ []) $ free1 ! $ move ! (14 ∷ 15 ∷ []) $ free1 ! $ move ! (12 ∷ 13 ∷ []) $ free1 ! $ move ! (0 ∷ 11 ∷ []) $ free1 ! $
+        move ! (8 ∷ 9 ∷ []) $ free1 ! $ move ! (6 ∷ 7 ∷ []) $ free1 ! $ move ! (4 ∷ 5 ∷ []) $ free1 ! $ move ! (2 ∷ 3 ∷ []) $ free1 ! $ free1 ! $ free0 ! $
+        by ! (exits r z (made r z (is-r .1) _ is-z)))))))))))))))))))
 
 module _ {M : Type 1} (𝓤 : URA M) (H : Heap 𝓤) (A : Atoms 𝓤) (W : Given 𝓤 H A) (mem′ : Memory → SProp 𝓤) (run : Routine → Fun 𝓤) where
   ask-walks : (C : Calls 𝓤 H) (Λ : Loops 𝓤 H) → FmC 𝓤 H (W .laws) C → Triple 𝓤 (C #libc·fstat) (Fstat 𝓤 H A mem′ run) → Walks 𝓤 H A ask.ended stayed (WpFn 𝓤 H C Λ code.function) (ask.clauses 𝓤 H A mem′ run)
