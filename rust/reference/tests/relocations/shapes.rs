@@ -127,9 +127,12 @@ fn two(first: (u8, u32), second: (u8, u32), code: &[u8]) -> Fit {
     at(PLACE, code, &[Symbol::absolute(PLACE)], &list)
 }
 
-/// A relocation at 0, a type and its offset, the section's words, the answer.
-/// Both find the instruction that they ask for.
-const INSTRUCTIONS: [(u8, (u8, u32), &[u32], Answer); 26] = [
+/// The type of a relocation at 0, type and offset of a second one, the
+/// section's words, the answer.
+type Overlap = (u8, (u8, u32), &'static [u32], Answer);
+
+/// Both relocations find the instruction that they ask for.
+const INSTRUCTIONS: [Overlap; 26] = [
     (CALL, (LO12_I, 4), &[0x97, 0x80E7], (9, 1)),
     (CALL, (LO12_I, 8), &[0x97, 0x80E7, 0x13], DONE),
     (CALL_PLT, (LO12_I, 4), &[0x97, 0x80E7], (9, 1)),
