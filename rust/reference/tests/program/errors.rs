@@ -37,7 +37,12 @@ const LEDGER: usize = 1;
 const IMAGE: usize = 2;
 
 fn is_done(bench: &Bench, call: Call) {
-    assert_eq!(line(&bench.run(call)), "0 0\n");
+    command_is_done(&mut bench.command(call));
+}
+
+fn command_is_done(command: &mut Command) {
+    let output = command.output().expect("the program starts");
+    assert_eq!(line(&output), "0 0\n");
 }
 
 #[test]
@@ -168,8 +173,7 @@ fn unreadable_files() {
                 set_mode(&bench.path(name), 0o644);
             }
             set_mode(&bench.path(""), 0o777);
-            let output = unprivileged(&bench, &programs, call).output();
-            assert_eq!(line(&output.expect("the program starts")), "0 0\n");
+            command_is_done(&mut unprivileged(&bench, &programs, call));
         }
     });
 }
@@ -179,15 +183,13 @@ fn unreadable_files() {
 fn unwritable_directories() {
     on_both(|program| {
         let programs = Bench::new(program, &good());
-        for ((bench, call), first) in calls(program, &good()).into_iter().zip(["ledger", "image"]) {
+        let first = ["ledger", "image"];
+        for ((bench, call), first) in calls(program, &good()).into_iter().zip(first) {
             set_mode(&bench.path(""), 0o555);
             let mut command = unprivileged(&bench, &programs, call);
             bench.command_fails(&mut command, &format!("{first}: "));
             set_mode(&bench.path(""), 0o777);
-            assert_eq!(
-                line(&command.output().expect("the program starts")),
-                "0 0\n"
-            );
+            command_is_done(&mut command);
         }
     });
 }
@@ -204,8 +206,8 @@ fn files_of_others() {
     }
     on_both(|program| {
         let programs = Bench::new(program, &good());
-        for ((bench, call), second) in calls(program, &good()).into_iter().zip(["image", "ledger"])
-        {
+        let second = ["image", "ledger"];
+        for ((bench, call), second) in calls(program, &good()).into_iter().zip(second) {
             set_mode(&bench.path(""), 0o1777);
             for name in &call[1..] {
                 let owner = if *name == second { 0 } else { NOBODY };
@@ -214,10 +216,7 @@ fn files_of_others() {
             let mut command = unprivileged(&bench, &programs, call);
             bench.command_fails(&mut command, &format!("/{second}: "));
             chown(bench.path(second), Some(NOBODY), None).expect("an owner");
-            assert_eq!(
-                line(&command.output().expect("the program starts")),
-                "0 0\n"
-            );
+            command_is_done(&mut command);
         }
     });
 }
@@ -232,8 +231,7 @@ fn read_only_files() {
             set_mode(&bench.path(""), 0o777);
             set_mode(&bench.path("image"), 0o444);
             set_mode(&bench.path("ledger"), 0o444);
-            let output = unprivileged(&bench, &programs, call).output();
-            assert_eq!(line(&output.expect("the program starts")), "0 0\n");
+            command_is_done(&mut unprivileged(&bench, &programs, call));
             assert_eq!(bench.read("image")[64..68], after);
         }
     });
