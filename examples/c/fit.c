@@ -1,4 +1,8 @@
-/* fit OBJECT ORDER IMAGE LEDGER: one fit over files. Writes number and place; a done fit replaces image and ledger. */
+/*
+ * fit OBJECT ORDER IMAGE LEDGER: one fit over files. fit IMAGE LEDGER: takes the newest fit back.
+ * Writes number and place; a done call replaces image and ledger.
+ */
+#include <stdbool.h>
 #include <stdio.h>
 #include <stdlib.h>
 
@@ -29,17 +33,28 @@ static void write_file(const char *name, const uint8_t *bytes, size_t length) {
 }
 
 int main(int count, char **names) {
-    if (count != 5) {
-        fprintf(stderr, "usage: fit OBJECT ORDER IMAGE LEDGER\n");
+    bool is_fit = count == 5, is_take_back = count == 3;
+    if (!is_fit && !is_take_back) {
+        fprintf(stderr, "usage: fit OBJECT ORDER IMAGE LEDGER\n       fit IMAGE LEDGER (takes the newest fit back)\n");
         return 1;
     }
-    size_t object_len = read_file(names[1], object), order_len = read_file(names[2], order);
-    size_t image_len = read_file(names[3], image), ledger_len = read_file(names[4], ledger);
-    uint64_t answer = aktinoph_fit(object, object_len, order, order_len, image, image_len, ledger, ledger_len);
-    printf("%u %lu\n", aktinoph_number(answer), (unsigned long)aktinoph_place(answer));
-    if (aktinoph_number(answer) == AKTINOPH_DONE) {
-        write_file(names[4], ledger, ledger_len);
-        write_file(names[3], image, image_len);
+    const char *image_name = names[count - 2], *ledger_name = names[count - 1];
+    size_t image_len = read_file(image_name, image), ledger_len = read_file(ledger_name, ledger);
+    uint64_t answer;
+    if (is_fit) {
+        size_t object_len = read_file(names[1], object), order_len = read_file(names[2], order);
+        answer = aktinoph_fit(object, object_len, order, order_len, image, image_len, ledger, ledger_len);
+    } else {
+        answer = aktinoph_take_back(image, image_len, ledger, ledger_len);
     }
+    printf("%u %lu\n", aktinoph_number(answer), (unsigned long)aktinoph_place(answer));
+    if (aktinoph_number(answer) != AKTINOPH_DONE)
+        return 0;
+    /* While the image is written, the ledger's file has the old bytes: it comes first after a fit, else last. */
+    if (is_fit)
+        write_file(ledger_name, ledger, ledger_len);
+    write_file(image_name, image, image_len);
+    if (is_take_back)
+        write_file(ledger_name, ledger, ledger_len);
     return 0;
 }

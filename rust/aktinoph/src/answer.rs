@@ -214,9 +214,6 @@ mod tests {
             let answer = Answer::from_code(code(number));
             assert_eq!(u64::from(answer.number()), number);
             assert_eq!(u64::from(answer.place()), code(number) >> 32);
-            assert_eq!(answer.is_done(), number == 0);
-            assert_eq!(answer.check().is_ok(), number == 0);
-            assert_eq!(answer.to_string().contains(" 7: "), answer.place() == 7);
         }
     }
 
@@ -224,27 +221,6 @@ mod tests {
     fn places_keep_all_bits() {
         let answer = Answer::from_code(0xFFFF_FFFF_0000_0006);
         assert_eq!(answer, Answer::PlacementsDiffer(u32::MAX));
-    }
-
-    #[test]
-    fn words() {
-        let words = |number| Answer::from_code(code(number)).to_string();
-        assert_eq!(words(13), "relocation 7: the distance is odd or too far");
-        assert_eq!(
-            words(8),
-            "section 7: misaligned, outside the window, or overlapping"
-        );
-        assert_eq!(
-            words(7),
-            "symbol 7: a value for a symbol that is not undefined"
-        );
-        assert_eq!(words(16), "no fit stands");
-        let table = Answer::BadSection(0).check().expect_err("refused");
-        assert_eq!(
-            table.to_string(),
-            "the section header table, or section 0, breaks a rule"
-        );
-        assert_eq!(table.answer(), Answer::BadSection(0));
     }
 
     #[test]

@@ -117,16 +117,26 @@ fn order_and_ledger_bytes() {
     );
 }
 
+fn code(words: &[u32]) -> Vec<u8> {
+    words.iter().flat_map(|word| word.to_le_bytes()).collect()
+}
+
+/// "High half cut instead of rounded: T 0x12345FFF lands 4,096 low."
+#[test]
+fn high_half_rounded() {
+    let symbols = [Symbol::absolute(0x1234_5FFF)];
+    let list = [Relocation::new(0, 26, 1, 0), Relocation::new(4, 27, 1, 0)];
+    let fit = Fit::code(0x1000, &code(&[0x537, 0x50513]), &symbols, &list);
+    // 12346537 and FFF50513, in file byte order.
+    assert_eq!(laid(&fit), "376534121305f5ff");
+}
+
 /// "PCREL_LO12 worked out from its own P."
 #[test]
 fn low_half_from_the_pairs_place() {
-    let code: Vec<u8> = [0x517_u32, 0x13, 0x50513]
-        .iter()
-        .flat_map(|word| word.to_le_bytes())
-        .collect();
     let symbols = [Symbol::absolute(0x1000 + 0x7FF), Symbol::new(0, 1, 0)];
     let list = [Relocation::new(0, 23, 1, 0), Relocation::new(8, 24, 2, 0)];
-    let fit = Fit::code(0x1000, &code, &symbols, &list);
+    let fit = Fit::code(0x1000, &code(&[0x517, 0x13, 0x50513]), &symbols, &list);
     assert_eq!(laid(&fit), "17050000130000001305f57f");
 }
 

@@ -33,9 +33,8 @@ fn histories() {
     let seen = compare.histories;
     println!("answers: {:?}", seen.answers);
     assert_eq!(seen.most_standing, 16, "a full ledger occurs");
-    // The ledger stays sound, so that 1 never occurs; 12 and 14 are rare.
-    for number in (0..17).filter(|number| ![1, 12, 14].contains(number)) {
-        assert!(seen.answers[number] > 0, "answer {number}");
+    assert_eq!(seen.answers[1], 0, "the ledger stays sound");
+    for number in (0..17).filter(|number| *number != 1) {
+        assert!(seen.answers[number] >= 10, "answer {number}");
     }
-    assert_eq!(seen.answers[1], 0);
 }

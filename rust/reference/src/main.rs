@@ -10,7 +10,9 @@ mod files;
 
 use std::env;
 use std::ffi::OsString;
+use std::fs::File;
 use std::io::{self, Write};
+use std::os::fd::AsFd;
 use std::path::Path;
 use std::process::ExitCode;
 
@@ -23,7 +25,7 @@ const USAGE: &str = "usage: reference fit OBJECT ORDER IMAGE LEDGER\n       \
 fn main() -> ExitCode {
     let arguments: Vec<OsString> = env::args_os().skip(1).collect();
     let done = run(&arguments).and_then(|line| {
-        writeln!(io::stdout(), "{line}").map_err(|error| format!("standard output: {error}"))
+        print(&format!("{line}\n")).map_err(|error| format!("standard output: {error}"))
     });
     match done {
         Ok(()) => ExitCode::SUCCESS,
@@ -32,6 +34,12 @@ fn main() -> ExitCode {
             ExitCode::FAILURE
         }
     }
+}
+
+/// Without a buffer, which would be written once more when the program ends.
+fn print(line: &str) -> io::Result<()> {
+    let mut output = File::from(io::stdout().as_fd().try_clone_to_owned()?);
+    output.write_all(line.as_bytes())
 }
 
 /// The line for standard output, or the message for standard error.

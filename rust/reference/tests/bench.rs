@@ -160,9 +160,15 @@ fn ledger_bytes() {
 /// "High half cut instead of rounded: T 0x12345FFF lands 4,096 low."
 #[test]
 fn error_high_half_cut() {
-    let t = 0x1234_5FFF;
-    assert_ne!(high_half(t), t / 4_096);
-    assert_eq!(4_096 * high_half(t) + low_half(t), t);
+    let code = [word(0x537), word(0x50513)].concat();
+    let list = [
+        Relocation::new(0, HI20, 1, 0),
+        Relocation::new(4, LO12_I, 1, 0),
+    ];
+    let symbols = [Symbol::absolute(0x1234_5FFF)];
+    let laid = Fit::code(0x1000, &code, &symbols, &list).laid();
+    assert_eq!(number_from(&laid[0..4]), 0x1234_6537);
+    assert_eq!(number_from(&laid[4..8]), 0xFFF5_0513);
 }
 
 /// "PCREL_LO12 worked out from its own P."

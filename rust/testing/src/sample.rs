@@ -40,6 +40,9 @@ struct Item {
 
 struct Sampler<'r> {
     random: &'r mut Random,
+    /// Whether some low halves have no pair, and some padding misses its
+    /// boundary.
+    is_faulty: bool,
     symbols: Vec<Symbol>,
     /// S of each symbol; `None` where it does not resolve.
     values: Vec<Option<u32>>,
@@ -48,11 +51,16 @@ struct Sampler<'r> {
 
 /// A random call for an image of this length.
 pub fn call(random: &mut Random, image_length: usize) -> Call {
+    sample(random, image_length, false)
+}
+
+fn sample(random: &mut Random, image_length: usize, is_faulty: bool) -> Call {
     let length = image_length as u32;
     let highest_base = (1_u64 << 32) - u64::from(length);
     let base = match random.below(4) {
         0 => 0,
         1 => 0x2000_0000,
+        2 if is_faulty => (highest_base + 1) as u32,
         2 => (highest_base - 1) as u32,
         _ => (random.u64() % highest_base) as u32,
     };
@@ -60,6 +68,7 @@ pub fn call(random: &mut Random, image_length: usize) -> Call {
     let rows = rows(random, shapes.len());
     let mut sampler = Sampler {
         random,
+        is_faulty,
         symbols: vec![Symbol::default()],
         values: vec![Some(0)],
         external_values: Vec::new(),
@@ -79,10 +88,12 @@ pub fn start(random: &mut Random) -> (Vec<u8>, Vec<u8>) {
     (random.bytes(length), journal)
 }
 
-/// A random call, now and then damaged, or one for an image of another length.
+/// A random call, now and then faulty or damaged, or one for an image of
+/// another length.
 pub fn some_call(random: &mut Random, image_length: usize) -> Call {
     let mut call = match random.below(12) {
         0 => call(random, image_length + 50),
+        1 => sample(random, image_length, true),
         _ => call(random, image_length),
     };
     if random.one_in(12) {
@@ -318,12 +329,27 @@ impl Sampler<'_> {
     }
 
     fn pair(&mut self, section: u16, offset: u32) -> Item {
+        if self.is_faulty && self.random.one_in(2) {
+            return self.no_pair(section, offset);
+        }
         let (kind, opcode) = self.random.pick(&[(24, 0x67), (24, 0x07), (25, 0x23)]);
         let label = self.add(Symbol::new(0, section, offset), None);
         let words = [self.instruction(0x17), self.instruction(opcode)];
         let high = self.anywhere(offset, 23);
         let low = Relocation::new(offset + 4, kind, label, 0);
         self.with(&words, vec![high, low])
+    }
+
+    /// A low half with no high half at its label, or with two.
+    fn no_pair(&mut self, section: u16, offset: u32) -> Item {
+        let place = offset + 4;
+        let label = self.add(Symbol::new(0, section, place), None);
+        let words = [self.instruction(0x03), self.instruction(0x17)];
+        let mut relocations = vec![Relocation::new(offset, 24, label, 0)];
+        for _ in 0..self.random.pick(&[0, 2]) {
+            relocations.push(self.anywhere(place, 23));
+        }
+        self.with(&words, relocations)
     }
 
     /// ADD, SUB and SET of one width at one place.
@@ -351,7 +377,9 @@ impl Sampler<'_> {
             let boundary = (addend + 2).next_power_of_two();
             (u64::from(place) + u64::from(*addend)) % u64::from(boundary) == 0
         };
-        let paddings: Vec<u32> = (0..=room).step_by(2).filter(fits).collect();
+        let misses = self.is_faulty && self.random.one_in(2);
+        let is_wanted = |addend: &u32| fits(addend) != misses;
+        let paddings: Vec<u32> = (0..=room).step_by(2).filter(is_wanted).collect();
         let any = self.random.u32();
         let mut relocations = vec![Relocation::new(offset, 51, any >> 8, any as i32)];
         if !paddings.is_empty() {

@@ -1,5 +1,6 @@
 //! A program that ends, or whose calls of the system fail, at any moment.
 
+use std::fs;
 use std::path::{Path, PathBuf};
 use std::process::{Command, Output};
 use std::sync::OnceLock;
@@ -20,13 +21,16 @@ fn preload() -> &'static Path {
     })
 }
 
-/// Runs a call that ends or fails at its `at`-th call of the system.
-fn disturbed(bench: &Bench, arguments: &[&str], act: &str, call: &str, at: u32) -> Output {
+/// Runs a call that ends or fails at its `at`-th call of the system. `None` if
+/// there was no such call, and so nothing was disturbed.
+fn disturbed(bench: &Bench, arguments: &[&str], act: &str, call: &str, at: u32) -> Option<Output> {
     let mut command = bench.command(arguments);
     command.env("LD_PRELOAD", preload());
     command.env("PRELOAD_ACT", act).env("PRELOAD_CALL", call);
     command.env("PRELOAD_AT", at.to_string());
-    command.output().expect("the program starts")
+    let output = command.output().expect("the program starts");
+    let has_acted = fs::remove_file(bench.path("acted")).is_ok();
+    has_acted.then_some(output)
 }
 
 /// The image and the ledger.
@@ -34,6 +38,14 @@ type Pair = (Vec<u8>, Vec<u8>);
 
 fn pair(bench: &Bench) -> Pair {
     (bench.read("image"), bench.read("ledger"))
+}
+
+/// The files of a fit, with this image and ledger.
+fn bench_with(program: Program, (image, ledger): &Pair) -> Bench {
+    let bench = Bench::new(program, &good());
+    bench.write("image", image);
+    bench.write("ledger", ledger);
+    bench
 }
 
 /// The files before a fit, and after it.
@@ -50,17 +62,15 @@ fn ended_at_every_call(program: Program, arguments: &[&str], states: [&Pair; 3],
     let (old, _) = before_and_after();
     let mut seen = Vec::new();
     for at in 1.. {
-        let bench = Bench::new(program, &good());
-        bench.write("image", &states[0].0);
-        bench.write("ledger", &states[0].1);
-        let output = disturbed(&bench, arguments, "end", "any", at);
-        if output.status.code() == Some(0) {
+        let bench = bench_with(program, states[0]);
+        let Some(output) = disturbed(&bench, arguments, "end", "any", at) else {
             break;
-        }
+        };
         assert_eq!(output.status.code(), Some(99));
-        assert_eq!(output.stdout, b"");
         let state = states.iter().position(|state| **state == pair(&bench));
         let state = state.expect("each file is old or new, and the right one is new first");
+        let said: &[&[u8]] = if state == 2 { &[b"", b"0 0\n"] } else { &[b""] };
+        assert!(said.contains(&&output.stdout[..]), "only what is done");
         seen.push(state);
         let expected = if state == bare { "16 0\n" } else { "0 0\n" };
         assert_eq!(line(&bench.take_back()), expected);
@@ -91,43 +101,91 @@ fn folder_synced_after_each_rename() {
             Program::Reference => 3,
             Program::Aktinoph => 2,
         };
-        for (at, state) in [(files, &old), (files + 1, &cut), (files + 2, &new)] {
-            let bench = Bench::new(program, &good());
-            let output = disturbed(&bench, &FIT, "end", "fsync", at);
-            assert_eq!(output.status.code(), Some(99));
-            assert_eq!(pair(&bench), *state);
+        let calls = [
+            (&FIT[..], [&old, &cut, &new]),
+            (&TAKE_BACK[..], [&new, &cut, &old]),
+        ];
+        for (arguments, states) in calls {
+            for (at, state) in (files..).zip(states) {
+                let bench = bench_with(program, states[0]);
+                let output = disturbed(&bench, arguments, "end", "fsync", at);
+                assert_eq!(output.expect("a sync").status.code(), Some(99));
+                assert_eq!(pair(&bench), *state);
+            }
         }
     });
 }
 
-/// Each call of the system that can fail, in its turn: nothing has changed and
-/// there is a message, or the call is done. Only where the line itself cannot
-/// be written are the files new and the output empty.
+/// What the message is about: the last part of the path before ": ".
+fn named(output: &Output) -> String {
+    let message = String::from_utf8(output.stderr.clone()).expect("plain text");
+    let (path, _) = message.split_once(": ").expect("a name and what is wrong");
+    path.rsplit('/').next().expect("a name").to_string()
+}
+
+/// Fails each of the calls of this name in its turn, until there are no more.
+/// Nothing has changed and there is a message, or the call is done. Only where
+/// the line itself cannot be written are the files new and the output empty.
+/// Gives what the messages name, without repeats.
+fn failed_in_turn(
+    program: Program,
+    arguments: &[&str],
+    call: &str,
+    old: &Pair,
+    new: &Pair,
+) -> Vec<String> {
+    let mut names = Vec::new();
+    let mut failed = 0;
+    loop {
+        let bench = bench_with(program, old);
+        let Some(output) = disturbed(&bench, arguments, "fail", call, failed + 1) else {
+            break;
+        };
+        failed += 1;
+        assert_eq!(bench.files().len(), 4, "no file is left over");
+        if output.stderr.is_empty() {
+            assert_eq!(line(&output), "0 0\n");
+            assert_eq!(pair(&bench), *new);
+            continue;
+        }
+        let name = named(&output);
+        bench.says(&output, &format!("{name}: "));
+        let state = if name == "standard output" { new } else { old };
+        assert_eq!(pair(&bench), *state, "{call} {failed}: {name}");
+        names.push(name);
+    }
+    assert!(failed > 0, "{call} has failed");
+    names.dedup();
+    names
+}
+
+/// Each call of the system that can fail, and what the messages name: the files
+/// in the order in which they are read, written and renamed. Where a file is
+/// closed, and after the last rename, a failure changes nothing.
 #[test]
 fn failed_at_every_call() {
+    let fit: [(&str, &[&str]); 5] = [
+        ("read", &["object", "order", "image", "ledger"]),
+        ("write", &["ledger", "image", "standard output"]),
+        ("fsync", &["ledger", "image"]),
+        ("close", &[]),
+        ("rename", &["ledger", "image"]),
+    ];
+    // The file that is replaced first is read once more before that.
+    let take_back: [(&str, &[&str]); 5] = [
+        ("read", &["image", "ledger", "image"]),
+        ("write", &["image", "ledger", "standard output"]),
+        ("fsync", &["image", "ledger"]),
+        ("close", &[]),
+        ("rename", &["image", "ledger"]),
+    ];
     on_both(|program| {
         let (old, new) = before_and_after();
-        for (arguments, old, new) in [(&FIT[..], &old, &new), (&TAKE_BACK[..], &new, &old)] {
-            for call in ["read", "write", "fsync", "close", "rename"] {
-                for at in 1..=12 {
-                    let bench = Bench::new(program, &good());
-                    bench.write("image", &old.0);
-                    bench.write("ledger", &old.1);
-                    let output = disturbed(&bench, arguments, "fail", call, at);
-                    let message = String::from_utf8_lossy(&output.stderr);
-                    println!("{call} {at}: {message}");
-                    if output.stdout == b"0 0\n" {
-                        assert_eq!(pair(&bench), *new);
-                    } else if message.contains("standard output: ") {
-                        assert_eq!(pair(&bench), *new);
-                        bench.says(&output, "standard output: ");
-                    } else {
-                        assert_eq!(pair(&bench), *old);
-                        bench.says(&output, ": ");
-                    }
-                    assert_eq!(bench.files().len(), 4, "no file is left over");
-                }
-            }
+        for (call, names) in fit {
+            assert_eq!(failed_in_turn(program, &FIT, call, &old, &new), names);
+        }
+        for (call, names) in take_back {
+            assert_eq!(failed_in_turn(program, &TAKE_BACK, call, &new, &old), names);
         }
     });
 }
@@ -137,10 +195,16 @@ fn failed_at_every_call() {
 #[test]
 fn second_rename_fails() {
     on_both(|program| {
-        let bench = Bench::new(program, &good());
-        let before = bench.files();
-        let output = disturbed(&bench, &FIT, "fail", "rename", 2);
-        bench.says(&output, "image: ");
-        assert_eq!(bench.files(), before);
+        let (old, new) = before_and_after();
+        for (arguments, before, name) in
+            [(&FIT[..], &old, "image"), (&TAKE_BACK[..], &new, "ledger")]
+        {
+            let bench = bench_with(program, before);
+            let files = bench.files();
+            let output = disturbed(&bench, arguments, "fail", "rename", 2).expect("a rename");
+            assert_eq!(named(&output), name);
+            bench.says(&output, &format!("{name}: "));
+            assert_eq!(bench.files(), files);
+        }
     });
 }

@@ -1,123 +1,159 @@
 //! Calls that cannot be made, or whose result cannot be kept: a message that
-//! names the file, nothing on standard output, and no file changes.
+//! names the file, nothing on standard output, and no file changes. Without the
+//! cause the same call is done.
 
 use std::fs;
-use std::os::unix::fs::{FileTypeExt, PermissionsExt};
+use std::io::Write;
+use std::os::unix::fs::{chown, symlink, FileTypeExt, MetadataExt, PermissionsExt};
 use std::os::unix::process::CommandExt;
 use std::path::Path;
-use std::process::Command;
+use std::process::{Command, Output, Stdio};
 
-use crate::bench::{empty, good, line, on_both, Bench, FIT, TAKE_BACK};
+use crate::bench::{empty, good, line, on_both, Bench, Program, FIT, TAKE_BACK};
+use testing::build::{journal, Fit};
 
 /// A user that owns no file.
 const NOBODY: u32 = 65_534;
 
-const NAMES: [&str; 4] = ["object", "order", "image", "ledger"];
+/// The arguments of a call.
+type Call = &'static [&'static str];
 
-/// `fit` with another name in one place.
-fn fit_with<'a>(place: usize, name: &'a str) -> Vec<&'a str> {
-    let mut arguments = FIT.to_vec();
-    arguments[place + 1] = name;
+/// Each call with files of its own: a fit where none stands, and a taking-back
+/// where one does.
+fn calls(program: Program, fit: &Fit) -> [(Bench, Call); 2] {
+    let [before, after] = [(); 2].map(|()| Bench::new(program, fit));
+    assert_eq!(line(&after.fit()), "0 0\n");
+    [(before, &FIT), (after, &TAKE_BACK)]
+}
+
+/// The call with another name in one place, counted from the end.
+fn with(call: Call, place: usize, name: &str) -> Vec<&str> {
+    let mut arguments = call.to_vec();
+    arguments[call.len() - place] = name;
     arguments
+}
+
+const LEDGER: usize = 1;
+const IMAGE: usize = 2;
+
+fn is_done(bench: &Bench, call: Call) {
+    command_is_done(&mut bench.command(call));
+}
+
+fn command_is_done(command: &mut Command) {
+    let output = command.output().expect("the program starts");
+    assert_eq!(line(&output), "0 0\n");
 }
 
 #[test]
 fn missing_files() {
     on_both(|program| {
-        let bench = Bench::new(program, &good());
-        for place in 0..4 {
-            bench.fails(&fit_with(place, "nowhere"), "nowhere: ");
-            bench.fails(&fit_with(place, "no/where"), "no/where: ");
-            bench.fails(&fit_with(place, "object/inside"), "object/inside: ");
-            bench.fails(&fit_with(place, ""), ": ");
+        for (bench, call) in calls(program, &good()) {
+            for place in 1..call.len() {
+                for name in ["nowhere", "no/where", "object/inside", ""] {
+                    bench.fails(&with(call, place, name), &format!("{name}: "));
+                }
+            }
+            is_done(&bench, call);
         }
-        bench.fails(&["take-back", "nowhere", "ledger"], "nowhere: ");
-        bench.fails(&["take-back", "image", "nowhere"], "nowhere: ");
+    });
+}
+
+/// What cannot be read is said before what is too long.
+#[test]
+fn missing_beside_long_files() {
+    on_both(|program| {
+        let bench = Bench::new(program, &good());
         bench.write("long", &vec![0; 65_537]);
         bench.fails(&["take-back", "long", "nowhere"], "nowhere: ");
+        bench.fails(&["fit", "long", "long", "long", "nowhere"], "nowhere: ");
     });
 }
 
 #[test]
 fn directories() {
     on_both(|program| {
-        let bench = Bench::new(program, &good());
-        for place in 0..4 {
-            bench.fails(&fit_with(place, "."), ".: ");
+        for (bench, call) in calls(program, &good()) {
+            for place in 1..call.len() {
+                bench.fails(&with(call, place, "."), ".: ");
+            }
+            is_done(&bench, call);
         }
-        bench.fails(&["take-back", ".", "ledger"], ".: ");
-        bench.fails(&["take-back", "image", "."], ".: ");
     });
 }
 
 #[test]
 fn wrong_arguments() {
+    let wrong: [&[&str]; 12] = [
+        &[],
+        &[""],
+        &["fit"],
+        &["fit", "object", "order", "image"],
+        &["fit", "object", "order", "image", "ledger", "more"],
+        &["take-back", "image"],
+        &["take-back", "image", "ledger", "more"],
+        &["install", "object", "order", "image", "ledger"],
+        &["Fit", "object", "order", "image", "ledger"],
+        &["fit ", "object", "order", "image", "ledger"],
+        &["take-backs", "image", "ledger"],
+        &["fit", "image", "ledger"],
+    ];
     on_both(|program| {
-        let bench = Bench::new(program, &good());
-        let wrong: [&[&str]; 12] = [
-            &[],
-            &[""],
-            &["fit"],
-            &["fit", "object", "order", "image"],
-            &["fit", "object", "order", "image", "ledger", "more"],
-            &["take-back", "image"],
-            &["take-back", "image", "ledger", "more"],
-            &["install", "object", "order", "image", "ledger"],
-            &["Fit", "object", "order", "image", "ledger"],
-            &["fit ", "object", "order", "image", "ledger"],
-            &["take-backs", "image", "ledger"],
-            &["fit", "image", "ledger"],
-        ];
-        for arguments in wrong {
-            bench.fails(arguments, "usage");
+        for (bench, call) in calls(program, &good()) {
+            for arguments in wrong {
+                bench.fails(arguments, "usage");
+            }
+            is_done(&bench, call);
         }
     });
+}
+
+/// A path of this many bytes to a file of the directory.
+fn padded(length: usize, name: &str) -> String {
+    let slashes = "/".repeat(length - 1 - name.len());
+    format!(".{slashes}{name}")
 }
 
 /// Linux takes paths of at most 4,095 bytes, and names of at most 255.
 #[test]
 fn long_names() {
     on_both(|program| {
-        let bench = Bench::new(program, &good());
-        let padded = |length: usize, name: &str| {
-            let slashes = "/".repeat(length - 1 - name.len());
-            format!(".{slashes}{name}")
-        };
-        for place in 0..4 {
-            for length in [4_096, 4_097, 8_000] {
-                bench.fails(&fit_with(place, &padded(length, NAMES[place])), ".////");
+        for (bench, call) in calls(program, &good()) {
+            for (place, name) in (1..call.len()).zip(call.iter().rev()) {
+                for length in [4_096, 4_097, 8_000] {
+                    bench.fails(&with(call, place, &padded(length, name)), ".////");
+                }
+                bench.fails(&with(call, place, &"n".repeat(256)), "nnnn");
             }
-            bench.fails(&fit_with(place, &"n".repeat(256)), "nnnn");
+            // There is no longer name for a new file beside this one.
+            let widest = "n".repeat(255);
+            fs::copy(bench.path("image"), bench.path(&widest)).expect("a copy");
+            bench.fails(&with(call, IMAGE, &widest), "nnnn");
+            let [image, ledger] = [padded(4_095, "image"), padded(4_094, "ledger")];
+            let mut longest = with(call, IMAGE, &image);
+            longest[call.len() - LEDGER] = &ledger;
+            assert_eq!(line(&bench.run(&longest)), "0 0\n");
         }
-        let [image, ledger] = [padded(4_095, "image"), padded(4_094, "ledger")];
-        assert_eq!(
-            line(&bench.run(&["fit", "object", "order", &image, &ledger])),
-            "0 0\n"
-        );
-        assert_eq!(line(&bench.run(&["take-back", &image, &ledger])), "0 0\n");
-        let widest = "n".repeat(255);
-        fs::copy(bench.path("image"), bench.path(&widest)).expect("a copy");
-        bench.fails(&fit_with(2, &widest), "nnnn");
     });
 }
 
 /// The program as a user who may do nothing that the modes do not allow.
-fn unprivileged(bench: &Bench, programs: &Bench, arguments: &[&str]) -> Command {
+fn unprivileged(bench: &Bench, programs: &Bench, call: Call) -> Command {
     let copy = programs.path("program");
     if !copy.exists() {
         fs::copy(bench.program.path(), &copy).expect("a copy of the program");
     }
     let mut command = Command::new(copy);
-    command.args(arguments).current_dir(bench.path(""));
+    command.args(call).current_dir(bench.path(""));
     // Only the superuser has to become somebody else.
-    if fs::metadata("/proc/self").is_ok_and(|own| is_superuser(&own)) {
+    if is_superuser() {
         command.uid(NOBODY).gid(NOBODY);
     }
     command
 }
 
-fn is_superuser(own: &fs::Metadata) -> bool {
-    use std::os::unix::fs::MetadataExt;
+fn is_superuser() -> bool {
+    let own = fs::metadata("/proc/self").expect("this process");
     own.uid() == 0
 }
 
@@ -129,13 +165,15 @@ fn set_mode(path: &Path, mode: u32) {
 fn unreadable_files() {
     on_both(|program| {
         let programs = Bench::new(program, &good());
-        let bench = Bench::new(program, &good());
-        for name in NAMES {
-            set_mode(&bench.path(name), 0);
-            let mut command = unprivileged(&bench, &programs, &FIT);
-            let output = command.output().expect("the program starts");
-            bench.says(&output, &format!("{name}: "));
-            set_mode(&bench.path(name), 0o644);
+        for (bench, call) in calls(program, &good()) {
+            for name in &call[1..] {
+                set_mode(&bench.path(name), 0);
+                let mut command = unprivileged(&bench, &programs, call);
+                bench.command_fails(&mut command, &format!("{name}: "));
+                set_mode(&bench.path(name), 0o644);
+            }
+            set_mode(&bench.path(""), 0o777);
+            command_is_done(&mut unprivileged(&bench, &programs, call));
         }
     });
 }
@@ -145,14 +183,14 @@ fn unreadable_files() {
 fn unwritable_directories() {
     on_both(|program| {
         let programs = Bench::new(program, &good());
-        let bench = Bench::new(program, &good());
-        set_mode(&bench.path(""), 0o555);
-        bench.command_fails(&mut unprivileged(&bench, &programs, &FIT), "ledger: ");
-        set_mode(&bench.path(""), 0o755);
-        assert_eq!(line(&bench.fit()), "0 0\n");
-        set_mode(&bench.path(""), 0o555);
-        bench.command_fails(&mut unprivileged(&bench, &programs, &TAKE_BACK), "image: ");
-        set_mode(&bench.path(""), 0o755);
+        let first = ["ledger", "image"];
+        for ((bench, call), first) in calls(program, &good()).into_iter().zip(first) {
+            set_mode(&bench.path(""), 0o555);
+            let mut command = unprivileged(&bench, &programs, call);
+            bench.command_fails(&mut command, &format!("{first}: "));
+            set_mode(&bench.path(""), 0o777);
+            command_is_done(&mut command);
+        }
     });
 }
 
@@ -160,18 +198,26 @@ fn unwritable_directories() {
 /// made, and cannot take its name. The first file is put back.
 #[test]
 fn files_of_others() {
+    if !is_superuser() {
+        // Past the harness, which keeps what a passed test prints.
+        let why = b"files_of_others: not run, only the superuser can make files of two owners\n";
+        std::io::stderr().write_all(why).expect("a message");
+        return;
+    }
     on_both(|program| {
         let programs = Bench::new(program, &good());
-        let bench = Bench::new(program, &good());
-        if !fs::metadata("/proc/self").is_ok_and(|own| is_superuser(&own)) {
-            println!("only the superuser can make files of two owners");
-            return;
+        let second = ["image", "ledger"];
+        for ((bench, call), second) in calls(program, &good()).into_iter().zip(second) {
+            set_mode(&bench.path(""), 0o1777);
+            for name in &call[1..] {
+                let owner = if *name == second { 0 } else { NOBODY };
+                chown(bench.path(name), Some(owner), None).expect("an owner");
+            }
+            let mut command = unprivileged(&bench, &programs, call);
+            bench.command_fails(&mut command, &format!("/{second}: "));
+            chown(bench.path(second), Some(NOBODY), None).expect("an owner");
+            command_is_done(&mut command);
         }
-        set_mode(&bench.path(""), 0o1777);
-        std::os::unix::fs::chown(bench.path("ledger"), Some(NOBODY), None).expect("an owner");
-        bench.command_fails(&mut unprivileged(&bench, &programs, &FIT), "image: ");
-        assert_eq!(line(&bench.fit()), "0 0\n");
-        bench.command_fails(&mut unprivileged(&bench, &programs, &TAKE_BACK), "image: ");
     });
 }
 
@@ -180,16 +226,14 @@ fn files_of_others() {
 fn read_only_files() {
     on_both(|program| {
         let programs = Bench::new(program, &good());
-        let bench = Bench::new(program, &good());
-        set_mode(&bench.path(""), 0o777);
-        set_mode(&bench.path("image"), 0o444);
-        set_mode(&bench.path("ledger"), 0o444);
-        let mut command = unprivileged(&bench, &programs, &FIT);
-        assert_eq!(
-            line(&command.output().expect("the program starts")),
-            "0 0\n"
-        );
-        assert_eq!(bench.read("image")[64..68], [1, 2, 3, 4]);
+        let laid = [[1, 2, 3, 4], [0x5A; 4]];
+        for ((bench, call), after) in calls(program, &good()).into_iter().zip(laid) {
+            set_mode(&bench.path(""), 0o777);
+            set_mode(&bench.path("image"), 0o444);
+            set_mode(&bench.path("ledger"), 0o444);
+            command_is_done(&mut unprivileged(&bench, &programs, call));
+            assert_eq!(bench.read("image")[64..68], after);
+        }
     });
 }
 
@@ -199,32 +243,73 @@ fn read_only_files() {
 fn unwritable_places() {
     on_both(|program| {
         let comm = "/proc/self/comm";
-        let bench = Bench::new(program, &empty());
-        bench.fails(&["fit", "object", "order", comm, "ledger"], comm);
-        assert_eq!(line(&bench.fit()), "0 0\n");
-        bench.fails(&["take-back", comm, "ledger"], comm);
+        for (bench, call) in calls(program, &empty()) {
+            bench.fails(&with(call, IMAGE, comm), comm);
+            is_done(&bench, call);
+        }
     });
 }
 
-/// A device is not replaced by a file.
+/// A device is not replaced by a file. As a ledger, the one is empty and so not
+/// sound, and the other has no end.
 #[test]
 fn devices() {
     on_both(|program| {
-        let bench = Bench::new(program, &empty());
-        let mut fit = bench.command(&["fit", "object", "order", "/dev/null", "ledger"]);
-        bench.command_fails(&mut fit, "/dev/null: ");
-        let device = fs::metadata("/dev/null").expect("the device is there");
-        assert!(device.file_type().is_char_device());
+        for (bench, call) in calls(program, &empty()) {
+            bench.fails(&with(call, IMAGE, "/dev/null"), "/dev/null: ");
+            let files = bench.files();
+            let with_ledger = |device| line(&bench.run(&with(call, LEDGER, device)));
+            assert_eq!(with_ledger("/dev/null"), "1 0\n");
+            assert_eq!(with_ledger("/dev/zero"), "too long\n");
+            assert_eq!(bench.files(), files);
+            for device in ["/dev/null", "/dev/zero"] {
+                let device = fs::metadata(device).expect("the device is there");
+                assert!(device.file_type().is_char_device());
+            }
+            is_done(&bench, call);
+        }
+    });
+}
+
+/// Runs a command with these bytes in a pipe.
+fn piped(mut command: Command, bytes: &[u8]) -> Output {
+    command.stdin(Stdio::piped());
+    command.stdout(Stdio::piped()).stderr(Stdio::piped());
+    let mut child = command.spawn().expect("the program starts");
+    let mut pipe = child.stdin.take().expect("a pipe");
+    pipe.write_all(bytes).expect("the pipe takes the bytes");
+    drop(pipe);
+    child.wait_with_output().expect("the program ends")
+}
+
+/// What comes through a pipe is read, and cannot be replaced.
+#[test]
+fn pipes() {
+    on_both(|program| {
+        for (bench, call) in calls(program, &good()) {
+            for place in [IMAGE, LEDGER] {
+                let files = bench.files();
+                let bytes = bench.read(call[call.len() - place]);
+                let command = bench.command(&with(call, place, "/dev/stdin"));
+                bench.says(&piped(command, &bytes), "/dev/stdin: ");
+                assert_eq!(bench.files(), files);
+            }
+            is_done(&bench, call);
+        }
     });
 }
 
 #[test]
 fn one_file_for_image_and_ledger() {
     on_both(|program| {
-        let bench = Bench::new(program, &empty());
-        let here = fs::canonicalize(bench.path("ledger")).expect("the file is there");
-        for other in ["ledger", "./ledger", here.to_str().expect("plain text")] {
-            bench.fails(&["fit", "object", "order", other, "ledger"], "ledger: ");
+        for (bench, call) in calls(program, &empty()) {
+            symlink("ledger", bench.path("link-to-ledger")).expect("a link");
+            let here = fs::canonicalize(bench.path("ledger")).expect("the file is there");
+            let here = here.to_str().expect("plain text");
+            for other in ["ledger", "./ledger", here, "link-to-ledger"] {
+                bench.fails(&with(call, IMAGE, other), "ledger: ");
+            }
+            is_done(&bench, call);
         }
     });
 }
@@ -233,18 +318,19 @@ fn one_file_for_image_and_ledger() {
 #[test]
 fn full_files() {
     on_both(|program| {
-        let mut fit = good();
-        fit.image.resize(4_096, 0xA5);
-        let bench = Bench::new(program, &fit);
-        let limited = |arguments: &[&str]| {
-            let mut command = Command::new("sh");
-            command.args(["-c", "trap '' XFSZ; ulimit -f 1; exec \"$@\"", "sh"]);
-            command.arg(bench.program.path()).args(arguments);
-            command.current_dir(bench.path(""));
-            command
-        };
-        bench.command_fails(&mut limited(&FIT), "image: ");
-        assert_eq!(line(&bench.fit()), "0 0\n");
-        bench.command_fails(&mut limited(&TAKE_BACK), "image: ");
+        let mut long_image = good();
+        long_image.image.resize(4_096, 0xA5);
+        let mut long_ledger = good();
+        long_ledger.journal = journal(4_000);
+        for (fit, long) in [(long_image, "image"), (long_ledger, "ledger")] {
+            for (bench, call) in calls(program, &fit) {
+                let mut command = Command::new("sh");
+                command.args(["-c", "trap '' XFSZ; ulimit -f 1; exec \"$@\"", "sh"]);
+                command.arg(bench.program.path()).args(call);
+                command.current_dir(bench.path(""));
+                bench.command_fails(&mut command, &format!("{long}: "));
+                is_done(&bench, call);
+            }
+        }
     });
 }

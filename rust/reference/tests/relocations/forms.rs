@@ -138,9 +138,9 @@ fn shifted(kind: u8, word: u64, width: usize) -> Fit {
     fit
 }
 
-/// The form asked for is that of the object, whatever the image held before and
-/// whatever the relocation before it left.
-fn as_found() -> Case {
+/// An instruction between relocated data: its form is read at its own place.
+/// What the data becomes, on either side, would be a branch and no jal.
+fn between_data() -> Case {
     let list = [
         Relocation::new(0, SET8, 1, 0),
         Relocation::new(1, SET8, 1, 0),
@@ -154,7 +154,7 @@ fn as_found() -> Case {
 }
 
 pub fn cases() -> Vec<Case> {
-    let mut cases = vec![as_found()];
+    let mut cases = vec![between_data()];
     cases.extend(words_of(HI20, &[0x37]));
     cases.extend(words_of(PCREL_HI20, &[0x17]));
     cases.extend(words_of(JAL, &[0x6F]));

@@ -100,6 +100,90 @@ fn overlaps() -> Vec<Case> {
     cases
 }
 
+/// Data in each byte of an instruction, and right behind it. The instruction's
+/// form is right, so that only the overlap can be wrong.
+fn data_in_instructions() -> Vec<Case> {
+    let mut cases = Vec::new();
+    // A PCREL_LO12 would need its pair too.
+    let is_alone = |kind: &u8| !matches!(*kind, PCREL_LO12_I | PCREL_LO12_S);
+    let instructions = STORING.into_iter().filter(|(_, word, _)| *word != 0);
+    for (first, word, width) in instructions.filter(|(kind, _, _)| is_alone(kind)) {
+        for second in [WORD, SUB6] {
+            for offset in 1..=width {
+                let code = [low_bytes(word, width), vec![0; 4]].concat();
+                let fit = two((first, 0), (second, offset as u32), &code);
+                let answer = if offset < width { (9, 1) } else { DONE };
+                let name = format!("type {first}, and data {second} {offset} behind");
+                cases.push(Case::new(name, &fit, answer));
+            }
+        }
+    }
+    cases
+}
+
+/// Two relocations by type and offset, towards the section's start.
+fn two(first: (u8, u32), second: (u8, u32), code: &[u8]) -> Fit {
+    let list = [first, second].map(|(kind, offset)| Relocation::new(offset, kind, 1, 0));
+    at(PLACE, code, &[Symbol::absolute(PLACE)], &list)
+}
+
+/// The type of a relocation at 0, type and offset of a second one, the
+/// section's words, the answer.
+type Overlap = (u8, (u8, u32), &'static [u32], Answer);
+
+/// Both relocations find the instruction that they ask for.
+const INSTRUCTIONS: [Overlap; 26] = [
+    (CALL, (LO12_I, 4), &[0x97, 0x80E7], (9, 1)),
+    (CALL, (LO12_I, 8), &[0x97, 0x80E7, 0x13], DONE),
+    (CALL_PLT, (LO12_I, 4), &[0x97, 0x80E7], (9, 1)),
+    (CALL_PLT, (LO12_I, 8), &[0x97, 0x80E7, 0x13], DONE),
+    (CALL, (PCREL_HI20, 2), &[0x0017_0097, 0x80E7], (9, 1)),
+    (CALL, (JAL, 2), &[0x006F_0097, 0x80E7], (9, 1)),
+    (CALL, (JAL, 8), &[0x97, 0x80E7, 0x6F], DONE),
+    (CALL, (RVC_JUMP, 2), &[0xA001_0097, 0x80E7], (9, 1)),
+    // Through x3: bit 16 belongs to rs1, and to the jump's quadrant.
+    (CALL, (RVC_JUMP, 6), &[0x197, 0xA001_80E7], (9, 1)),
+    (CALL, (RVC_JUMP, 8), &[0x97, 0x80E7, 0xA001], DONE),
+    (JAL, (RVC_JUMP, 2), &[0xA001_006F], (9, 1)),
+    (JAL, (RVC_JUMP, 4), &[0x6F, 0xA001], DONE),
+    (JAL, (JAL, 2), &[0x006F_006F, 0], (9, 1)),
+    (JAL, (JAL, 4), &[0x6F, 0x6F], DONE),
+    (BRANCH, (RVC_BRANCH, 2), &[0xC101_0063], (9, 1)),
+    (BRANCH, (RVC_BRANCH, 4), &[0x63, 0xC101], DONE),
+    (RVC_BRANCH, (RVC_JUMP, 2), &[0xA001_C101], DONE),
+    (RVC_JUMP, (JAL, 2), &[0x006F_A001, 0], DONE),
+    (HI20, (LO12_I, 2), &[0x0013_0037, 0], (9, 1)),
+    (HI20, (LO12_I, 4), &[0x37, 0x13], DONE),
+    (PCREL_HI20, (LO12_S, 2), &[0x0023_0017, 0], (9, 1)),
+    (PCREL_HI20, (LO12_S, 4), &[0x17, 0x23], DONE),
+    (WORD, (JAL, 2), &[0x006F_0000, 0], (9, 1)),
+    (SET16, (JAL, 2), &[0x006F_0000, 0], DONE),
+    (ADD64, (CALL, 4), &[0, 0x97, 0x80E7], (9, 1)),
+    (ADD64, (CALL, 8), &[0, 0, 0x97, 0x80E7], DONE),
+];
+
+/// The two together, and each alone, which is done: only the overlap can be
+/// wrong.
+fn overlapping_instructions() -> Vec<Case> {
+    let mut cases = Vec::new();
+    for (first, second, code, answer) in INSTRUCTIONS {
+        let name = format!("type {first}, and type {} at {}", second.0, second.1);
+        let fit = two((first, 0), second, &words(code));
+        cases.push(Case::new(&name, &fit, answer));
+        for alone in [0..12, 12..24] {
+            let mut fit = fit.clone();
+            let list = &mut fit.sections[3].bytes;
+            *list = list[alone.clone()].to_vec();
+            let name = format!("{name}: bytes {alone:?} of the two alone");
+            cases.push(Case::new(name, &fit, DONE));
+        }
+    }
+    // No word is both a jalr and a jal, so that 11 is broken too: 9 is first.
+    let fit = two((CALL, 0), (JAL, 4), &words(&[0x97, 0x80E7]));
+    cases.push(Case::new("JAL at a call's jalr", &fit, (9, 1)));
+    cases
+}
+
 fn markers_between() -> Vec<Row> {
     let over = |name, between: &[(u32, u8, i32)], offset, answer| {
         let mut list = vec![(0, WORD, 0)];
@@ -229,6 +313,8 @@ pub fn cases() -> Vec<Case> {
     let mut cases: Vec<Case> = rows.iter().map(case).collect();
     cases.extend(ends());
     cases.extend(overlaps());
+    cases.extend(data_in_instructions());
+    cases.extend(overlapping_instructions());
     cases.extend(equal_offsets());
     cases.extend(equal_instructions());
     cases.extend(low_half_addends());

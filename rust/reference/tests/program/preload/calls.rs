@@ -1,7 +1,8 @@
 //! Preloaded into a program under test: ends it, or fails, at one of its calls
 //! of the C library that read, write, sync, rename or remove a file.
 //! `PRELOAD_ACT` is `end` or `fail`, `PRELOAD_CALL` the call's name or `any`,
-//! and `PRELOAD_AT` its number, counted from 1.
+//! and `PRELOAD_AT` its number, counted from 1. A file `acted` in the working
+//! directory then shows that the call was made.
 
 use std::ffi::{c_char, c_int, c_void, CStr};
 use std::sync::atomic::{AtomicU32, Ordering};
@@ -9,6 +10,7 @@ use std::sync::atomic::{AtomicU32, Ordering};
 extern "C" {
     fn getenv(name: *const c_char) -> *const c_char;
     fn dlsym(handle: *mut c_void, name: *const c_char) -> *mut c_void;
+    fn creat(path: *const c_char, mode: u32) -> c_int;
     fn _exit(status: c_int) -> !;
     fn __errno_location() -> *mut c_int;
 }
@@ -36,6 +38,7 @@ fn fails(name: &CStr) -> bool {
     if variable(c"PRELOAD_AT").parse() != Ok(count) {
         return false;
     }
+    unsafe { creat(c"acted".as_ptr(), 0o644) };
     if variable(c"PRELOAD_ACT") == "end" {
         unsafe { _exit(99) }
     }

@@ -1,0 +1,3 @@
+_start: call main
+        .align 4
+halt:   j halt

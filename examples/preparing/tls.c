@@ -1,0 +1,1 @@
+_Thread_local int own = 1; int *f(void) { return &own; }

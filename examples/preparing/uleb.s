@@ -1,0 +1,4 @@
+start:  call outer
+end:    ret
+        .section .rodata
+        .uleb128 end - start

@@ -1,0 +1,1 @@
+extern void hook(void) __attribute__((weak)); void f(void) { if (hook) hook(); }

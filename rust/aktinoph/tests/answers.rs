@@ -1,0 +1,107 @@
+//! Document 01's answers: their numbers and places, what the C header calls
+//! them, and in which words they are written.
+
+use aktinoph::{Answer, LEDGER_HEAD};
+
+/// The header's name, the answer, its number and place, and its words.
+type Row = (&'static str, Answer, u32, u32, &'static str);
+
+#[rustfmt::skip]
+const ANSWERS: [Row; 17] = [
+    ("AKTINOPH_DONE", Answer::Done, 0, 0, "done"),
+    ("AKTINOPH_JOURNAL_UNSOUND", Answer::JournalUnsound, 1, 0,
+     "the ledger is not sound"),
+    ("AKTINOPH_ORDER_MALFORMED", Answer::OrderMalformed, 2, 0,
+     "the order's bytes are malformed"),
+    ("AKTINOPH_WINDOW_BROKEN", Answer::WindowBroken, 3, 0,
+     "the image is too long, or the window ends above 2^32"),
+    ("AKTINOPH_BAD_HEADER", Answer::BadHeader, 4, 0,
+     "the ELF header or the object's length is not allowed"),
+    ("AKTINOPH_BAD_SECTION", Answer::BadSection(31), 5, 31,
+     "section 31: the section header breaks a rule"),
+    ("AKTINOPH_PLACEMENTS_DIFFER", Answer::PlacementsDiffer(u32::MAX), 6, u32::MAX,
+     "section 4294967295: only placed, or only allocated"),
+    ("AKTINOPH_WRONG_EXTERNAL", Answer::WrongExternal(0), 7, 0,
+     "symbol 0: a value for a symbol that is not undefined"),
+    ("AKTINOPH_MISPLACED", Answer::Misplaced(3), 8, 3,
+     "section 3: misaligned, outside the window, or overlapping"),
+    ("AKTINOPH_RELOCATION_SHAPE", Answer::RelocationShape(0), 9, 0,
+     "relocation 0: type, offset, overlap or addend is not allowed"),
+    ("AKTINOPH_SYMBOL_UNRESOLVED", Answer::SymbolUnresolved(4_095), 10, 4_095,
+     "relocation 4095: the symbol does not resolve"),
+    ("AKTINOPH_WRONG_INSTRUCTION", Answer::WrongInstruction(1), 11, 1,
+     "relocation 1: not an instruction that the type is for"),
+    ("AKTINOPH_NOT_ONE_PAIR", Answer::NotOnePair(2), 12, 2,
+     "relocation 2: not exactly one PCREL_HI20 for this PCREL_LO12"),
+    ("AKTINOPH_OUT_OF_REACH", Answer::OutOfReach(7), 13, 7,
+     "relocation 7: the distance is odd or too far"),
+    ("AKTINOPH_PADDING_OFF_BOUNDARY", Answer::PaddingOffBoundary(8), 14, 8,
+     "relocation 8: the padding does not end on its boundary"),
+    ("AKTINOPH_JOURNAL_FULL", Answer::JournalFull, 15, 0,
+     "the ledger has 16 fits, or no room for the old bytes"),
+    ("AKTINOPH_NOTHING_STANDS", Answer::NothingStands, 16, 0,
+     "no fit stands"),
+];
+
+#[test]
+fn numbers_places_and_words() {
+    for (_, answer, number, place, words) in ANSWERS {
+        assert_eq!((answer.number(), answer.place()), (number, place));
+        assert_eq!(answer.to_string(), words);
+        assert_eq!(answer.is_done(), number == 0);
+    }
+}
+
+/// As an error, an answer has the same words.
+#[test]
+fn refusals() {
+    assert_eq!(Answer::Done.check(), Ok(()));
+    for (_, answer, _, _, words) in &ANSWERS[1..] {
+        let refusal = answer.check().expect_err("refused");
+        assert_eq!(refusal.answer(), *answer);
+        assert_eq!(refusal.to_string(), *words);
+    }
+}
+
+/// "row table (place 0) or row rule": no section is to blame for the table.
+#[test]
+fn words_of_the_whole_table() {
+    let words = Answer::BadSection(0).to_string();
+    assert_eq!(
+        words,
+        "the section header table, or section 0, breaks a rule"
+    );
+}
+
+const HEADER: &str = include_str!("../../../include/aktinoph.h");
+
+/// Name, number and comment of each line `NAME = NUMBER, /* COMMENT */`.
+fn enumerators() -> Vec<(&'static str, u32, &'static str)> {
+    let lines = HEADER.lines().filter_map(|line| line.split_once(" = "));
+    let parts = |(name, rest): (&'static str, &'static str)| {
+        let (number, comment) = rest.split_once("/*").expect("a comment");
+        let number = number.trim().trim_end_matches(',');
+        let comment = comment.trim_end().strip_suffix("*/").expect("its end");
+        let number = number.parse().expect("a number");
+        (name.trim(), number, comment.trim())
+    };
+    lines.map(parts).collect()
+}
+
+/// The header has these names and numbers and no others, and explains each.
+#[test]
+fn header_names_and_numbers() {
+    let given: Vec<_> = enumerators().iter().map(|line| (line.0, line.1)).collect();
+    assert_eq!(given, ANSWERS.map(|row| (row.0, row.2)));
+    for (name, _, comment) in enumerators() {
+        assert!(!comment.is_empty(), "{name}");
+    }
+}
+
+/// "count n ...; 16 entries of start u32 and length u32 ...; count k"
+#[test]
+fn bytes_before_the_old_bytes() {
+    assert_eq!(LEDGER_HEAD, 136);
+    let defined = |line: &&str| **line == *"#define AKTINOPH_LEDGER_HEAD 136";
+    assert_eq!(HEADER.lines().filter(defined).count(), 1);
+}
