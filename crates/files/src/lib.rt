@@ -285,7 +285,7 @@ fn target(given: &[u8], path: &mut [u8]) -> Replaced
         };
     }
     let mode = modes::mode_of(fd);
-    let n = own_path(fd, mode.is_plain, path);
+    let n = own_path(fd, mode.plain, path);
     libc::close(fd);
     if n == 0 {
         io::write_all(libc::STDERR_FILENO, given);

@@ -7,7 +7,7 @@ use libc::types::timespec;
 
 // The permission bits, of 0o7777, the owner and the group; they mean nothing where the file is not a plain one.
 pub struct Mode {
-    pub is_plain: bool,
+    pub plain: bool,
     pub bits: u32,
     pub owner: u32,
     pub group: u32,
@@ -59,10 +59,10 @@ fn ask(fd: i32, mut st: stat) -> Asked {
 
 // That of a file that is not open.
 pub fn unknown() -> Mode
-    ensures { λ r. ⌜ (r .is_plain ≡ false) × (r .bits < 4096) ⌝ }
+    ensures { λ r. ⌜ (r .plain ≡ false) × (r .bits < 4096) ⌝ }
 {
     Mode {
-        is_plain: false,
+        plain: false,
         bits: 0,
         owner: 0,
         group: 0,
@@ -75,7 +75,7 @@ pub fn mode_of(fd: i32) -> Mode
 {
     let a = ask(fd, blank());
     Mode {
-        is_plain: (a.status == 0) & (a.mode / 0o10000 == 8),
+        plain: (a.status == 0) & (a.mode / 0o10000 == 8),
         bits: a.mode % 0o10000,
         owner: a.owner,
         group: a.group,
