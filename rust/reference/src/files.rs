@@ -3,6 +3,7 @@
 
 use std::fs::{self, File, OpenOptions};
 use std::io::{Read, Write};
+use std::os::unix::fs::{fchown, MetadataExt};
 use std::path::{Path, PathBuf};
 
 use reference::MAX_BYTES;
@@ -76,8 +77,11 @@ impl Replacement {
             .open(&new)
             .map_err(failed)?;
         let replacement = Replacement { new, old };
-        file.write_all(bytes)
-            .and_then(|()| file.set_permissions(attributes.permissions()))
+        // Owner and group are kept where the system lets the program, and the
+        // mode comes before the bytes.
+        let _ = fchown(&file, Some(attributes.uid()), Some(attributes.gid()));
+        file.set_permissions(attributes.permissions())
+            .and_then(|()| file.write_all(bytes))
             .and_then(|()| file.sync_all())
             .map_err(failed)?;
         Ok(replacement)

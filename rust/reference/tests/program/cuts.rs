@@ -161,19 +161,24 @@ fn failed_in_turn(
 
 /// Each call of the system that can fail, and what the messages name: the files
 /// in the order in which they are read, written and renamed. Where a file is
-/// closed, and after the last rename, a failure changes nothing.
+/// closed or given to its owner, and after the last rename, a failure changes
+/// nothing.
 #[test]
 fn failed_at_every_call() {
-    let fit: [(&str, &[&str]); 5] = [
+    let fit: [(&str, &[&str]); 7] = [
         ("read", &["object", "order", "image", "ledger"]),
+        ("fchown", &[]),
+        ("fchmod", &["ledger", "image"]),
         ("write", &["ledger", "image", "standard output"]),
         ("fsync", &["ledger", "image"]),
         ("close", &[]),
         ("rename", &["ledger", "image"]),
     ];
     // The file that is replaced first is read once more before that.
-    let take_back: [(&str, &[&str]); 5] = [
+    let take_back: [(&str, &[&str]); 7] = [
         ("read", &["image", "ledger", "image"]),
+        ("fchown", &[]),
+        ("fchmod", &["image", "ledger"]),
         ("write", &["image", "ledger", "standard output"]),
         ("fsync", &["image", "ledger"]),
         ("close", &[]),

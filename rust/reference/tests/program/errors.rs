@@ -157,6 +157,19 @@ fn is_superuser() -> bool {
     own.uid() == 0
 }
 
+/// Whether files can be given to another owner. Where they cannot, a message
+/// says that the test is not run.
+fn can_give_files(test: &str) -> bool {
+    if !is_superuser() {
+        // Past the harness, which keeps what a passed test prints.
+        let why = format!("{test}: not run, only the superuser can give a file away\n");
+        std::io::stderr()
+            .write_all(why.as_bytes())
+            .expect("a message");
+    }
+    is_superuser()
+}
+
 fn set_mode(path: &Path, mode: u32) {
     fs::set_permissions(path, fs::Permissions::from_mode(mode)).expect("permissions");
 }
@@ -198,10 +211,7 @@ fn unwritable_directories() {
 /// made, and cannot take its name. The first file is put back.
 #[test]
 fn files_of_others() {
-    if !is_superuser() {
-        // Past the harness, which keeps what a passed test prints.
-        let why = b"files_of_others: not run, only the superuser can make files of two owners\n";
-        std::io::stderr().write_all(why).expect("a message");
+    if !can_give_files("files_of_others") {
         return;
     }
     on_both(|program| {
@@ -217,6 +227,29 @@ fn files_of_others() {
             bench.command_fails(&mut command, &format!("/{second}: "));
             chown(bench.path(second), Some(NOBODY), None).expect("an owner");
             command_is_done(&mut command);
+        }
+    });
+}
+
+/// A file that the superuser replaces stays its owner's.
+#[test]
+fn owners() {
+    if !can_give_files("owners") {
+        return;
+    }
+    on_both(|program| {
+        for (bench, call) in calls(program, &good()) {
+            let owners = [("image", (NOBODY, 7)), ("ledger", (7, NOBODY))];
+            for (name, (owner, group)) in owners {
+                chown(bench.path(name), Some(owner), Some(group)).expect("an owner");
+                set_mode(&bench.path(name), 0o600);
+            }
+            is_done(&bench, call);
+            for (name, owner) in owners {
+                let file = fs::metadata(bench.path(name)).expect("the file is there");
+                assert_eq!((file.uid(), file.gid()), owner, "{name}");
+                assert_eq!(file.mode() & 0o7777, 0o600);
+            }
         }
     });
 }

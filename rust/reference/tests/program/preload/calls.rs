@@ -1,5 +1,6 @@
 //! Preloaded into a program under test: ends it, or fails, at one of its calls
-//! of the C library that read, write, sync, rename or remove a file.
+//! of the C library that read, write, sync, rename or remove a file, or say
+//! whose it is and who may use it.
 //! `PRELOAD_ACT` is `end` or `fail`, `PRELOAD_CALL` the call's name or `any`,
 //! and `PRELOAD_AT` its number, counted from 1. A file `acted` in the working
 //! directory then shows that the call was made.
@@ -66,6 +67,8 @@ macro_rules! calls {
 calls! {
     read(file: c_int, bytes: *mut c_void, length: usize) -> isize;
     write(file: c_int, bytes: *const c_void, length: usize) -> isize;
+    fchown(file: c_int, owner: u32, group: u32) -> c_int;
+    fchmod(file: c_int, mode: u32) -> c_int;
     fsync(file: c_int) -> c_int;
     close(file: c_int) -> c_int;
     rename(from: *const c_char, to: *const c_char) -> c_int;
