@@ -6,7 +6,7 @@ ghost use lib.ListN.{length};
 ghost use Rattle.word.specs.Bytes.{leAt};
 ghost use Rattle.word.specs.Whole.{signed};
 ghost use Rattle.validate.specs.Facts.{SoundObject};
-ghost use Rattle.symbols.specs.Values.{SymbolsOf};
+ghost use Rattle.symbols.specs.Facts.{SymbolsOf};
 ghost use Rattle.rela.specs.Sites.{entry, effect, offset};
 ghost use Rattle.effects.specs.Effects.{touched, needsPair};
 ghost use Rattle.rules.specs.Rules.{isResolved, inTarget, symbolWell, isData, standsWell, formWell, isOne, pairWell, reachesWell, distanceWell, boundaryWell};

@@ -10,7 +10,7 @@ use Rattle.order.specs.Orders.{placementCount}
 use Rattle.order.specs.Windows.{maxImage}
 use Rattle.journal.specs.declared.Span.{Span}
 use Rattle.journal.specs.Journals.{count, Sound}
-use Rattle.history.specs.Calls.{Files, done, install, rollback, Call, Fit, TakeBack, calling}
+use Rattle.history.specs.Calls.{Files, done, install, rollback, Call, InstallCall, RollbackCall, calling}
 use Rattle.history.specs.Histories.{Start, Holds}
 use Rattle.history.specs.Records.{Appended, Released}
 use Rattle.judgement.specs.Judgement.{judgement}
@@ -19,52 +19,52 @@ use Rattle.demands.specs.First.{Checks, none, one, AllHold, FirstBroken,
 use Rattle.demands.specs.Laid.{IsSpan, Laid}
 
 -- "A taking-back checks 1, 3 (length only), 16."
-unfoldable pub backTable : Files → Checks
-backTable f = one 1 (Sound (f .journal) (length (f .image))) (one 3 (length (f .image) ≤ maxImage) (one 16 (0 < count (f .journal)) none))
+unfoldable pub rollbackTable : Files → Checks
+rollbackTable f = one 1 (Sound (f .journal) (length (f .image))) (one 3 (length (f .image) ≤ maxImage) (one 16 (0 < count (f .journal)) none))
 
 -- "Any object, order, slot image and ledger, of any bytes and any length, gets an answer in the end": both are functions on all lists.
-pub record Demand1 (fit : Fit) (takeBack : TakeBack) : Type 0 where
+pub record Demand1 (installs : InstallCall) (rollsBack : RollbackCall) : Type 0 where
   -- "A refusal gives its number and place from document 01,"
-  pub fit-refused : (object order : List ℕ) (f : Files) → (fit object order f .answer ≡ done → ⊥)
-      → FirstBroken (table object order f) (fit object order f .answer .number) (fit object order f .answer .place)
-  pub back-refused : (f : Files) → (takeBack f .answer ≡ done → ⊥) → FirstBroken (backTable f) (takeBack f .answer .number) (takeBack f .answer .place)
+  pub install-refused : (object order : List ℕ) (f : Files) → (installs object order f .answer ≡ done → ⊥)
+      → FirstBroken (table object order f) (installs object order f .answer .number) (installs object order f .answer .place)
+  pub rollback-refused : (f : Files) → (rollsBack f .answer ≡ done → ⊥) → FirstBroken (rollbackTable f) (rollsBack f .answer .number) (rollsBack f .answer .place)
   -- of a taking-back, "given exactly when" (of a fit, demand 2 has it)
-  pub back-holds : (f : Files) → takeBack f .answer ≡ done → AllHold (backTable f)
-  pub back-first : (f : Files) (n p : ℕ) → FirstBroken (backTable f) n p → takeBack f .answer ≡ record { number = n; place = p }
+  pub rollback-holds : (f : Files) → rollsBack f .answer ≡ done → AllHold (rollbackTable f)
+  pub rollback-first : (f : Files) (n p : ℕ) → FirstBroken (rollbackTable f) n p → rollsBack f .answer ≡ record { number = n; place = p }
   -- "and image and ledger then hold exactly the bytes they held."
-  pub fit-kept : (object order : List ℕ) (f : Files) → (fit object order f .answer ≡ done → ⊥) → fit object order f .after ≡ f
-  pub back-kept : (f : Files) → (takeBack f .answer ≡ done → ⊥) → takeBack f .after ≡ f
+  pub install-kept : (object order : List ℕ) (f : Files) → (installs object order f .answer ≡ done → ⊥) → installs object order f .after ≡ f
+  pub rollback-kept : (f : Files) → (rollsBack f .answer ≡ done → ⊥) → rollsBack f .after ≡ f
 
-pub record Demand2 (fit : Fit) : Type 0 where
+pub record Demand2 (installs : InstallCall) : Type 0 where
   -- "A fit is done exactly when every rule of document 01 holds;"
-  pub done-holds : (object order : List ℕ) (f : Files) → fit object order f .answer ≡ done → Rules object order f
-  pub holds-done : (object order : List ℕ) (f : Files) → Rules object order f → fit object order f .answer ≡ done
+  pub done-holds : (object order : List ℕ) (f : Files) → installs object order f .answer ≡ done → Rules object order f
+  pub holds-done : (object order : List ℕ) (f : Files) → Rules object order f → installs object order f .answer ≡ done
   -- "otherwise the first broken rule is named."
-  pub refused-first : (object order : List ℕ) (f : Files) → (fit object order f .answer ≡ done → ⊥)
-      → FirstBroken (table object order f) (fit object order f .answer .number) (fit object order f .answer .place)
-  pub first-refused : (object order : List ℕ) (f : Files) (n p : ℕ) → FirstBroken (table object order f) n p → fit object order f .answer ≡ record { number = n; place = p }
+  pub refused-first : (object order : List ℕ) (f : Files) → (installs object order f .answer ≡ done → ⊥)
+      → FirstBroken (table object order f) (installs object order f .answer .number) (installs object order f .answer .place)
+  pub first-refused : (object order : List ℕ) (f : Files) (n p : ℕ) → FirstBroken (table object order f) n p → installs object order f .answer ≡ record { number = n; place = p }
   -- "Once done, each laid byte is the object's own or the field that the RISC-V ELF psABI 1.0 asks for. .. No other image byte changes."
-  pub laid : (object order : List ℕ) (f : Files) → fit object order f .answer ≡ done → Laid object order (f .image) (fit object order f .after .image)
+  pub laid : (object order : List ℕ) (f : Files) → installs object order f .answer ≡ done → Laid object order (f .image) (installs object order f .after .image)
   -- "An order without placements fits only an object with nothing to place."
-  pub nothing-to-place : (object order : List ℕ) (f : Files) → fit object order f .answer ≡ done → placementCount order ≡ 0
+  pub nothing-to-place : (object order : List ℕ) (f : Files) → installs object order f .answer ≡ done → placementCount order ≡ 0
       → (t : ℕ) → t < sectionCount object → allocated (sectionAt object t) ≡ false
 
 -- Document 01, "Ledger": what a call that is done leaves there
-pub record Journalled (fit : Fit) (takeBack : TakeBack) : Type 0 where
+pub record Journalled (installs : InstallCall) (rollsBack : RollbackCall) : Type 0 where
   -- "A fit appends the span's old bytes."
-  pub appends : (object order : List ℕ) (f : Files) → fit object order f .answer ≡ done
-      → (s : Span) × IsSpan object order s × Appended f (fit object order f .after) s
+  pub appends : (object order : List ℕ) (f : Files) → installs object order f .answer ≡ done
+      → (s : Span) × IsSpan object order s × Appended f (installs object order f .after) s
   -- "A taking-back writes them back, zeroes the entry and the released bytes, and lowers n and k."
-  pub releases : (f : Files) → takeBack f .answer ≡ done → Released f (takeBack f .after)
+  pub releases : (f : Files) → rollsBack f .answer ≡ done → Released f (rollsBack f .after)
 
 -- "Start with any image of allowed length and any sound ledger in which no fit stands. .. For every list of fits and takings-back from there,
 -- refused ones included, the following holds after it." The history goes by document 01's judgement.
-abbrev pub Demand3 : Fit → TakeBack → Type 0
-Demand3 fit takeBack = (start : Files) → Start start → (calls : List Call) → Holds (calling fit takeBack) judgement start calls
+abbrev pub Demand3 : InstallCall → RollbackCall → Type 0
+Demand3 installs rollsBack = (start : Files) → Start start → (calls : List Call) → Holds (calling installs rollsBack) judgement start calls
 
 -- the two calls that the fitter's contracts name
-abbrev pub ours : Fit
+abbrev pub ours : InstallCall
 ours = install judgement
 
-abbrev pub back : TakeBack
-back = rollback
+abbrev pub ours-back : RollbackCall
+ours-back = rollback

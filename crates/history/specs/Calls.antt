@@ -98,16 +98,16 @@ pub data Call : Type 0 where
   Rollback : Call
 
 -- any install and any rollback: each gives an answer, and leaves an image and a journal
-abbrev pub Fit : Type 0
-Fit = List ℕ → List ℕ → Files → Outcome Files
+abbrev pub InstallCall : Type 0
+InstallCall = List ℕ → List ℕ → Files → Outcome Files
 
-abbrev pub TakeBack : Type 0
-TakeBack = Files → Outcome Files
+abbrev pub RollbackCall : Type 0
+RollbackCall = Files → Outcome Files
 
 -- a call, made by these
-unfoldable pub calling : Fit → TakeBack → Files → Call → Outcome Files
-calling fit takeBack f (Install object order) = fit object order f
-calling fit takeBack f Rollback = takeBack f
+unfoldable pub calling : InstallCall → RollbackCall → Files → Call → Outcome Files
+calling installs rollsBack f (Install object order) = installs object order f
+calling installs rollsBack f Rollback = rollsBack f
 
 -- made by those above
 abbrev pub call : Judge → Files → Call → Outcome Files

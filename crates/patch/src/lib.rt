@@ -11,7 +11,7 @@ ghost use Rattle.elf.specs.Headers.{sectionCount};
 ghost use Rattle.elf.specs.Sections.{sectionAt, loaded};
 ghost use Rattle.validate.specs.Facts.{SoundObject};
 ghost use Rattle.order.specs.Orders.{reading};
-ghost use Rattle.symbols.specs.Values.{SymbolsOf};
+ghost use Rattle.symbols.specs.Facts.{SymbolsOf};
 ghost use Rattle.rela.specs.Sites.{count, entry, found};
 ghost use Rattle.values.specs.Values.{S};
 ghost use Rattle.effects.specs.Effects.{takesPair};

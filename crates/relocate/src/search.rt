@@ -3,7 +3,7 @@ ghost use mathlib.Core.Path.{_≡_};
 ghost use mathlib.Core.Bool.{true};
 ghost use Rattle.validate.specs.Facts.{SoundObject};
 ghost use Rattle.order.specs.Orders.{reading};
-ghost use Rattle.symbols.specs.Values.{SymbolsOf};
+ghost use Rattle.symbols.specs.Facts.{SymbolsOf};
 ghost use Rattle.rela.specs.Shape.{previous as «the-previous»};
 ghost use Rattle.rules.specs.Search.{finding, isBroken, relocationCheck};
 ghost use Rattle.rela.specs.Facts.{There, Placed};

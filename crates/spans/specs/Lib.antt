@@ -1,2 +1,3 @@
 pub mod Spans
 pub mod Pieces
+pub mod Facts

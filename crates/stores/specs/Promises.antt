@@ -1,18 +1,15 @@
 -- What the final bytes of a section say when they are read by the manual's fields. Assumes nothing: these are definitions.
 use mathlib.Core.Path.{_≡_}
-use mathlib.Core.Bool.{Bool, not, cond, _&&_}
+use mathlib.Core.Bool.{Bool, cond}
 use mathlib.Core.List.{List}
-use Prim.Native.Nat.{ℕ, zero, suc, _/_, _^_, _<_}
-use lib.Dec.{leb, ltb, eqb}
+use Prim.Native.Nat.{ℕ, zero, suc, _/_, _^_}
+use lib.Dec.{eqb}
 use lib.IntN.{ℤ, pos, _+ℤ_, _-ℤ_}
 use Rattle.word.specs.Bytes.{leAt}
-use Rattle.word.specs.First.{everywhere}
 use Rattle.word.specs.Whole.{residue, signed, minus}
 use Rattle.fields.specs.declared.Field.{Field}
-use Rattle.fields.specs.declared.Field.the-variants.{U}
 use Rattle.fields.specs.Layouts.{formatU, formatI, read, outside}
 use Rattle.fields.specs.Fields.{layout, valueBits}
-use Rattle.riscv.specs.declared.forms.Form.{Form}
 use Rattle.types.specs.declared.Calculation.{Calculation}
 use Rattle.types.specs.declared.Calculation.the-variants.{Absolute, PcRelative, Distance, BothHalves, HighPcRelative, HighAbsolute, LowAbsolute, LowOfPair, Add, Sub, Set}
 use Rattle.types.specs.declared.Decision.{Decision}
@@ -20,22 +17,10 @@ use Rattle.types.specs.declared.Decision.the-variants.{Marker, Align, Store, Re
 use Rattle.riscv.specs.Halves.{low}
 use Rattle.riscv.specs.Ranges.{distance}
 use Rattle.rela.specs.declared.sites.Site.{Site}
-use Rattle.values.specs.declared.pairs.Pair.the-variants.{At}
 use Rattle.rela.specs.Sites.{count, effect, offset, A, P, found}
 use Rattle.values.specs.Values.{S, T, valueAt}
-use Rattle.rela.specs.Shape.{end}
-use Rattle.values.specs.Pairs.{pairOf}
-use Rattle.rules.specs.Rules.{symbol}
 use Rattle.stores.specs.Patches.{highPart}
-use Rattle.stores.specs.Sections.{sumAt, distanceAt, pairDistance}
-
--- ---- bytes that no relocation touches
-
-unfoldable pub touches : List ℕ → Site → ℕ → ℕ → Bool
-touches object x j b = leb (offset object x j) b && ltb b (end object x j)
-
-unfoldable pub untouched : List ℕ → Site → ℕ → Bool
-untouched object x b = everywhere (λ j. not (touches object x j b)) (count x)
+use Rattle.stores.specs.Sections.{sumAt, pairDistance}
 
 -- ---- ADD, SUB and SET at one place
 
@@ -108,14 +93,3 @@ ReadsBack object order addresses x final j =
 -- a field that holds a high half and one that holds a low half, read out of the bytes w and v, add up to a number modulo 2^32
 abbrev pub AddUp : Field → ℕ → Field → ℕ → ℕ → Type 0
 AddUp f w g v number = residue 32 (pos (read (layout f) w) +ℤ signed 12 (read (layout g) v)) ≡ number
-
--- "the high half and the low half laid for one address or distance add up to it modulo 2^32"
-pub record Halves (object order addresses : List ℕ) (x : Site) (final : List ℕ) : Type 0 where
-  -- 26 with 27 or 28: for one address T, anywhere in the section
-  pub address : (i j : ℕ) → i < count x → j < count x → (f g : Field) (a b : Form) (m n : ℕ) → effect object x i ≡ Store HighAbsolute f a m → effect object x j ≡ Store LowAbsolute g b n
-      → T (S (valueAt object order addresses x i)) (A object x i) ≡ T (S (valueAt object order addresses x j)) (A object x j)
-      → AddUp f (leAt m final (offset object x i)) g (leAt n final (offset object x j)) (T (S (valueAt object order addresses x i)) (A object x i))
-  -- 23 with 24 or 25: there is one pair, and the two add up to its distance
-  pub distance : (j : ℕ) → j < count x → (g : Field) (b : Form) (n : ℕ) → effect object x j ≡ Store LowOfPair g b n
-      → (k : ℕ) × (k < count x) × (pairOf object x (symbol object x j .value) ≡ At k)
-      × AddUp U (leAt 4 final (offset object x k)) g (leAt n final (offset object x j)) (distanceAt object order addresses x k)

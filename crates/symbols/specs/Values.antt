@@ -1,6 +1,5 @@
 -- S, the value of a symbol ("How a record is read"). Assumes nothing: these are definitions.
-use mathlib.Core.Path.{_≡_}
-use Prim.Native.Nat.{ℕ, _<_}
+use Prim.Native.Nat.{ℕ}
 use mathlib.Core.Bool.{cond, _||_}
 use mathlib.Core.List.{List}
 use lib.ListN.{getD}
@@ -12,7 +11,6 @@ use Rattle.elf.specs.Entries.{symbolAt, symbolCount}
 use Rattle.lookup.specs.declared.Value.{Value}
 use Rattle.lookup.specs.declared.Value.the-variants.{Given, NotGiven}
 use Rattle.lookup.specs.Values.{externalValue}
-use Rattle.symbols.specs.declared.Symbols.{Symbols}
 use Rattle.symbols.specs.declared.SymbolValue.{SymbolValue}
 use Rattle.symbols.specs.declared.SymbolValue.the-variants.{Resolved, Unresolved}
 use Rattle.place.specs.Placements.{isAllocated}
@@ -51,8 +49,3 @@ symbolValue object order addresses k =
     (cond (ltb k (symbolCount object))
     (cond (eqb (y .kind) STT_TLS || eqb (y .kind) STT_GNU_IFUNC) Unresolved (ofSection object order addresses k y))
     Unresolved)
-
--- what a lookup asks of the symbol table that it is given
-pub record SymbolsOf (object : List ℕ) (y : Symbols) : Type 0 where
-  pub count : y .count ≡ symbolCount object
-  pub table : 0 < y .count → y .table ≡ sectionAt object (symbolTable object)

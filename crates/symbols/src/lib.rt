@@ -2,7 +2,8 @@
 ghost use mathlib.Core.Path.{_≡_};
 ghost use Rattle.validate.specs.Facts.{SoundObject};
 ghost use Rattle.order.specs.Orders.{reading};
-ghost use Rattle.symbols.specs.Values.{SymbolsOf, ofUndefined, ofSection, symbolValue};
+ghost use Rattle.symbols.specs.Values.{ofUndefined, ofSection, symbolValue};
+ghost use Rattle.symbols.specs.Facts.{SymbolsOf};
 use elf::Section;
 use elf::Symbol;
 use lookup::Addresses;

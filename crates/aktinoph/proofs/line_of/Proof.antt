@@ -6,9 +6,6 @@ use borrow.Author.Needs.{needs}
 use Rattle.aktinoph.proofs.line_of.Statement.{statement}
 use Rattle.aktinoph.proofs.line_of.Tie as tie
 
-answer-line-requires : tie.Need-answer-line-requires
-answer-line-requires c κs = search needs
-
 returns : tie.Need-returns
 returns c = (
   c .answer-line .ensures .0,
@@ -16,4 +13,4 @@ returns c = (
 )
 
 pub line-of-spec : {M : Type 1} → statement M
-line-of-spec = tie.close (tie.spec answer-line-requires returns)
+line-of-spec = tie.close (tie.spec (λ c κs. search needs) returns)

@@ -7,15 +7,9 @@ use borrow.Author.Needs.{needs}
 use Rattle.arith.proofs.add32.Statement.{statement}
 use Rattle.arith.proofs.add32.Tie as tie
 
-cast-wrapping-add-u32 : tie.Need-cast-wrapping-add-u32
-cast-wrapping-add-u32 c = search needs
-
-wrapping-add-u32-requires : tie.Need-wrapping-add-u32-requires
-wrapping-add-u32-requires c κs = search needs
-
 returns : tie.Need-returns
 unfolding plus
 returns c = c .wrapping-add-u32 .ensures ∙ add-mod-mod (c .before .args .v) (c .before .args .x) (2 ^ 32)
 
 pub add32-spec : {M : Type 1} → statement M
-add32-spec = tie.close (tie.spec cast-wrapping-add-u32 wrapping-add-u32-requires returns)
+add32-spec = tie.close (tie.spec (λ c. search needs) (λ c κs. search needs) returns)

@@ -4,12 +4,9 @@ use borrow.Author.Needs.{needs}
 use Rattle.arith.proofs.add64.Statement.{statement}
 use Rattle.arith.proofs.add64.Tie as tie
 
-wrapping-add-u64-requires : tie.Need-wrapping-add-u64-requires
-wrapping-add-u64-requires c κs = search needs
-
 returns : tie.Need-returns
 unfolding plus
 returns c = c .wrapping-add-u64 .ensures
 
 pub add64-spec : {M : Type 1} → statement M
-add64-spec = tie.close (tie.spec wrapping-add-u64-requires returns)
+add64-spec = tie.close (tie.spec (λ c κs. search needs) returns)

@@ -7,15 +7,9 @@ use borrow.Author.Needs.{needs}
 use Rattle.arith.proofs.add8.Statement.{statement}
 use Rattle.arith.proofs.add8.Tie as tie
 
-cast-wrapping-add-u8 : tie.Need-cast-wrapping-add-u8
-cast-wrapping-add-u8 c = search needs
-
-wrapping-add-u8-requires : tie.Need-wrapping-add-u8-requires
-wrapping-add-u8-requires c κs = search needs
-
 returns : tie.Need-returns
 unfolding plus
 returns c = c .wrapping-add-u8 .ensures ∙ add-mod-mod (c .before .args .v) (c .before .args .x) (2 ^ 8)
 
 pub add8-spec : {M : Type 1} → statement M
-add8-spec = tie.close (tie.spec cast-wrapping-add-u8 wrapping-add-u8-requires returns)
+add8-spec = tie.close (tie.spec (λ c. search needs) (λ c κs. search needs) returns)

@@ -6,9 +6,6 @@ use borrow.Author.Needs.{needs}
 use Rattle.arith.proofs.addend.Statement.{statement}
 use Rattle.arith.proofs.addend.Tie as tie
 
-add-result : tie.Need-add-result
-add-result c = search needs
-
 returns : tie.Need-returns
 returns c = sym (extend-low 64 32 (c .before .args .word) (omega arith) (omega arith))
 
@@ -16,4 +13,4 @@ returns-2 : tie.Need-returns-2
 returns-2 c = sym (extend-high 64 32 (c .before .args .word) 0xffff_ffff_0000_0000 (omega arith) (omega arith) refl)
 
 pub addend-spec : {M : Type 1} → statement M
-addend-spec = tie.close (tie.spec add-result returns returns-2)
+addend-spec = tie.close (tie.spec (λ c. search needs) returns returns-2)

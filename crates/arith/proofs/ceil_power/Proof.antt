@@ -13,21 +13,12 @@ returns : tie.Need-returns
 unfolding ceilPower ceilLog first
 returns c = rw (c .if1 .taken)
 
-sub-result : tie.Need-sub-result
-sub-result c = search needs
-
 sub-result-2 : tie.Need-sub-result-2
 sub-result-2 c = leading-le 32 (c .before .args .n - 1)
-
-cast-result : tie.Need-cast-result
-cast-result c = search needs
-
-shl-result : tie.Need-shl-result
-shl-result c = search needs
 
 returns-2 : tie.Need-returns-2
 returns-2 c = shift-ceil (c .before .args .n) (omega arith) (omega arith)
 
 pub ceil-power-spec : {M : Type 1} → statement M
 ceil-power-spec =
-    tie.close (tie.spec returns sub-result sub-result-2 cast-result shl-result returns-2)
+    tie.close (tie.spec returns (λ c. search needs) sub-result-2 (λ c. search needs) (λ c. search needs) returns-2)

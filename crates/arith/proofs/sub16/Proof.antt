@@ -5,14 +5,8 @@ use borrow.Author.Needs.{needs}
 use Rattle.arith.proofs.sub16.Statement.{statement}
 use Rattle.arith.proofs.sub16.Tie as tie
 
-cast-wrapping-sub-u16 : tie.Need-cast-wrapping-sub-u16
-cast-wrapping-sub-u16 c = search needs
-
-wrapping-sub-u16-requires : tie.Need-wrapping-sub-u16-requires
-wrapping-sub-u16-requires c κs = search needs
-
 returns : tie.Need-returns
 returns c = minus-wrapped 16 (c .before .args .v) (c .before .args .x) (c .wrapping-sub-u16 .result) (omega arith) (omega arith) (c .wrapping-sub-u16 .ensures)
 
 pub sub16-spec : {M : Type 1} → statement M
-sub16-spec = tie.close (tie.spec cast-wrapping-sub-u16 wrapping-sub-u16-requires returns)
+sub16-spec = tie.close (tie.spec (λ c. search needs) (λ c κs. search needs) returns)

@@ -5,14 +5,8 @@ use borrow.Author.Needs.{needs}
 use Rattle.arith.proofs.sub32.Statement.{statement}
 use Rattle.arith.proofs.sub32.Tie as tie
 
-cast-wrapping-sub-u32 : tie.Need-cast-wrapping-sub-u32
-cast-wrapping-sub-u32 c = search needs
-
-wrapping-sub-u32-requires : tie.Need-wrapping-sub-u32-requires
-wrapping-sub-u32-requires c κs = search needs
-
 returns : tie.Need-returns
 returns c = minus-wrapped 32 (c .before .args .v) (c .before .args .x) (c .wrapping-sub-u32 .result) (omega arith) (omega arith) (c .wrapping-sub-u32 .ensures)
 
 pub sub32-spec : {M : Type 1} → statement M
-sub32-spec = tie.close (tie.spec cast-wrapping-sub-u32 wrapping-sub-u32-requires returns)
+sub32-spec = tie.close (tie.spec (λ c. search needs) (λ c κs. search needs) returns)

@@ -7,11 +7,8 @@ use borrow.Author.Needs.{needs}
 use Rattle.arith.proofs.sub64.Statement.{statement}
 use Rattle.arith.proofs.sub64.Tie as tie
 
-wrapping-sub-u64-requires : tie.Need-wrapping-sub-u64-requires
-wrapping-sub-u64-requires c κs = search needs
-
 returns : tie.Need-returns
 returns c = minus-unique 64 (c .before .args .v) (c .before .args .x) (c .wrapping-sub-u64 .result) (omega arith) (c .wrapping-sub-u64 .ensures ∙ sym (mod-eq-of-lt (omega arith)))
 
 pub sub64-spec : {M : Type 1} → statement M
-sub64-spec = tie.close (tie.spec wrapping-sub-u64-requires returns)
+sub64-spec = tie.close (tie.spec (λ c κs. search needs) returns)

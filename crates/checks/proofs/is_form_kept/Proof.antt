@@ -10,30 +10,6 @@ use borrow.Author.Needs.{needs}
 use Rattle.checks.proofs.is_form_kept.Statement.{statement}
 use Rattle.checks.proofs.is_form_kept.Tie as tie
 
-read-relocation-requires : tie.Need-read-relocation-requires
-read-relocation-requires c κs = search needs
-
-cast-at : tie.Need-cast-at
-cast-at c = search needs
-
-cast-p : tie.Need-cast-p
-cast-p c = search needs
-
-cast-p-2 : tie.Need-cast-p-2
-cast-p-2 c = search needs
-
-add-p : tie.Need-add-p
-add-p c = search needs
-
-decide-requires : tie.Need-decide-requires
-decide-requires c κs = search needs
-
-enum-known-form : tie.Need-enum-known-form
-enum-known-form c = search needs
-
-section-bytes-requires : tie.Need-section-bytes-requires
-section-bytes-requires c κs = search needs
-
 has-form-at-requires : tie.Need-has-form-at-requires
 has-form-at-requires c κs =
     let a = c .before .before .before .before .before .before .before .before .before .before .args in
@@ -42,15 +18,6 @@ has-form-at-requires c κs =
     let told = ap (λ r. decision (r .kind)) (sym (c .before .before .before .before .before .before .before .before .read-relocation .ensures)) ∙ sym (c .before .before .before .before .decide .ensures) ∙ c .before .before .form .given .1 in
     let inside = store-inside s (a .site) (a .j) (f .0 .site) (f .1) _ (ap touched told) in
     (rw (c .section-bytes .ensures, c .before .before .before .before .before .before .before .before .read-relocation .ensures) inside, store-width _ _ _ _ _ told)
-
-enum-told : tie.Need-enum-told
-enum-told c = search needs
-
-enum-told-2 : tie.Need-enum-told-2
-enum-told-2 c = search needs
-
-enum-told-3 : tie.Need-enum-told-3
-enum-told-3 c = search needs
 
 returns : tie.Need-returns
 returns c =
@@ -76,18 +43,18 @@ pub is-form-kept-spec : {M : Type 1} → statement M
 is-form-kept-spec =
     tie.close
     (tie.spec
-    read-relocation-requires
-    cast-at
-    cast-p
-    cast-p-2
-    add-p
-    decide-requires
-    enum-known-form
-    section-bytes-requires
+    (λ c κs. search needs)
+    (λ c. search needs)
+    (λ c. search needs)
+    (λ c. search needs)
+    (λ c. search needs)
+    (λ c κs. search needs)
+    (λ c. search needs)
+    (λ c κs. search needs)
     has-form-at-requires
-    enum-told
-    enum-told-2
-    enum-told-3
+    (λ c. search needs)
+    (λ c. search needs)
+    (λ c. search needs)
     returns
     returns-2
     returns-3

@@ -10,12 +10,6 @@ use borrow.Author.Needs.{needs}
 use Rattle.checks.proofs.is_in_target.Statement.{statement}
 use Rattle.checks.proofs.is_in_target.Tie as tie
 
-read-relocation-requires : tie.Need-read-relocation-requires
-read-relocation-requires c κs = search needs
-
-cast-k : tie.Need-cast-k
-cast-k c = search needs
-
 returns : tie.Need-returns
 unfolding inTarget
 returns c = rw (← (c .before .before .read-relocation .ensures), c .if1 .taken)
@@ -28,9 +22,6 @@ read-symbol-requires c κs =
     let some : 0 < entry s (a .site) (a .j) .symbol = rw (← (c .before .before .read-relocation .ensures)) (omega arith) in
     let there : c .before .before .read-relocation .result .symbol < symbolCount s = rw (c .before .before .read-relocation .ensures) (f .3 .inside some) in
     rw (f .1 .table (omega (arith, f .1 .count))) (symbol-inside s (f .0) _ there)
-
-cast-result : tie.Need-cast-result
-cast-result c = search needs
 
 returns-2 : tie.Need-returns-2
 unfolding inTarget
@@ -47,4 +38,4 @@ returns-2 c =
 pub is-in-target-spec : {M : Type 1} → statement M
 is-in-target-spec =
     tie.close
-    (tie.spec read-relocation-requires cast-k returns read-symbol-requires cast-result returns-2)
+    (tie.spec (λ c κs. search needs) (λ c. search needs) returns read-symbol-requires (λ c. search needs) returns-2)

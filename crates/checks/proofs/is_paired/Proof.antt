@@ -13,23 +13,11 @@ use borrow.Author.Needs.{needs}
 use Rattle.checks.proofs.is_paired.Statement.{statement}
 use Rattle.checks.proofs.is_paired.Tie as tie
 
-read-relocation-requires : tie.Need-read-relocation-requires
-read-relocation-requires c κs = search needs
-
-decide-requires : tie.Need-decide-requires
-decide-requires c κs = search needs
-
-needs-pair-requires : tie.Need-needs-pair-requires
-needs-pair-requires c κs = search needs
-
 returns : tie.Need-returns
 unfolding pairWell
 returns c =
     let needless : c .before .needs-pair .result ≡ false = not-true _ (c .if1 .taken) in
     rw (← (c .before .before .before .read-relocation .ensures), ← (c .before .before .decide .ensures), ← (c .before .needs-pair .ensures), needless)
-
-cast-read-symbol : tie.Need-cast-read-symbol
-cast-read-symbol c = search needs
 
 read-symbol-requires : tie.Need-read-symbol-requires
 read-symbol-requires c κs =
@@ -40,12 +28,6 @@ read-symbol-requires c κs =
     let known = f .3 need in
     let there : c .before .before .before .before .read-relocation .result .symbol < symbolCount s = rw (c .before .before .before .before .read-relocation .ensures) (known .1 .inside (known .0)) in
     rw (f .1 .table (omega (arith, f .1 .count))) (symbol-inside s (f .0) _ there)
-
-hi20-pair-requires : tie.Need-hi20-pair-requires
-hi20-pair-requires c κs = search needs
-
-is-one-requires : tie.Need-is-one-requires
-is-one-requires c κs = search needs
 
 returns-2 : tie.Need-returns-2
 unfolding pairWell
@@ -63,12 +45,12 @@ pub is-paired-spec : {M : Type 1} → statement M
 is-paired-spec =
     tie.close
     (tie.spec
-    read-relocation-requires
-    decide-requires
-    needs-pair-requires
+    (λ c κs. search needs)
+    (λ c κs. search needs)
+    (λ c κs. search needs)
     returns
-    cast-read-symbol
+    (λ c. search needs)
     read-symbol-requires
-    hi20-pair-requires
-    is-one-requires
+    (λ c κs. search needs)
+    (λ c κs. search needs)
     returns-2)

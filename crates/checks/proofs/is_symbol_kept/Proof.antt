@@ -7,23 +7,11 @@ use borrow.Author.Needs.{needs}
 use Rattle.checks.proofs.is_symbol_kept.Statement.{statement}
 use Rattle.checks.proofs.is_symbol_kept.Tie as tie
 
-read-relocation-requires : tie.Need-read-relocation-requires
-read-relocation-requires c κs = search needs
-
-decide-requires : tie.Need-decide-requires
-decide-requires c κs = search needs
-
-is-store-requires : tie.Need-is-store-requires
-is-store-requires c κs = search needs
-
 returns : tie.Need-returns
 unfolding symbolWell
 returns c =
     let isstore : c .before .is-store .result ≡ false = not-true _ (c .if1 .taken) in
     rw (← (c .before .before .before .read-relocation .ensures), ← (c .before .before .decide .ensures), ← (c .before .is-store .ensures), isstore)
-
-is-resolved-requires : tie.Need-is-resolved-requires
-is-resolved-requires c κs = search needs
 
 returns-2 : tie.Need-returns-2
 unfolding symbolWell
@@ -31,9 +19,6 @@ returns-2 c =
     let isstore : c .before .before .before .is-store .result ≡ true = not-false _ (c .before .before .if1 .left) in
     let isresolved : c .before .is-resolved .result ≡ false = not-true _ (c .if2 .taken) in
     rw (← (c .before .before .before .before .before .read-relocation .ensures), ← (c .before .before .before .before .decide .ensures), ← (c .before .before .before .is-store .ensures), isstore, ← (c .before .is-resolved .ensures), isresolved)
-
-needs-pair-requires : tie.Need-needs-pair-requires
-needs-pair-requires c κs = search needs
 
 returns-3 : tie.Need-returns-3
 unfolding symbolWell
@@ -61,13 +46,13 @@ pub is-symbol-kept-spec : {M : Type 1} → statement M
 is-symbol-kept-spec =
     tie.close
     (tie.spec
-    read-relocation-requires
-    decide-requires
-    is-store-requires
+    (λ c κs. search needs)
+    (λ c κs. search needs)
+    (λ c κs. search needs)
     returns
-    is-resolved-requires
+    (λ c κs. search needs)
     returns-2
-    needs-pair-requires
+    (λ c κs. search needs)
     returns-3
     is-in-target-requires
     returns-4)

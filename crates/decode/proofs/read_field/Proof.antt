@@ -9,66 +9,9 @@ use borrow.Author.Needs.{needs}
 use Rattle.decode.proofs.read_field.Statement.{statement}
 use Rattle.decode.proofs.read_field.Tie as tie
 
-enum-told : tie.Need-enum-told
-enum-told c = search needs
-
-read-u-requires : tie.Need-read-u-requires
-read-u-requires c κs = search needs
-
-enum-told-2 : tie.Need-enum-told-2
-enum-told-2 c = search needs
-
-read-i-requires : tie.Need-read-i-requires
-read-i-requires c κs = search needs
-
-enum-told-3 : tie.Need-enum-told-3
-enum-told-3 c = search needs
-
-read-s-requires : tie.Need-read-s-requires
-read-s-requires c κs = search needs
-
-enum-told-4 : tie.Need-enum-told-4
-enum-told-4 c = search needs
-
-read-b-requires : tie.Need-read-b-requires
-read-b-requires c κs = search needs
-
-enum-told-5 : tie.Need-enum-told-5
-enum-told-5 c = search needs
-
-read-j-requires : tie.Need-read-j-requires
-read-j-requires c κs = search needs
-
-enum-told-6 : tie.Need-enum-told-6
-enum-told-6 c = search needs
-
-read-cb-requires : tie.Need-read-cb-requires
-read-cb-requires c κs = search needs
-
-enum-told-7 : tie.Need-enum-told-7
-enum-told-7 c = search needs
-
-read-cj-requires : tie.Need-read-cj-requires
-read-cj-requires c κs = search needs
-
-enum-told-8 : tie.Need-enum-told-8
-enum-told-8 c = search needs
-
-read-u-requires-2 : tie.Need-read-u-requires-2
-read-u-requires-2 c κs = search needs
-
-read-i-requires-2 : tie.Need-read-i-requires-2
-read-i-requires-2 c κs = search needs
-
 add-result : tie.Need-add-result
 unfolding read
 add-result c = omega arith
-
-enum-known-field : tie.Need-enum-known-field
-enum-known-field c = search needs
-
-read-data-requires : tie.Need-read-data-requires
-read-data-requires c κs = search needs
 
 returns : tie.Need-returns
 returns c =
@@ -123,26 +66,26 @@ pub read-field-spec : {M : Type 1} → statement M
 read-field-spec =
     tie.close
     (tie.spec
-    enum-told
-    read-u-requires
-    enum-told-2
-    read-i-requires
-    enum-told-3
-    read-s-requires
-    enum-told-4
-    read-b-requires
-    enum-told-5
-    read-j-requires
-    enum-told-6
-    read-cb-requires
-    enum-told-7
-    read-cj-requires
-    enum-told-8
-    read-u-requires-2
-    read-i-requires-2
+    (λ c. search needs)
+    (λ c κs. search needs)
+    (λ c. search needs)
+    (λ c κs. search needs)
+    (λ c. search needs)
+    (λ c κs. search needs)
+    (λ c. search needs)
+    (λ c κs. search needs)
+    (λ c. search needs)
+    (λ c κs. search needs)
+    (λ c. search needs)
+    (λ c κs. search needs)
+    (λ c. search needs)
+    (λ c κs. search needs)
+    (λ c. search needs)
+    (λ c κs. search needs)
+    (λ c κs. search needs)
     add-result
-    enum-known-field
-    read-data-requires
+    (λ c. search needs)
+    (λ c κs. search needs)
     returns
     returns-2
     returns-3

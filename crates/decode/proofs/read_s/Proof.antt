@@ -6,15 +6,9 @@ use borrow.Author.Needs.{needs}
 use Rattle.decode.proofs.read_s.Statement.{statement}
 use Rattle.decode.proofs.read_s.Tie as tie
 
-mul-result : tie.Need-mul-result
-mul-result c = search needs
-
-add-result : tie.Need-add-result
-add-result c = search needs
-
 returns : tie.Need-returns
 unfolding read
 returns c = simp div-div-eq-div-mul (omega arith)
 
 pub read-s-spec : {M : Type 1} → statement M
-read-s-spec = tie.close (tie.spec mul-result add-result returns)
+read-s-spec = tie.close (tie.spec (λ c. search needs) (λ c. search needs) returns)

@@ -5,12 +5,9 @@ use borrow.Author.Needs.{needs}
 use Rattle.decode.proofs.read_u.Statement.{statement}
 use Rattle.decode.proofs.read_u.Tie as tie
 
-mul-result : tie.Need-mul-result
-mul-result c = search needs
-
 returns : tie.Need-returns
 unfolding read
 returns c = omega arith
 
 pub read-u-spec : {M : Type 1} → statement M
-read-u-spec = tie.close (tie.spec mul-result returns)
+read-u-spec = tie.close (tie.spec (λ c. search needs) returns)

@@ -40,7 +40,7 @@ use Rattle.judgement.proofs.Laws.Laying.{length-fits, length-short, plan-inside
 use Rattle.demands.specs.Rules.{Rules}
 use Rattle.demands.specs.First.{nil, rule, Checks, none, one, HoldBelow, AllHold, FirstBroken, table}
 use Rattle.demands.specs.Laid.{Laid}
-use Rattle.demands.specs.Demands.{backTable, Demand1, Demand2, Demand3, Journalled, ours, back}
+use Rattle.demands.specs.Demands.{rollbackTable, Demand1, Demand2, Demand3, Journalled, ours, ours-back}
 use Rattle.demands.proofs.Laws.First.{none-broken, one-first, AllAbove, above, Told, later, at-once, broken-once}
 use Rattle.demands.proofs.Laws.Told.{told}
 use Rattle.demands.proofs.Laws.Laid.{laid-well}
@@ -245,9 +245,9 @@ done-leaves object order f e = go (sound (f .journal) (length (f .image))) refl 
 
 -- ---- a rollback
 
-back-told : (f : Files) → Told (backTable f) (rollback f .answer)
-unfolding backTable rollback lengthAllowed
-back-told f = go (sound (f .journal) len) refl (leb len 65536) refl (eqb (count (f .journal)) 0) refl
+rollback-told : (f : Files) → Told (rollbackTable f) (rollback f .answer)
+unfolding rollbackTable rollback lengthAllowed
+rollback-told f = go (sound (f .journal) len) refl (leb len 65536) refl (eqb (count (f .journal)) 0) refl
   where
     len : ℕ
     len = length (f .image)
@@ -273,24 +273,24 @@ back-told f = go (sound (f .journal) len) refl (leb len 65536) refl (eqb (count 
         let some : count (f .journal) ≡ 0 → ⊥ = eqb-false (count (f .journal)) 0 r in
         inl (refl, (at-once 1 (test-sound (f .journal) len p), (at-once 3 (leb-true len 65536 q), (at-once 16 (omega arith), tt))))
 
-back-above : (f : Files) → AllAbove (backTable f)
-unfolding backTable
-back-above f = ((omega arith, tt), ((omega arith, tt), ((omega arith, tt), tt)))
+rollback-above : (f : Files) → AllAbove (rollbackTable f)
+unfolding rollbackTable
+rollback-above f = ((omega arith, tt), ((omega arith, tt), ((omega arith, tt), tt)))
 
 -- ---- demand 1
 
-pub demand-1 : Demand1 ours back
+pub demand-1 : Demand1 ours ours-back
 unfolding calling
 demand-1 =
     record {
-      fit-refused = λ object order f r. first-of (table object order f) (ours object order f .answer) (told object order f) r;
-      back-refused = λ f r. first-of (backTable f) (back f .answer) (back-told f) r;
-      back-holds = λ f e. done-all (backTable f) (back f .answer) (back-above f) (back-told f) e;
-      back-first = λ f n p b. named (backTable f) (back f .answer) (back-told f) n p b;
-      fit-kept = λ object order f r.
+      install-refused = λ object order f r. first-of (table object order f) (ours object order f .answer) (told object order f) r;
+      rollback-refused = λ f r. first-of (rollbackTable f) (ours-back f .answer) (rollback-told f) r;
+      rollback-holds = λ f e. done-all (rollbackTable f) (ours-back f .answer) (rollback-above f) (rollback-told f) e;
+      rollback-first = λ f n p b. named (rollbackTable f) (ours-back f .answer) (rollback-told f) n p b;
+      install-kept = λ object order f r.
           refusal-keeps judgement f (Install object order)
           (not-zero (table object order f) (ours object order f .answer) (numbers-above object order f) (told object order f) r);
-      back-kept = λ f r. refusal-keeps judgement f Rollback (not-zero (backTable f) (back f .answer) (back-above f) (back-told f) r);
+      rollback-kept = λ f r. refusal-keeps judgement f Rollback (not-zero (rollbackTable f) (ours-back f .answer) (rollback-above f) (rollback-told f) r);
     }
 
 -- ---- demand 2
@@ -328,8 +328,8 @@ appends-of object order f e =
     (length-fits object order (d .fits .counts) len fitting) (d .room-is) (plan-inside object order (d .fits .counts) len fitting))
     (length-short object order (d .fits .counts) len fitting))
 
-releases-of : (f : Files) → AllHold (backTable f) → Released f (back f .after)
-unfolding backTable lengthAllowed
+releases-of : (f : Files) → AllHold (rollbackTable f) → Released f (ours-back f .after)
+unfolding rollbackTable lengthAllowed
 releases-of f h1 =
     let h3 = h1 .1 in
     let h16 = h3 .1 in
@@ -342,16 +342,16 @@ releases-of f h1 =
     subst (Released f) (ap (λ o. o .after) after-is)
     (releases (f .image) (f .journal) (undoable (f .image) (f .journal) s some) (omega (arith, held-small (f .journal) len s short)))
 
-pub journalled : Journalled ours back
+pub journalled : Journalled ours ours-back
 journalled =
     record {
       appends = λ object order f e.
           let fits = done-leaves object order f e .fits in
           (spanOf (planOf object order), is-span object order (fits .counts) (length (f .image)) (fits .fitting), appends-of object order f e);
-      releases = λ f e. releases-of f (demand-1 .back-holds f e);
+      releases = λ f e. releases-of f (demand-1 .rollback-holds f e);
     }
 
 -- ---- demand 3, whole: every start, every list of calls
 
-pub demand-3 : Demand3 ours back
+pub demand-3 : Demand3 ours ours-back
 demand-3 = history-holds judgement lays-inside

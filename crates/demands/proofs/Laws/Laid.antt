@@ -33,7 +33,8 @@ use Rattle.values.specs.Values.{valueAt, S, T}
 use Rattle.rules.proofs.Laws.Search.{kept-rules}
 use Rattle.stores.specs.Facts.{Checked}
 use Rattle.stores.specs.Sections.{pairDistance, relaOf, relocated, after}
-use Rattle.stores.specs.Promises.{touches, untouched, stackAt, Stored, ReadsBack}
+use Rattle.stores.specs.Promises.{stackAt, Stored, ReadsBack}
+use Rattle.stores.specs.Wholes.{touches, untouched}
 use Rattle.stores.proofs.Laws.Sections.{checked, rela-found, relocated-some, relocated-none, found-target}
 use Rattle.stores.proofs.Laws.After.{untouched-own}
 use Rattle.stores.proofs.Laws.ReadBack.{read-back}

@@ -24,7 +24,7 @@ use Rattle.lookup.specs.Addresses.{placedAt, addresses}
 use Rattle.journal.specs.Journals.{oldAt, count, entry, entries, total, isBlank, endsWithin, sound, Sound}
 use Rattle.journal.proofs.Laws.Sound.{test-sound}
 use Rattle.journal.specs.Plans.{overwritten}
-use Rattle.history.specs.Calls.{Answer, done, Files, succeed, Install, Rollback, Fit, TakeBack, calling, run}
+use Rattle.history.specs.Calls.{Answer, done, Files, succeed, Install, Rollback, InstallCall, RollbackCall, calling, run}
 use Rattle.history.specs.Histories.{Standing, begin, spans, laid, stand, fall, told, Start}
 use Rattle.place.specs.Placements.{isAllocated}
 use Rattle.placing.specs.Placing.{hasBytes}
@@ -40,43 +40,43 @@ use Rattle.demands.specs.Rules.{PlacedAsAllocated}
 use Rattle.demands.specs.First.{AllHold, FirstBroken, table as table-of}
 use Rattle.demands.specs.Laid.{sectionIn}
 use Rattle.demands.proofs.Laws.First.{none-broken, at-once, at-each}
-use Rattle.demands.specs.Demands.{backTable, Demand1, Demand2, Demand3, Journalled}
+use Rattle.demands.specs.Demands.{rollbackTable, Demand1, Demand2, Demand3, Journalled}
 use Rattle.demands.proofs.Laws.Sample.{words, object, order, files, journal-is, header-is, table-is, sections-are, keeps-all}
 use Rattle.demands.proofs.Laws.Demands.{Done, done-leaves, demand-2}
 use Rattle.demands.proofs.Laws.Rules.{order-well, window-well, header-well}
 
 -- ---- wrong fitters
 
-module _ (fit : Fit) (d : Demand2 fit) where
-  is-done : fit object order files .answer ≡ done
+module _ (installs : InstallCall) (d : Demand2 installs) where
+  is-done : installs object order files .answer ≡ done
   is-done = d .holds-done object order files keeps-all
 
   -- one that refuses everything: "A fit is done exactly when every rule of document 01 holds"
-  pub refuses-everything : ((o r : List ℕ) (f : Files) → fit o r f .answer ≡ done → ⊥) → ⊥
+  pub refuses-everything : ((o r : List ℕ) (f : Files) → installs o r f .answer ≡ done → ⊥) → ⊥
   refuses-everything wrong = wrong object order files is-done
 
   -- one with a fixed number and place: the same sentence
-  pub one-answer : (a : Answer) → ((o r : List ℕ) (f : Files) → fit o r f .answer ≡ a) → ⊥
+  pub one-answer : (a : Answer) → ((o r : List ℕ) (f : Files) → installs o r f .answer ≡ a) → ⊥
   one-answer a same =
       let empty = d .done-holds [] order files (same [] order files ∙ sym (same object order files) ∙ is-done) in
       omega (arith, empty .header-well .long)
 
   -- the relocation, read out of the image that is left: its field is T
-  read-out : (image : List ℕ) → fit object order files .after .image ≡ image → read (layout (Data W32)) (leAt 4 (sectionIn object order image 1) 0) ≡ 0x12345678
+  read-out : (image : List ℕ) → installs object order files .after .image ≡ image → read (layout (Data W32)) (leAt 4 (sectionIn object order image 1) 0) ≡ 0x12345678
   unfolding object order words bytes le leAt sum relocationsIn countingRela targets sectionAt allocated siteAt relocationAt decision table lookup among addresses tabulate placedAt valueIn entryAt first symbolValue residue signed ReadsBack
   read-out image e =
       let back = d .laid object order files is-done .fields 3 0 (record { there = omega arith; counts = refl; entry = omega arith }) in
       ap (λ s. read (layout (Data W32)) (leAt 4 (sectionIn object order s 1) 0)) (sym e) ∙ back .0
 
   -- one that writes nothing: "each laid byte is the object's own or the field that the RISC-V ELF psABI 1.0 asks for"
-  pub writes-nothing : ((o r : List ℕ) (f : Files) → fit o r f .after .image ≡ f .image) → ⊥
+  pub writes-nothing : ((o r : List ℕ) (f : Files) → installs o r f .after .image ≡ f .image) → ⊥
   unfolding object order files words bytes le leAt part sectionAt addresses tabulate placedAt valueIn entryAt first read
   writes-nothing wrong =
       let z : _≡_ {A = ℕ} 0xA5A5A5A5 0x12345678 = read-out (files .image) (wrong object order files) in
       omega arith
 
   -- one that lays each section as it is in the object: the same sentence
-  pub copies-unpatched : ((o r : List ℕ) (f : Files) → fit o r f .after .image ≡ overwritten (f .image) (pieces (λ t. bytesOf o (sectionAt o t)) o (addresses r) (base r) (sectionCount o))) → ⊥
+  pub copies-unpatched : ((o r : List ℕ) (f : Files) → installs o r f .after .image ≡ overwritten (f .image) (pieces (λ t. bytesOf o (sectionAt o t)) o (addresses r) (base r) (sectionCount o))) → ⊥
   unfolding object order files words bytes le leAt part sectionAt addresses tabulate placedAt valueIn entryAt first read overwritten pieces bytesOf hasBytes loaded allocated
   copies-unpatched wrong =
       let z : _≡_ {A = ℕ} 0 0x12345678 = read-out _ (wrong object order files) in
@@ -114,20 +114,20 @@ missing =
     first-match (suc i) h = absurd (omega arith)
 
 -- one that takes a missing address as zero, or gives no place: "otherwise the first broken rule is named"
-pub names-the-section : (fit : Fit) → Demand2 fit → fit object bare files .answer ≡ record { number = 6; place = 1 }
-names-the-section fit d = d .first-refused object bare files 6 1 missing
+pub names-the-section : (installs : InstallCall) → Demand2 installs → installs object bare files .answer ≡ record { number = 6; place = 1 }
+names-the-section installs d = d .first-refused object bare files 6 1 missing
 
 -- one that gives the number alone: the same sentence
-pub gives-no-place : (fit : Fit) → Demand2 fit → ((o r : List ℕ) (f : Files) → fit o r f .answer .place ≡ 0) → ⊥
-gives-no-place fit d wrong = omega (arith, ap (λ a. a .place) (names-the-section fit d), wrong object bare files)
+pub gives-no-place : (installs : InstallCall) → Demand2 installs → ((o r : List ℕ) (f : Files) → installs o r f .answer .place ≡ 0) → ⊥
+gives-no-place installs d wrong = omega (arith, ap (λ a. a .place) (names-the-section installs d), wrong object bare files)
 
 -- one that lays whatever the answer is: demand 1, "image and ledger then hold exactly the bytes they held"
-pub lays-anyway : (fit : Fit) (takeBack : TakeBack) → Demand1 fit takeBack → Demand2 fit
-    → ((o r : List ℕ) (f : Files) → fit o r f .after .image ≡ overwritten (f .image) (planOf o r)) → ⊥
+pub lays-anyway : (installs : InstallCall) (rollsBack : RollbackCall) → Demand1 installs rollsBack → Demand2 installs
+    → ((o r : List ℕ) (f : Files) → installs o r f .after .image ≡ overwritten (f .image) (planOf o r)) → ⊥
 unfolding object bare files words bytes le leAt part sectionAt allocated loaded hasBytes addresses tabulate placedAt valueIn entryAt first read put overwritten pieces planOf relocated relaOf countingRela targets siteAt after applied sumAt relocationAt decision table lookup among bytesOf patched symbolValue residue signed
-lays-anyway fit takeBack d₁ d₂ wrong =
-    let refused : fit object bare files .answer ≡ done → ⊥ = λ e. omega (arith, ap (λ a. a .number) (sym (names-the-section fit d₂) ∙ e)) in
-    let same : overwritten (files .image) (planOf object bare) ≡ files .image = sym (wrong object bare files) ∙ ap (λ f. f .image) (d₁ .fit-kept object bare files refused) in
+lays-anyway installs rollsBack d₁ d₂ wrong =
+    let refused : installs object bare files .answer ≡ done → ⊥ = λ e. omega (arith, ap (λ a. a .number) (sym (names-the-section installs d₂) ∙ e)) in
+    let same : overwritten (files .image) (planOf object bare) ≡ files .image = sym (wrong object bare files) ∙ ap (λ f. f .image) (d₁ .install-kept object bare files refused) in
     let z : _≡_ {A = ℕ} 0x78 0xA5 = ap (λ l. getD l 0 0) same in
     omega arith
 
@@ -159,13 +159,13 @@ differs (suc (suc zero)) h e = let z : _≡_ {A = ℕ} 0xA5 0x34 = e in omega ar
 differs (suc (suc (suc zero))) h e = let z : _≡_ {A = ℕ} 0xA5 0x12 = e in omega arith
 differs (suc (suc (suc (suc b)))) h e = omega arith
 
-module _ (fit : Fit) (takeBack : TakeBack) (d : Demand3 fit takeBack) where
+module _ (installs : InstallCall) (rollsBack : RollbackCall) (d : Demand3 installs rollsBack) where
   -- what the two calls leave
   after-fit : Files
-  after-fit = fit object order files .after
+  after-fit = installs object order files .after
 
   after-both : Files
-  after-both = takeBack after-fit .after
+  after-both = rollsBack after-fit .after
 
   -- after the install: its bytes, and one that stands
   laid-over : after-fit .image ≡ overwritten (files .image) (planOf object order)
@@ -190,24 +190,24 @@ module _ (fit : Fit) (takeBack : TakeBack) (d : Demand3 fit takeBack) where
       ∙ ap (λ o. length (fall (o .after) (o .after .standing) .after .standing)) stood
 
   -- a taking-back that leaves one of the laid bytes: "The image is, byte for byte, the starting image"
-  pub leaves-a-byte : (b : ℕ) → b < 4 → ((f : Files) → getD (takeBack f .after .image) b 0 ≡ getD (f .image) b 0) → ⊥
+  pub leaves-a-byte : (b : ℕ) → b < 4 → ((f : Files) → getD (rollsBack f .after .image) b 0 ≡ getD (f .image) b 0) → ⊥
   unfolding after-both
   leaves-a-byte b h wrong = differs b h (ap (λ s. getD s b 0) (sym as-before) ∙ wrong after-fit ∙ ap (λ s. getD s b 0) laid-over)
 
   -- one that does nothing, and one that only lowers n: the same sentence
-  pub does-nothing : ((f : Files) → takeBack f .after ≡ f) → ⊥
+  pub does-nothing : ((f : Files) → rollsBack f .after ≡ f) → ⊥
   does-nothing wrong = leaves-a-byte 0 (omega arith) (λ f. ap (λ g. getD (g .image) 0 0) (wrong f))
 
-  pub leaves-the-image : ((f : Files) → takeBack f .after .image ≡ f .image) → ⊥
+  pub leaves-the-image : ((f : Files) → rollsBack f .after .image ≡ f .image) → ⊥
   leaves-the-image wrong = leaves-a-byte 0 (omega arith) (λ f. ap (λ s. getD s 0 0) (wrong f))
 
   -- one that does not lower n: "The ledger counts the standing fits .. and no others"
-  pub leaves-n : ((f : Files) → count (takeBack f .after .journal) ≡ count (f .journal)) → ⊥
+  pub leaves-n : ((f : Files) → count (rollsBack f .after .journal) ≡ count (f .journal)) → ⊥
   unfolding after-both
   leaves-n wrong = omega (arith, one-stands, none-stands, wrong after-fit)
 
   -- one that is never done: "A taking-back is refused exactly when no fit stands."
-  pub never-done : ((f : Files) → takeBack f .answer ≡ done → ⊥) → ⊥
+  pub never-done : ((f : Files) → rollsBack f .answer ≡ done → ⊥) → ⊥
   unfolding after-fit run calling told
   never-done wrong =
       wrong after-fit
@@ -215,18 +215,18 @@ module _ (fit : Fit) (takeBack : TakeBack) (d : Demand3 fit takeBack) where
       (λ none. omega (arith, ap (λ xs. length xs) (sym (ap (λ o. o .after .standing) stood) ∙ none))))
 
   -- a fit that records nothing: "The ledger counts the standing fits"
-  pub records-nothing : ((o r : List ℕ) (f : Files) → fit o r f .after .journal ≡ f .journal) → ⊥
+  pub records-nothing : ((o r : List ℕ) (f : Files) → installs o r f .after .journal ≡ f .journal) → ⊥
   unfolding after-fit files leAt le
   records-nothing wrong = omega (arith, one-stands, ap (λ j. count j) (wrong object order files))
 
 -- ---- the journal, byte for byte
 
 -- one that is always done: "given exactly when" the ledger is unsound
-pub always-taken-back : (fit : Fit) (takeBack : TakeBack) → Demand1 fit takeBack → ((f : Files) → takeBack f .answer ≡ done) → ⊥
-unfolding backTable
-always-taken-back fit takeBack d wrong =
+pub always-rolled-back : (installs : InstallCall) (rollsBack : RollbackCall) → Demand1 installs rollsBack → ((f : Files) → rollsBack f .answer ≡ done) → ⊥
+unfolding rollbackTable
+always-rolled-back installs rollsBack d wrong =
     let none : Files = record { image = []; journal = [] } in
-    let s : Sound [] 0 = d .back-holds none (wrong none) .0 0 (omega arith) .0 in
+    let s : Sound [] 0 = d .rollback-holds none (wrong none) .0 0 (omega arith) .0 in
     omega (arith, s .fits)
 
 -- document 01's bench ledger, with one byte of room, and an image that its span lies in
@@ -238,45 +238,45 @@ unfolding standing words bytes sound everywhere first entries tabulate entry tot
 standing-sound = test-sound (standing .journal) (length (standing .image)) refl
 
 -- it can be taken back
-standing-holds : AllHold (backTable standing)
-unfolding backTable standing words bytes leAt le
+standing-holds : AllHold (rollbackTable standing)
+unfolding rollbackTable standing words bytes leAt le
 standing-holds = (at-once 1 standing-sound, (at-once 3 (omega arith), (at-once 16 (omega arith), tt)))
 
-module _ (fit : Fit) (takeBack : TakeBack) (d : Demand1 fit takeBack) (k : Journalled fit takeBack) where
+module _ (installs : InstallCall) (rollsBack : RollbackCall) (d : Demand1 installs rollsBack) (k : Journalled installs rollsBack) where
   -- so that it is taken back, and what follows from that holds
-  taken-back : (takeBack standing .answer ≡ done → ⊥) → ⊥
-  taken-back not-done = none-broken (backTable standing) _ _ standing-holds (d .back-refused standing not-done)
+  rolled-back : (rollsBack standing .answer ≡ done → ⊥) → ⊥
+  rolled-back not-done = none-broken (rollbackTable standing) _ _ standing-holds (d .rollback-refused standing not-done)
 
   -- one that leaves the old bytes in the journal: "zeroes the entry and the released bytes"
-  pub leaves-old-bytes : ((f : Files) → drop oldAt (takeBack f .after .journal) ≡ drop oldAt (f .journal)) → ⊥
+  pub leaves-old-bytes : ((f : Files) → drop oldAt (rollsBack f .after .journal) ≡ drop oldAt (f .journal)) → ⊥
   unfolding standing words bytes leAt le entry part
   leaves-old-bytes wrong =
-      taken-back (λ e.
-      let zero-now : part (takeBack standing .after .journal) oldAt 4 ≡ replicate 4 0 = k .releases standing e .released-zero in
+      rolled-back (λ e.
+      let zero-now : part (rollsBack standing .after .journal) oldAt 4 ≡ replicate 4 0 = k .releases standing e .released-zero in
       let z : _≡_ {A = ℕ} 0xAA 0 = ap (λ l. getD l 0 0) (sym (ap (take 4) (wrong standing)) ∙ zero-now) in
       omega arith)
 
   -- one that clears the journal to its end: "Bytes past 136 + k are .. not written otherwise"
-  pub clears-to-the-end : ((f : Files) → drop 140 (takeBack f .after .journal) ≡ replicate (length (f .journal) - 140) 0) → ⊥
+  pub clears-to-the-end : ((f : Files) → drop 140 (rollsBack f .after .journal) ≡ replicate (length (f .journal) - 140) 0) → ⊥
   unfolding standing words bytes leAt le
   clears-to-the-end wrong =
-      taken-back (λ e.
-      let same : drop 140 (takeBack standing .after .journal) ≡ 0x55 ∷ [] = k .releases standing e .past-same in
+      rolled-back (λ e.
+      let same : drop 140 (rollsBack standing .after .journal) ≡ 0x55 ∷ [] = k .releases standing e .past-same in
       let z : _≡_ {A = ℕ} 0x55 0 = ap (λ l. getD l 0 0) (sym same ∙ wrong standing) in
       omega arith)
 
 -- a fit that does not record the old bytes: "A fit appends the span's old bytes."
-pub records-no-old-bytes : (fit : Fit) (takeBack : TakeBack) → Demand2 fit → Journalled fit takeBack
-    → ((o r : List ℕ) (f : Files) → drop oldAt (fit o r f .after .journal) ≡ drop oldAt (f .journal)) → ⊥
+pub records-no-old-bytes : (installs : InstallCall) (rollsBack : RollbackCall) → Demand2 installs → Journalled installs rollsBack
+    → ((o r : List ℕ) (f : Files) → drop oldAt (installs o r f .after .journal) ≡ drop oldAt (f .journal)) → ⊥
 unfolding object order files words bytes le leAt part sectionAt allocated loaded hasBytes addresses tabulate placedAt valueIn entryAt first
-records-no-old-bytes fit takeBack d k wrong =
-    let a = k .appends object order files (is-done fit d) in
+records-no-old-bytes installs rollsBack d k wrong =
+    let a = k .appends object order files (is-done installs d) in
     let s = a .0 in
     let inside = a .1 .covers-all 1 0 (record { there = omega arith; loaded = refl; from = omega arith; to = omega arith }) in
-    let recorded : part (fit object order files .after .journal) oldAt (s .size) ≡ part (files .image) (s .start) (s .size) = a .2 .old-are in
+    let recorded : part (installs object order files .after .journal) oldAt (s .size) ≡ part (files .image) (s .start) (s .size) = a .2 .old-are in
     go (s .start) (s .size) (omega (arith, inside .0)) (omega (arith, inside .0, inside .1)) recorded
   where
-    go : (at size : ℕ) → at ≡ 0 → 0 < size → part (fit object order files .after .journal) oldAt size ≡ part (files .image) at size → ⊥
+    go : (at size : ℕ) → at ≡ 0 → 0 < size → part (installs object order files .after .journal) oldAt size ≡ part (files .image) at size → ⊥
     go at zero e h recorded = omega arith
     go at (suc size) e h recorded =
         let z : _≡_ {A = ℕ} 0 0xA5 =

@@ -8,24 +8,12 @@ use borrow.Author.Needs.{needs}
 use Rattle.elf.proofs.has_target.Statement.{statement}
 use Rattle.elf.proofs.has_target.Tie as tie
 
-cast-info : tie.Need-cast-info
-cast-info c = search needs
-
-section-count-requires : tie.Need-section-count-requires
-section-count-requires c κs = search needs
-
 returns : tie.Need-returns
 unfolding targets
 returns c =
     let a = c .before .before .before .before .args in
     let out : sectionCount (a .object .now) ≤ a .h .info = omega arith in
     rw (le-ltb _ _ out)
-
-read-section-requires : tie.Need-read-section-requires
-read-section-requires c κs = search needs
-
-is-allocated-requires : tie.Need-is-allocated-requires
-is-allocated-requires c κs = search needs
 
 returns-2 : tie.Need-returns-2
 unfolding targets
@@ -38,9 +26,9 @@ pub has-target-spec : {M : Type 1} → statement M
 has-target-spec =
     tie.close
     (tie.spec
-    cast-info
-    section-count-requires
+    (λ c. search needs)
+    (λ c κs. search needs)
     returns
-    read-section-requires
-    is-allocated-requires
+    (λ c κs. search needs)
+    (λ c κs. search needs)
     returns-2)

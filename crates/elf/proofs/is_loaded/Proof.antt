@@ -4,12 +4,9 @@ use borrow.Author.Needs.{needs}
 use Rattle.elf.proofs.is_loaded.Statement.{statement}
 use Rattle.elf.proofs.is_loaded.Tie as tie
 
-is-allocated-requires : tie.Need-is-allocated-requires
-is-allocated-requires c κs = search needs
-
 returns : tie.Need-returns
 unfolding loaded
 returns c = rw (c .before .is-allocated .ensures)
 
 pub is-loaded-spec : {M : Type 1} → statement M
-is-loaded-spec = tie.close (tie.spec is-allocated-requires returns)
+is-loaded-spec = tie.close (tie.spec (λ c κs. search needs) returns)

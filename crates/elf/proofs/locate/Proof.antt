@@ -20,15 +20,9 @@ Inv-loop object k n below₀ i₀ below i = (i ≤ n) × (below ≡ relocationsB
 abbrev μ-loop : tie.MeasureT-loop
 μ-loop object k n below₀ i₀ below i = n - i
 
-section-count-requires : tie.Need-section-count-requires Inv-loop μ-loop
-section-count-requires c κs = search needs
-
 loop-holds : tie.Need-loop-holds Inv-loop μ-loop
 unfolding sum
 loop-holds c = (omega arith, refl, omega arith, omega arith, λ j h. absurd (omega arith))
-
-relocations-in-requires : tie.Need-relocations-in-requires Inv-loop μ-loop
-relocations-in-requires c κs = search needs
 
 add-if1 : tie.Need-add-if1 Inv-loop μ-loop
 add-if1 c = omega (arith, c .relocations-in .ensures .1)
@@ -48,12 +42,6 @@ returns c =
 
 add-below : tie.Need-add-below Inv-loop μ-loop
 add-below c = omega (arith, c .before .relocations-in .ensures .1)
-
-add-i : tie.Need-add-i Inv-loop μ-loop
-add-i c = search needs
-
-loop-less : tie.Need-loop-less Inv-loop μ-loop
-loop-less c = search needs
 
 loop-again : tie.Need-loop-again Inv-loop μ-loop
 unfolding sum
@@ -88,15 +76,15 @@ locate-spec =
     (tie.spec
     Inv-loop
     μ-loop
-    section-count-requires
+    (λ c κs. search needs)
     loop-holds
-    relocations-in-requires
+    (λ c κs. search needs)
     add-if1
     sub-t9
     returns
     add-below
-    add-i
-    loop-less
+    (λ c. search needs)
+    (λ c. search needs)
     loop-again
     sub-t10
     returns-2)

@@ -8,15 +8,6 @@ use borrow.Author.Needs.{needs}
 use Rattle.elf.proofs.relocations_in.Statement.{statement}
 use Rattle.elf.proofs.relocations_in.Tie as tie
 
-is-counting-rela-requires : tie.Need-is-counting-rela-requires
-is-counting-rela-requires c κs = search needs
-
-read-section-requires : tie.Need-read-section-requires
-read-section-requires c κs = search needs
-
-cast-result : tie.Need-cast-result
-cast-result c = search needs
-
 returns : tie.Need-returns
 unfolding relocationsIn
 returns c =
@@ -32,4 +23,4 @@ returns-2 c =
 pub relocations-in-spec : {M : Type 1} → statement M
 relocations-in-spec =
     tie.close
-    (tie.spec is-counting-rela-requires read-section-requires cast-result returns returns-2)
+    (tie.spec (λ c κs. search needs) (λ c κs. search needs) (λ c. search needs) returns returns-2)

@@ -10,24 +10,12 @@ use borrow.Author.Needs.{needs}
 use Rattle.elf.proofs.symbol_count.Statement.{statement}
 use Rattle.elf.proofs.symbol_count.Tie as tie
 
-symbol-table-requires : tie.Need-symbol-table-requires
-symbol-table-requires c κs = search needs
-
-section-count-requires : tie.Need-section-count-requires
-section-count-requires c κs = search needs
-
 returns : tie.Need-returns
 unfolding symbolCount
 returns c =
     let s = c .before .before .before .before .args .object .now in
     let out : sectionCount s ≤ symbolTable s = omega arith in
     rw (le-ltb _ _ out)
-
-read-section-requires : tie.Need-read-section-requires
-read-section-requires c κs = search needs
-
-cast-result : tie.Need-cast-result
-cast-result c = search needs
 
 returns-2 : tie.Need-returns-2
 unfolding symbolCount
@@ -40,9 +28,9 @@ pub symbol-count-spec : {M : Type 1} → statement M
 symbol-count-spec =
     tie.close
     (tie.spec
-    symbol-table-requires
-    section-count-requires
+    (λ c κs. search needs)
+    (λ c κs. search needs)
     returns
-    read-section-requires
-    cast-result
+    (λ c κs. search needs)
+    (λ c. search needs)
     returns-2)

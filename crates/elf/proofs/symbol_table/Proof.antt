@@ -19,14 +19,8 @@ Inv-loop object n i₀ i = (i ≤ n) × ((j : ℕ) → j < i → eqb (sectionAt 
 abbrev μ-loop : tie.MeasureT-loop
 μ-loop object n i₀ i = n - i
 
-section-count-requires : tie.Need-section-count-requires Inv-loop μ-loop
-section-count-requires c κs = search needs
-
 loop-holds : tie.Need-loop-holds Inv-loop μ-loop
 loop-holds c = (omega arith, λ j h. absurd (omega arith))
-
-read-section-requires : tie.Need-read-section-requires Inv-loop μ-loop
-read-section-requires c κs = search needs
 
 returns : tie.Need-returns Inv-loop μ-loop
 unfolding symbolTable
@@ -35,12 +29,6 @@ returns c =
     let at = c .before .before .before .before .loop in
     let count : c .before .before .before .before .before .section-count .result ≡ sectionCount s = c .before .before .before .before .before .section-count .ensures in
     sym (first-is _ (sectionCount s) (at .i) (omega arith) (at .inv .1) (λ h. eq-eqb _ _ (sym (ap (λ h. h .kind) (c .before .before .read-section .ensures)) ∙ c .if1 .taken)))
-
-add-i : tie.Need-add-i Inv-loop μ-loop
-add-i c = search needs
-
-loop-less : tie.Need-loop-less Inv-loop μ-loop
-loop-less c = search needs
 
 loop-again : tie.Need-loop-again Inv-loop μ-loop
 loop-again c = (search needs, below-more _ _ (c .before .before .before .before .loop .inv .1) (ne-eqb _ _ (λ e. c .if1 .left (ap (λ h. h .kind) (c .before .before .read-section .ensures) ∙ e))))
@@ -60,11 +48,11 @@ symbol-table-spec =
     (tie.spec
     Inv-loop
     μ-loop
-    section-count-requires
+    (λ c κs. search needs)
     loop-holds
-    read-section-requires
+    (λ c κs. search needs)
     returns
-    add-i
-    loop-less
+    (λ c. search needs)
+    (λ c. search needs)
     loop-again
     returns-2)

@@ -9,27 +9,6 @@ use borrow.Author.Needs.{needs}
 use Rattle.encode.proofs.put_data.Statement.{statement}
 use Rattle.encode.proofs.put_data.Tie as tie
 
-enum-told : tie.Need-enum-told
-enum-told c = search needs
-
-mul-result : tie.Need-mul-result
-mul-result c = search needs
-
-add-result : tie.Need-add-result
-add-result c = search needs
-
-enum-told-2 : tie.Need-enum-told-2
-enum-told-2 c = search needs
-
-enum-told-3 : tie.Need-enum-told-3
-enum-told-3 c = search needs
-
-enum-told-4 : tie.Need-enum-told-4
-enum-told-4 c = search needs
-
-enum-told-5 : tie.Need-enum-told-5
-enum-told-5 c = search needs
-
 returns : tie.Need-returns
 returns c =
     let a = c .before .before .args in
@@ -59,13 +38,13 @@ pub put-data-spec : {M : Type 1} → statement M
 put-data-spec =
     tie.close
     (tie.spec
-    enum-told
-    mul-result
-    add-result
-    enum-told-2
-    enum-told-3
-    enum-told-4
-    enum-told-5
+    (λ c. search needs)
+    (λ c. search needs)
+    (λ c. search needs)
+    (λ c. search needs)
+    (λ c. search needs)
+    (λ c. search needs)
+    (λ c. search needs)
     returns
     returns-2
     returns-3

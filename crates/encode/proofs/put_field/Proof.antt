@@ -10,57 +10,6 @@ use borrow.Author.Needs.{needs}
 use Rattle.encode.proofs.put_field.Statement.{statement}
 use Rattle.encode.proofs.put_field.Tie as tie
 
-enum-told : tie.Need-enum-told
-enum-told c = search needs
-
-put-u-requires : tie.Need-put-u-requires
-put-u-requires c κs = search needs
-
-enum-told-2 : tie.Need-enum-told-2
-enum-told-2 c = search needs
-
-put-i-requires : tie.Need-put-i-requires
-put-i-requires c κs = search needs
-
-enum-told-3 : tie.Need-enum-told-3
-enum-told-3 c = search needs
-
-put-s-requires : tie.Need-put-s-requires
-put-s-requires c κs = search needs
-
-enum-told-4 : tie.Need-enum-told-4
-enum-told-4 c = search needs
-
-put-b-requires : tie.Need-put-b-requires
-put-b-requires c κs = search needs
-
-enum-told-5 : tie.Need-enum-told-5
-enum-told-5 c = search needs
-
-put-j-requires : tie.Need-put-j-requires
-put-j-requires c κs = search needs
-
-enum-told-6 : tie.Need-enum-told-6
-enum-told-6 c = search needs
-
-put-cb-requires : tie.Need-put-cb-requires
-put-cb-requires c κs = search needs
-
-enum-told-7 : tie.Need-enum-told-7
-enum-told-7 c = search needs
-
-put-cj-requires : tie.Need-put-cj-requires
-put-cj-requires c κs = search needs
-
-enum-told-8 : tie.Need-enum-told-8
-enum-told-8 c = search needs
-
-put-u-requires-2 : tie.Need-put-u-requires-2
-put-u-requires-2 c κs = search needs
-
-put-i-requires-2 : tie.Need-put-i-requires-2
-put-i-requires-2 c κs = search needs
-
 mul-result : tie.Need-mul-result
 unfolding put
 mul-result c = omega arith
@@ -68,12 +17,6 @@ mul-result c = omega arith
 add-result : tie.Need-add-result
 unfolding put
 add-result c = omega arith
-
-enum-known-field : tie.Need-enum-known-field
-enum-known-field c = search needs
-
-put-data-requires : tie.Need-put-data-requires
-put-data-requires c κs = search needs
 
 returns : tie.Need-returns
 returns c =
@@ -129,27 +72,27 @@ pub put-field-spec : {M : Type 1} → statement M
 put-field-spec =
     tie.close
     (tie.spec
-    enum-told
-    put-u-requires
-    enum-told-2
-    put-i-requires
-    enum-told-3
-    put-s-requires
-    enum-told-4
-    put-b-requires
-    enum-told-5
-    put-j-requires
-    enum-told-6
-    put-cb-requires
-    enum-told-7
-    put-cj-requires
-    enum-told-8
-    put-u-requires-2
-    put-i-requires-2
+    (λ c. search needs)
+    (λ c κs. search needs)
+    (λ c. search needs)
+    (λ c κs. search needs)
+    (λ c. search needs)
+    (λ c κs. search needs)
+    (λ c. search needs)
+    (λ c κs. search needs)
+    (λ c. search needs)
+    (λ c κs. search needs)
+    (λ c. search needs)
+    (λ c κs. search needs)
+    (λ c. search needs)
+    (λ c κs. search needs)
+    (λ c. search needs)
+    (λ c κs. search needs)
+    (λ c κs. search needs)
     mul-result
     add-result
-    enum-known-field
-    put-data-requires
+    (λ c. search needs)
+    (λ c κs. search needs)
     returns
     returns-2
     returns-3

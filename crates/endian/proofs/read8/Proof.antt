@@ -5,11 +5,8 @@ use borrow.Author.Needs.{needs}
 use Rattle.endian.proofs.read8.Statement.{statement}
 use Rattle.endian.proofs.read8.Tie as tie
 
-shared-slice-read-result : tie.Need-shared-slice-read-result
-shared-slice-read-result c = search needs
-
 returns : tie.Need-returns
 returns c = sym (leAt-one (c .before .args .s .now) (c .before .args .at))
 
 pub read8-spec : {M : Type 1} → statement M
-read8-spec = tie.close (tie.spec shared-slice-read-result returns)
+read8-spec = tie.close (tie.spec (λ c. search needs) returns)

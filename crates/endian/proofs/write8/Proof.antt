@@ -7,15 +7,9 @@ use borrow.Author.Needs.{needs}
 use Rattle.endian.proofs.write8.Statement.{statement}
 use Rattle.endian.proofs.write8.Tie as tie
 
-slice-write-s : tie.Need-slice-write-s
-slice-write-s c = search needs
-
-same-length : tie.Need-same-length
-same-length c = search needs
-
 returns : tie.Need-returns
 unfolding bytes
 returns c = let low : c .args .x % 256 ≡ c .args .x = omega arith in rw low
 
 pub write8-spec : {M : Type 1} → statement M
-write8-spec = tie.close (tie.spec slice-write-s same-length returns)
+write8-spec = tie.close (tie.spec (λ c. search needs) (λ c. search needs) returns)

@@ -21,17 +21,11 @@ not-below (negsuc a) e =
     let z : _≡_ {A = ℕ} 0 1 = ap (λ b. cond b 0 1) e in
     absurd (omega arith)
 
-returns : tie.Need-returns
-returns c = search needs
-
 cast-result : tie.Need-cast-result
 cast-result c =
     let x = c .before .args .fd in
     let e = toZ-ofZ w32 x (c .before .fits .fd) in
     (not-below (toZ w32 (ofZ w32 x)) (c .if1 .left), subst (λ (z : ℤ). Fits w64 (natAbs z)) (sym e) (record { fits = lt-of-le-of-lt (natAbs-le x (c .before .fits .fd .sfits)) (lit< tt) }))
 
-returns-2 : tie.Need-returns-2
-returns-2 c = search needs
-
 pub descriptor-spec : {M : Type 1} → statement M
-descriptor-spec = tie.close (tie.spec returns cast-result returns-2)
+descriptor-spec = tie.close (tie.spec (λ c. search needs) cast-result (λ c. search needs))

@@ -5,21 +5,9 @@ use borrow.Author.Needs.{needs}
 use Rattle.fitter.proofs.aktinoph_take_back.Statement.{statement}
 use Rattle.fitter.proofs.aktinoph_take_back.Tie as tie
 
-rollback-requires : tie.Need-rollback-requires
-rollback-requires c κs = search needs
-
-code-of-requires : tie.Need-code-of-requires
-code-of-requires c κs = search needs
-
-same-length : tie.Need-same-length
-same-length c = search needs
-
-same-length-2 : tie.Need-same-length-2
-same-length-2 c = search needs
-
 returns : tie.Need-returns
 returns c = (c .code-of .ensures ∙ ap (λ o. packed (o .answer)) (c .before .before .before .before .before .rollback .ensures), ap (λ o. o .after) (c .before .before .before .before .before .rollback .ensures))
 
 pub aktinoph-take-back-spec : {M : Type 1} → statement M
 aktinoph-take-back-spec =
-    tie.close (tie.spec rollback-requires code-of-requires same-length same-length-2 returns)
+    tie.close (tie.spec (λ c κs. search needs) (λ c κs. search needs) (λ c. search needs) (λ c. search needs) returns)

@@ -36,12 +36,6 @@ span-of-requires c κs =
     let low : highest s (c .address-array .result) (a .counts .base) (sectionCount s) < 4294967296 = rw (c .address-array .ensures, base-is) (ends-low s o (a .counts) len (f .0)) in
     (is-sound s o (a .counts) len (f .0), low)
 
-has-room-requires : tie.Need-has-room-requires
-has-room-requires c κs = search needs
-
-same-length : tie.Need-same-length
-same-length c = search needs
-
 returns : tie.Need-returns
 returns c =
     let a = c .before .before .before .before .before .before .before .before .before .args in
@@ -75,12 +69,6 @@ save-requires c κs =
 lay-requires : tie.Need-lay-requires
 lay-requires c κs = c .before .before .before .before .before .before .before .before .before .before .before .before .before .before .before .pre .0
 
-same-length-2 : tie.Need-same-length-2
-same-length-2 c = search needs
-
-same-length-3 : tie.Need-same-length-3
-same-length-3 c = search needs
-
 returns-2 : tie.Need-returns-2
 returns-2 c =
     let a = c .before .before .before .before .before .before .before .before .before .before .before .before .before .before .before .before .before .before .args in
@@ -102,11 +90,11 @@ fit-spec =
     (tie.spec
     address-array-requires
     span-of-requires
-    has-room-requires
-    same-length
+    (λ c κs. search needs)
+    (λ c. search needs)
     returns
     save-requires
     lay-requires
-    same-length-2
-    same-length-3
+    (λ c. search needs)
+    (λ c. search needs)
     returns-2)

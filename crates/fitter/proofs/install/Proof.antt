@@ -13,12 +13,6 @@ use borrow.Author.Needs.{needs}
 use Rattle.fitter.proofs.install.Statement.{statement}
 use Rattle.fitter.proofs.install.Tie as tie
 
-is-sound-requires : tie.Need-is-sound-requires
-is-sound-requires c κs = search needs
-
-same-length : tie.Need-same-length
-same-length c = search needs
-
 returns : tie.Need-returns
 returns c =
     let a = c .before .before .before .before .before .before .before .args in
@@ -28,15 +22,6 @@ returns c =
     let broken : sound (a .journal .now) (length (a .image .now)) ≡ false = sym (c .before .is-sound .ensures) ∙ not-true _ (c .if1 .taken) in
     unsound judgement s o files broken
 
-judge-requires : tie.Need-judge-requires
-judge-requires c κs = search needs
-
-is-done-requires : tie.Need-is-done-requires
-is-done-requires c κs = search needs
-
-same-length-2 : tie.Need-same-length-2
-same-length-2 c = search needs
-
 returns-2 : tie.Need-returns-2
 returns-2 c =
     let a = c .before .before .before .before .before .before .before .before .before .before .args in
@@ -45,15 +30,6 @@ returns-2 c =
     let files : Files = record { image = a .image .now; journal = a .journal .now } in
     let ok : sound (a .journal .now) (length (a .image .now)) ≡ true = sym (c .before .before .before .before .is-sound .ensures) ∙ not-false _ (c .before .before .before .if1 .left) in
     refused-by judgement s o files ok _ _ (sym (c .before .before .judge .ensures) ∙ verdict-refused s o (c .before .before .judge .result) (sym (c .before .is-done .ensures) ∙ not-true _ (c .if2 .taken)))
-
-read-order-requires : tie.Need-read-order-requires
-read-order-requires c κs = search needs
-
-enum-told : tie.Need-enum-told
-enum-told c = search needs
-
-enum-known-counts : tie.Need-enum-known-counts
-enum-known-counts c = search needs
 
 fit-requires : tie.Need-fit-requires
 fit-requires c κs =
@@ -65,9 +41,6 @@ fit-requires c κs =
     let plan-is = sym (c .before .before .before .before .before .before .before .before .judge .ensures) ∙ verdict-done s o (c .before .before .before .before .before .before .before .before .judge .result) (sym (c .before .before .before .before .before .before .before .is-done .ensures) ∙ not-false _ (c .before .before .before .before .before .before .if2 .left)) in
     (done-fits s o (length (a .image .now)) _ plan-is (sym (c .before .before .before .before .before .read-order .ensures) ∙ c .before .before .before .counts .given .1), ok)
 
-same-length-3 : tie.Need-same-length-3
-same-length-3 c = search needs
-
 returns-3 : tie.Need-returns-3
 returns-3 c =
     let a = c .before .before .before .before .before .before .before .before .before .before .before .before .before .args in
@@ -77,12 +50,6 @@ returns-3 c =
     let plan-is = sym (c .before .before .before .before .before .judge .ensures) ∙ verdict-done s o (c .before .before .before .before .before .judge .result) (sym (c .before .before .before .before .is-done .ensures) ∙ not-false _ (c .before .before .before .if2 .left)) in
     absurd (done-formed s o (length (a .image .now)) plan-is (sym (c .before .before .read-order .ensures) ∙ c .enum-told .given .1))
 
-same-length-4 : tie.Need-same-length-4
-same-length-4 c = search needs
-
-same-length-5 : tie.Need-same-length-5
-same-length-5 c = search needs
-
 returns-4 : tie.Need-returns-4
 returns-4 c = c .before .before .before .before .fit .ensures
 
@@ -90,19 +57,19 @@ pub install-spec : {M : Type 1} → statement M
 install-spec =
     tie.close
     (tie.spec
-    is-sound-requires
-    same-length
+    (λ c κs. search needs)
+    (λ c. search needs)
     returns
-    judge-requires
-    is-done-requires
-    same-length-2
+    (λ c κs. search needs)
+    (λ c κs. search needs)
+    (λ c. search needs)
     returns-2
-    read-order-requires
-    enum-told
-    enum-known-counts
+    (λ c κs. search needs)
+    (λ c. search needs)
+    (λ c. search needs)
     fit-requires
-    same-length-3
+    (λ c. search needs)
     returns-3
-    same-length-4
-    same-length-5
+    (λ c. search needs)
+    (λ c. search needs)
     returns-4)

@@ -14,30 +14,6 @@ returns-2 : tie.Need-returns-2
 unfolding headerAllowed
 returns-2 c = rw (le-leb _ _ (c .before .if1 .left), lt-leb _ _ (c .if2 .taken))
 
-read32-requires : tie.Need-read32-requires
-read32-requires c κs = search needs
-
-shared-slice-read-result : tie.Need-shared-slice-read-result
-shared-slice-read-result c = search needs
-
-shared-slice-read-result-2 : tie.Need-shared-slice-read-result-2
-shared-slice-read-result-2 c = search needs
-
-shared-slice-read-result-3 : tie.Need-shared-slice-read-result-3
-shared-slice-read-result-3 c = search needs
-
-read16-requires : tie.Need-read16-requires
-read16-requires c κs = search needs
-
-read16-requires-2 : tie.Need-read16-requires-2
-read16-requires-2 c κs = search needs
-
-read32-requires-2 : tie.Need-read32-requires-2
-read32-requires-2 c κs = search needs
-
-read16-requires-3 : tie.Need-read16-requires-3
-read16-requires-3 c κs = search needs
-
 returns-3 : tie.Need-returns-3
 unfolding headerAllowed
 returns-3 c =
@@ -50,12 +26,12 @@ check-header-spec =
     (tie.spec
     returns
     returns-2
-    read32-requires
-    shared-slice-read-result
-    shared-slice-read-result-2
-    shared-slice-read-result-3
-    read16-requires
-    read16-requires-2
-    read32-requires-2
-    read16-requires-3
+    (λ c κs. search needs)
+    (λ c. search needs)
+    (λ c. search needs)
+    (λ c. search needs)
+    (λ c κs. search needs)
+    (λ c κs. search needs)
+    (λ c κs. search needs)
+    (λ c κs. search needs)
     returns-3)

@@ -17,24 +17,6 @@ returns c =
     let size : ℕ = c .before .before .args .size in
     rw (lt-ltb (length j) (136 + held j + size) (omega arith), or-true)
 
-read32-requires : tie.Need-read32-requires
-read32-requires c κs = search needs
-
-cast-n : tie.Need-cast-n
-cast-n c = search needs
-
-read32-requires-2 : tie.Need-read32-requires-2
-read32-requires-2 c κs = search needs
-
-cast-k : tie.Need-cast-k
-cast-k c = search needs
-
-add-result : tie.Need-add-result
-add-result c = search needs
-
-add-result-2 : tie.Need-add-result-2
-add-result-2 c = search needs
-
 returns-2 : tie.Need-returns-2
 unfolding noRoom
 returns-2 c = cc
@@ -44,10 +26,10 @@ has-room-spec =
     tie.close
     (tie.spec
     returns
-    read32-requires
-    cast-n
-    read32-requires-2
-    cast-k
-    add-result
-    add-result-2
+    (λ c κs. search needs)
+    (λ c. search needs)
+    (λ c κs. search needs)
+    (λ c. search needs)
+    (λ c. search needs)
+    (λ c. search needs)
     returns-2)

@@ -26,23 +26,8 @@ abbrev μ-loop : tie.MeasureT-loop
 returns : tie.Need-returns Inv-loop μ-loop
 returns c = unsound-test _ _ (λ k. omega (arith, k .fits))
 
-read32-requires : tie.Need-read32-requires Inv-loop μ-loop
-read32-requires c κs = search needs
-
-cast-n : tie.Need-cast-n Inv-loop μ-loop
-cast-n c = search needs
-
-read32-requires-2 : tie.Need-read32-requires-2 Inv-loop μ-loop
-read32-requires-2 c κs = search needs
-
-cast-k : tie.Need-cast-k Inv-loop μ-loop
-cast-k c = search needs
-
 returns-2 : tie.Need-returns-2 Inv-loop μ-loop
 returns-2 c = unsound-test _ _ (λ k. omega (arith, k .few))
-
-add-if3 : tie.Need-add-if3 Inv-loop μ-loop
-add-if3 c = search needs
 
 returns-3 : tie.Need-returns-3 Inv-loop μ-loop
 returns-3 c = unsound-test _ _ (λ k. omega (arith, k .fits))
@@ -50,12 +35,6 @@ returns-3 c = unsound-test _ _ (λ k. omega (arith, k .fits))
 loop-holds : tie.Need-loop-holds Inv-loop μ-loop
 unfolding tabulate total
 loop-holds c = (omega arith, omega arith, refl, λ m h. absurd (omega arith))
-
-read-entry-requires : tie.Need-read-entry-requires Inv-loop μ-loop
-read-entry-requires c κs = search needs
-
-entry-allowed-requires : tie.Need-entry-allowed-requires Inv-loop μ-loop
-entry-allowed-requires c κs = search needs
 
 returns-4 : tie.Need-returns-4 Inv-loop μ-loop
 returns-4 c =
@@ -65,17 +44,8 @@ returns-4 c =
     allowed-is j (c .before .before .before .before .before .before .before .before .before .before .before .args .len) i (c .before .before .before .before .before .before .before .before .read32 .result) (c .before .before .read-entry .result) (c .before .entry-allowed .result) (c .before .before .before .before .before .before .before .before .read32 .ensures) (c .before .before .read-entry .ensures) (c .before .entry-allowed .ensures) in
     unsound-test j (c .before .before .before .before .before .before .before .before .before .before .before .args .len) (λ k. not-both _ _ (c .if4 .taken) same (sound-entry j (c .before .before .before .before .before .before .before .before .before .before .before .args .len) k i (omega arith)))
 
-cast-sum : tie.Need-cast-sum Inv-loop μ-loop
-cast-sum c = search needs
-
 add-sum : tie.Need-add-sum Inv-loop μ-loop
 add-sum c = omega arith
-
-add-i : tie.Need-add-i Inv-loop μ-loop
-add-i c = search needs
-
-loop-less : tie.Need-loop-less Inv-loop μ-loop
-loop-less c = search needs
 
 loop-again : tie.Need-loop-again Inv-loop μ-loop
 loop-again c =
@@ -106,20 +76,20 @@ is-sound-spec =
     Inv-loop
     μ-loop
     returns
-    read32-requires
-    cast-n
-    read32-requires-2
-    cast-k
+    (λ c κs. search needs)
+    (λ c. search needs)
+    (λ c κs. search needs)
+    (λ c. search needs)
     returns-2
-    add-if3
+    (λ c. search needs)
     returns-3
     loop-holds
-    read-entry-requires
-    entry-allowed-requires
+    (λ c κs. search needs)
+    (λ c κs. search needs)
     returns-4
-    cast-sum
+    (λ c. search needs)
     add-sum
-    add-i
-    loop-less
+    (λ c. search needs)
+    (λ c. search needs)
     loop-again
     returns-5)

@@ -5,108 +5,6 @@ use borrow.Author.Needs.{needs}
 use Rattle.judge.proofs.code_of.Statement.{statement}
 use Rattle.judge.proofs.code_of.Tie as tie
 
-enum-told : tie.Need-enum-told
-enum-told c = search needs
-
-pack-requires : tie.Need-pack-requires
-pack-requires c κs = search needs
-
-enum-told-2 : tie.Need-enum-told-2
-enum-told-2 c = search needs
-
-pack-requires-2 : tie.Need-pack-requires-2
-pack-requires-2 c κs = search needs
-
-enum-told-3 : tie.Need-enum-told-3
-enum-told-3 c = search needs
-
-pack-requires-3 : tie.Need-pack-requires-3
-pack-requires-3 c κs = search needs
-
-enum-told-4 : tie.Need-enum-told-4
-enum-told-4 c = search needs
-
-pack-requires-4 : tie.Need-pack-requires-4
-pack-requires-4 c κs = search needs
-
-enum-told-5 : tie.Need-enum-told-5
-enum-told-5 c = search needs
-
-pack-requires-5 : tie.Need-pack-requires-5
-pack-requires-5 c κs = search needs
-
-enum-known-answer : tie.Need-enum-known-answer
-enum-known-answer c = search needs
-
-pack-requires-6 : tie.Need-pack-requires-6
-pack-requires-6 c κs = search needs
-
-enum-known-answer-2 : tie.Need-enum-known-answer-2
-enum-known-answer-2 c = search needs
-
-pack-requires-7 : tie.Need-pack-requires-7
-pack-requires-7 c κs = search needs
-
-enum-known-answer-3 : tie.Need-enum-known-answer-3
-enum-known-answer-3 c = search needs
-
-pack-requires-8 : tie.Need-pack-requires-8
-pack-requires-8 c κs = search needs
-
-enum-known-answer-4 : tie.Need-enum-known-answer-4
-enum-known-answer-4 c = search needs
-
-pack-requires-9 : tie.Need-pack-requires-9
-pack-requires-9 c κs = search needs
-
-enum-known-answer-5 : tie.Need-enum-known-answer-5
-enum-known-answer-5 c = search needs
-
-pack-requires-10 : tie.Need-pack-requires-10
-pack-requires-10 c κs = search needs
-
-enum-known-answer-6 : tie.Need-enum-known-answer-6
-enum-known-answer-6 c = search needs
-
-pack-requires-11 : tie.Need-pack-requires-11
-pack-requires-11 c κs = search needs
-
-enum-known-answer-7 : tie.Need-enum-known-answer-7
-enum-known-answer-7 c = search needs
-
-pack-requires-12 : tie.Need-pack-requires-12
-pack-requires-12 c κs = search needs
-
-enum-known-answer-8 : tie.Need-enum-known-answer-8
-enum-known-answer-8 c = search needs
-
-pack-requires-13 : tie.Need-pack-requires-13
-pack-requires-13 c κs = search needs
-
-enum-known-answer-9 : tie.Need-enum-known-answer-9
-enum-known-answer-9 c = search needs
-
-pack-requires-14 : tie.Need-pack-requires-14
-pack-requires-14 c κs = search needs
-
-enum-known-answer-10 : tie.Need-enum-known-answer-10
-enum-known-answer-10 c = search needs
-
-pack-requires-15 : tie.Need-pack-requires-15
-pack-requires-15 c κs = search needs
-
-enum-told-6 : tie.Need-enum-told-6
-enum-told-6 c = search needs
-
-pack-requires-16 : tie.Need-pack-requires-16
-pack-requires-16 c κs = search needs
-
-enum-told-7 : tie.Need-enum-told-7
-enum-told-7 c = search needs
-
-pack-requires-17 : tie.Need-pack-requires-17
-pack-requires-17 c κs = search needs
-
 returns : tie.Need-returns
 returns c = c .pack .ensures ∙ sym (ap (λ a. packed (answerOf a)) (c .before .enum-told .given .1))
 
@@ -162,40 +60,40 @@ pub code-of-spec : {M : Type 1} → statement M
 code-of-spec =
     tie.close
     (tie.spec
-    enum-told
-    pack-requires
-    enum-told-2
-    pack-requires-2
-    enum-told-3
-    pack-requires-3
-    enum-told-4
-    pack-requires-4
-    enum-told-5
-    pack-requires-5
-    enum-known-answer
-    pack-requires-6
-    enum-known-answer-2
-    pack-requires-7
-    enum-known-answer-3
-    pack-requires-8
-    enum-known-answer-4
-    pack-requires-9
-    enum-known-answer-5
-    pack-requires-10
-    enum-known-answer-6
-    pack-requires-11
-    enum-known-answer-7
-    pack-requires-12
-    enum-known-answer-8
-    pack-requires-13
-    enum-known-answer-9
-    pack-requires-14
-    enum-known-answer-10
-    pack-requires-15
-    enum-told-6
-    pack-requires-16
-    enum-told-7
-    pack-requires-17
+    (λ c. search needs)
+    (λ c κs. search needs)
+    (λ c. search needs)
+    (λ c κs. search needs)
+    (λ c. search needs)
+    (λ c κs. search needs)
+    (λ c. search needs)
+    (λ c κs. search needs)
+    (λ c. search needs)
+    (λ c κs. search needs)
+    (λ c. search needs)
+    (λ c κs. search needs)
+    (λ c. search needs)
+    (λ c κs. search needs)
+    (λ c. search needs)
+    (λ c κs. search needs)
+    (λ c. search needs)
+    (λ c κs. search needs)
+    (λ c. search needs)
+    (λ c κs. search needs)
+    (λ c. search needs)
+    (λ c κs. search needs)
+    (λ c. search needs)
+    (λ c κs. search needs)
+    (λ c. search needs)
+    (λ c κs. search needs)
+    (λ c. search needs)
+    (λ c κs. search needs)
+    (λ c. search needs)
+    (λ c κs. search needs)
+    (λ c. search needs)
+    (λ c κs. search needs)
+    (λ c. search needs)
+    (λ c κs. search needs)
     returns
     returns-2
     returns-3

@@ -5,15 +5,6 @@ use borrow.Author.Needs.{needs}
 use Rattle.judge.proofs.judge.Statement.{statement}
 use Rattle.judge.proofs.judge.Tie as tie
 
-read-order-requires : tie.Need-read-order-requires
-read-order-requires c κs = search needs
-
-enum-told : tie.Need-enum-told
-enum-told c = search needs
-
-enum-known-counts : tie.Need-enum-known-counts
-enum-known-counts c = search needs
-
 judge-object-requires : tie.Need-judge-object-requires
 judge-object-requires c κs = sym (c .before .before .before .read-order .ensures) ∙ c .before .counts .given .1
 
@@ -29,9 +20,9 @@ pub judge-spec : {M : Type 1} → statement M
 judge-spec =
     tie.close
     (tie.spec
-    read-order-requires
-    enum-told
-    enum-known-counts
+    (λ c κs. search needs)
+    (λ c. search needs)
+    (λ c. search needs)
     judge-object-requires
     returns
     returns-2)

@@ -12,14 +12,8 @@ check-externals-requires c κs =
     let f = c .before .before .pre .0 in
     (sound-object (a .object .now) (f .object-is), f .reading-is)
 
-enum-told : tie.Need-enum-told
-enum-told c = search needs
-
 judge-placing-requires : tie.Need-judge-placing-requires
 judge-placing-requires c κs = record { readable = c .before .before .before .before .before .pre .0; placements = c .before .before .before .before .before .pre .1; externals = sym (c .before .before .check-externals .ensures) ∙ c .enum-told .given .1 }
-
-enum-known-k : tie.Need-enum-known-k
-enum-known-k c = search needs
 
 returns : tie.Need-returns
 returns c = c .judge-placing .ensures
@@ -34,8 +28,8 @@ judge-externals-spec =
     tie.close
     (tie.spec
     check-externals-requires
-    enum-told
+    (λ c. search needs)
     judge-placing-requires
-    enum-known-k
+    (λ c. search needs)
     returns
     returns-2)

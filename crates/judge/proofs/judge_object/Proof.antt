@@ -10,9 +10,6 @@ use borrow.Author.Needs.{needs}
 use Rattle.judge.proofs.judge_object.Statement.{statement}
 use Rattle.judge.proofs.judge_object.Tie as tie
 
-window-allowed-requires : tie.Need-window-allowed-requires
-window-allowed-requires c κs = search needs
-
 returns : tie.Need-returns
 returns c =
     let a = c .before .before .before .before .args in
@@ -20,24 +17,12 @@ returns c =
     let broken : windowAllowed (base o) (a .len) ≡ false = ap (λ b. windowAllowed b (a .len)) (sym (reading-sound o (a .counts) (c .before .before .before .before .pre) .base-is)) ∙ sym (c .before .window-allowed .ensures) ∙ not-true _ (c .if1 .taken) in
     sym (gives-3 (a .object .now) o (a .len) (a .counts) (c .before .before .before .before .pre) broken)
 
-check-object-requires : tie.Need-check-object-requires
-check-object-requires c κs = search needs
-
-enum-told : tie.Need-enum-told
-enum-told c = search needs
-
 judge-placements-requires : tie.Need-judge-placements-requires
 judge-placements-requires c κs =
     let a = c .before .before .before .before .before .before .before .args in
     let o = a .order .now in
     let window : windowAllowed (base o) (a .len) ≡ true = ap (λ b. windowAllowed b (a .len)) (sym (reading-sound o (a .counts) (c .before .before .before .before .before .before .before .pre) .base-is)) ∙ sym (c .before .before .before .before .window-allowed .ensures) ∙ not-false _ (c .before .before .before .if1 .left) in
     record { reading-is = c .before .before .before .before .before .before .before .pre; window = window; object-is = sym (c .before .before .check-object .ensures) ∙ c .enum-told .given .1 }
-
-enum-told-2 : tie.Need-enum-told-2
-enum-told-2 c = search needs
-
-enum-known-i : tie.Need-enum-known-i
-enum-known-i c = search needs
 
 returns-2 : tie.Need-returns-2
 returns-2 c = c .judge-placements .ensures
@@ -60,13 +45,13 @@ pub judge-object-spec : {M : Type 1} → statement M
 judge-object-spec =
     tie.close
     (tie.spec
-    window-allowed-requires
+    (λ c κs. search needs)
     returns
-    check-object-requires
-    enum-told
+    (λ c κs. search needs)
+    (λ c. search needs)
     judge-placements-requires
-    enum-told-2
-    enum-known-i
+    (λ c. search needs)
+    (λ c. search needs)
     returns-2
     returns-3
     returns-4)

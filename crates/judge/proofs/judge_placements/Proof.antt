@@ -12,14 +12,8 @@ check-placements-requires c κs =
     let f = c .before .before .pre in
     (sound-object (a .object .now) (f .object-is), f .reading-is)
 
-enum-told : tie.Need-enum-told
-enum-told c = search needs
-
 judge-externals-requires : tie.Need-judge-externals-requires
 judge-externals-requires c κs = (c .before .before .before .before .before .pre, sym (c .before .before .check-placements .ensures) ∙ c .enum-told .given .1)
-
-enum-known-i : tie.Need-enum-known-i
-enum-known-i c = search needs
 
 returns : tie.Need-returns
 returns c = c .judge-externals .ensures
@@ -34,8 +28,8 @@ judge-placements-spec =
     tie.close
     (tie.spec
     check-placements-requires
-    enum-told
+    (λ c. search needs)
     judge-externals-requires
-    enum-known-i
+    (λ c. search needs)
     returns
     returns-2)

@@ -23,9 +23,6 @@ check-placing-requires c κs =
     let f = c .before .before .before .pre .readable in
     (sound-object (a .object .now) (f .object-is), leb-true _ _ (and-left (lengthAllowed (a .len)) _ (f .window)))
 
-enum-told : tie.Need-enum-told
-enum-told c = search needs
-
 judge-relocations-requires : tie.Need-judge-relocations-requires
 judge-relocations-requires c κs =
     let a = c .before .before .before .before .before .before .args in
@@ -36,9 +33,6 @@ judge-relocations-requires c κs =
     let found : placingCheck s (addresses o) (base o) (a .len) ≡ c .before .before .check-placing .result .fault =
     ap (λ b. placingCheck s (addresses o) b (a .len)) (sym (reading-sound o (a .counts) r .base-is)) ∙ ap (λ l. placingCheck s l (a .counts .base) (a .len)) (sym (c .before .before .before .address-array .ensures)) ∙ sym (c .before .before .check-placing .ensures .0) in
     record { named = f; placing = found ∙ c .enum-told .given .1 }
-
-enum-known-fault : tie.Need-enum-known-fault
-enum-known-fault c = search needs
 
 returns : tie.Need-returns
 returns c = c .judge-relocations .ensures
@@ -60,8 +54,8 @@ judge-placing-spec =
     (tie.spec
     address-array-requires
     check-placing-requires
-    enum-told
+    (λ c. search needs)
     judge-relocations-requires
-    enum-known-fault
+    (λ c. search needs)
     returns
     returns-2)

@@ -23,12 +23,6 @@ check-relocations-requires c κs =
     let f = c .before .before .before .pre in
     (sound-object s (f .named .readable .object-is), f .named .readable .reading-is, subst (Placed s) (sym (c .address-array .ensures)) (placed s (addresses o) (base o) (a .len) (f .placing)))
 
-enum-told : tie.Need-enum-told
-enum-told c = search needs
-
-enum-known-finding : tie.Need-enum-known-finding
-enum-known-finding c = search needs
-
 refusal-requires : tie.Need-refusal-requires
 refusal-requires c κs =
     let a = c .before .before .before .before .before .before .before .args in
@@ -67,8 +61,8 @@ judge-relocations-spec =
     (tie.spec
     address-array-requires
     check-relocations-requires
-    enum-told
-    enum-known-finding
+    (λ c. search needs)
+    (λ c. search needs)
     refusal-requires
     returns
     returns-2)

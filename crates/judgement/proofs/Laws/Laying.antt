@@ -26,7 +26,8 @@ use Rattle.journal.specs.Plans.{Piece, piece, Inside, LaysInside, overwritten, 
 use Rattle.placing.specs.Placing.{hasBytes}
 use Rattle.placing.proofs.Laws.Theorems.{inside-image}
 use Rattle.spans.specs.Spans.{highest, spanOf}
-use Rattle.spans.specs.Pieces.{pieces, Sized}
+use Rattle.spans.specs.Pieces.{pieces}
+use Rattle.spans.specs.Facts.{Sized}
 use Rattle.spans.proofs.Laws.Bounds.{highest-inside}
 use Rattle.spans.proofs.Laws.Laid.{span-of-pieces, from-base}
 use Rattle.rela.specs.Sites.{siteAt, count}

@@ -37,12 +37,6 @@ lay-one-requires c κs =
     let count : c .before .before .before .section-count .result ≡ sectionCount (a .object .now) = c .before .before .before .section-count .ensures in
     (subst (Fitting (a .object .now) (a .order .now) (a .counts)) (sym (at .inv .1)) (c .before .before .before .before .before .before .before .before .pre), c .before .before .before .before .address-array .ensures, omega arith)
 
-add-t : tie.Need-add-t Inv-loop μ-loop
-add-t c = search needs
-
-loop-less : tie.Need-loop-less Inv-loop μ-loop
-loop-less c = search needs
-
 loop-again : tie.Need-loop-again Inv-loop μ-loop
 loop-again c =
     let a = c .before .before .before .before .before .before .before .before .before .before .before .args in
@@ -69,8 +63,8 @@ lay-spec =
     section-count-requires
     loop-holds
     lay-one-requires
-    add-t
-    loop-less
+    (λ c. search needs)
+    (λ c. search needs)
     loop-again
     same-length
     returns)

@@ -23,9 +23,6 @@ read-section-requires c κs =
     let sound = is-sound s o (a .counts) (length (a .image .now)) (f .0) in
     record { header = sound .table .header; inside = omega (arith, sound .table .inside, f .2) }
 
-cast-end : tie.Need-cast-end
-cast-end c = search needs
-
 add-end : tie.Need-add-end
 add-end c =
     let a = c .before .before .before .before .before .args in
@@ -35,12 +32,6 @@ add-end c =
     let sound = is-sound s o (a .counts) (length (a .image .now)) (f .0) in
     let size : c .before .read-section .result .size ≡ sectionAt s (a .t) .size = ap (λ h. h .size) (c .before .read-section .ensures) in
     omega (arith, f .4)
-
-sub-lay-section : tie.Need-sub-lay-section
-sub-lay-section c = search needs
-
-part-lay-section-start : tie.Need-part-lay-section-start
-part-lay-section-start c = search needs
 
 part-lay-section-end : tie.Need-part-lay-section-end
 part-lay-section-end c =
@@ -65,9 +56,6 @@ lay-section-requires c κs =
     let g = f .0 in
     (sound, g .placeable .named .readable .reading-is, subst (Placed s) (sym (f .1)) (is-placed s o (a .counts) (length (a .image .now)) g), ap (relocationCheck s o) (f .1) ∙ g .relocations, f .2, f .3, omega arith)
 
-same-length : tie.Need-same-length
-same-length c = search needs
-
 returns : tie.Need-returns
 returns c =
     let a = c .before .before .before .before .before .before .before .before .before .args in
@@ -87,11 +75,11 @@ lay-at-spec =
     tie.close
     (tie.spec
     read-section-requires
-    cast-end
+    (λ c. search needs)
     add-end
-    sub-lay-section
-    part-lay-section-start
+    (λ c. search needs)
+    (λ c. search needs)
     part-lay-section-end
     lay-section-requires
-    same-length
+    (λ c. search needs)
     returns)

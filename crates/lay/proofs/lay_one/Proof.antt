@@ -26,9 +26,6 @@ read-section-requires c κs =
     let sound = is-sound s o (a .counts) (length (a .image .now)) (f .0) in
     record { header = sound .table .header; inside = omega (arith, sound .table .inside, f .2) }
 
-is-loaded-requires : tie.Need-is-loaded-requires
-is-loaded-requires c κs = search needs
-
 returns : tie.Need-returns
 returns c =
     let a = c .before .before .before .before .before .before .before .args in
@@ -103,9 +100,6 @@ lay-at-requires c κs =
     let address : getD (a .t4) (a .t) 0 ≡ getD (addresses o) (a .t) 0 = ap (λ l. getD l (a .t) 0) (f .1) in
     (f .0, f .1, f .2, bytes-loaded s o (a .counts) (length (a .image .now)) (f .0) (a .t) some, omega (arith, inside .0, inside .1))
 
-same-length : tie.Need-same-length
-same-length c = search needs
-
 returns-2 : tie.Need-returns-2
 returns-2 c =
     let a = c .before .before .before .before .before .before .before .before .before .before .before .before .args in
@@ -127,12 +121,12 @@ lay-one-spec =
     tie.close
     (tie.spec
     read-section-requires
-    is-loaded-requires
+    (λ c κs. search needs)
     returns
     mul-at
     array-read-at
     sub-at
     cast-lay-at
     lay-at-requires
-    same-length
+    (λ c. search needs)
     returns-2)

@@ -23,21 +23,6 @@ loop-holds c = (search needs, filled-none _)
 read-entry-requires : tie.Need-read-entry-requires Inv-loop μ-loop
 read-entry-requires c κs = let k : Sound _ _ = reading-sound _ _ (c .before .before .before .pre) in omega arith
 
-cast-section : tie.Need-cast-section Inv-loop μ-loop
-cast-section c = search needs
-
-mul-array : tie.Need-mul-array Inv-loop μ-loop
-mul-array c = search needs
-
-array-write-array : tie.Need-array-write-array Inv-loop μ-loop
-array-write-array c = search needs
-
-add-i : tie.Need-add-i Inv-loop μ-loop
-add-i c = search needs
-
-loop-less : tie.Need-loop-less Inv-loop μ-loop
-loop-less c = search needs
-
 loop-again : tie.Need-loop-again Inv-loop μ-loop
 loop-again c =
     let k : Sound _ _ = reading-sound _ _ (c .before .before .before .before .before .before .pre) in
@@ -63,10 +48,10 @@ address-array-spec =
     μ-loop
     loop-holds
     read-entry-requires
-    cast-section
-    mul-array
-    array-write-array
-    add-i
-    loop-less
+    (λ c. search needs)
+    (λ c. search needs)
+    (λ c. search needs)
+    (λ c. search needs)
+    (λ c. search needs)
     loop-again
     returns)

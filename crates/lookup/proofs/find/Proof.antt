@@ -23,31 +23,13 @@ abbrev μ-loop : tie.MeasureT-loop
 loop-holds : tie.Need-loop-holds Inv-loop μ-loop
 loop-holds c = (search needs, search needs, (λ j h. absurd (omega arith)), (λ j h l. absurd (omega arith)))
 
-sub-middle : tie.Need-sub-middle Inv-loop μ-loop
-sub-middle c = search needs
-
-add-middle : tie.Need-add-middle Inv-loop μ-loop
-add-middle c = search needs
-
-read-entry-requires : tie.Need-read-entry-requires Inv-loop μ-loop
-read-entry-requires c κs = search needs
-
 returns : tie.Need-returns Inv-loop μ-loop
 returns c = valueIn-read _ _ _ _ (c .before .before .before .before .before .before .pre .ascends) _ _ (c .before .before .read-entry .ensures) (c .if1 .taken) (omega arith)
-
-add-low : tie.Need-add-low Inv-loop μ-loop
-add-low c = search needs
-
-loop-less : tie.Need-loop-less Inv-loop μ-loop
-loop-less c = search needs
 
 loop-again : tie.Need-loop-again Inv-loop μ-loop
 loop-again c =
     let e : _ ≡ _ = ap (λ (e : Entry). e .index) (c .before .before .before .before .read-entry .ensures) in
     (search needs, search needs, ascending-below _ _ _ _ (c .before .before .before .before .before .before .before .before .pre .ascends) (omega arith) (omega arith), c .before .before .before .before .before .before .loop .inv .3)
-
-loop-less-2 : tie.Need-loop-less-2 Inv-loop μ-loop
-loop-less-2 c = search needs
 
 loop-again-2 : tie.Need-loop-again-2 Inv-loop μ-loop
 loop-again-2 c =
@@ -65,13 +47,13 @@ find-spec =
     Inv-loop
     μ-loop
     loop-holds
-    sub-middle
-    add-middle
-    read-entry-requires
+    (λ c. search needs)
+    (λ c. search needs)
+    (λ c κs. search needs)
     returns
-    add-low
-    loop-less
+    (λ c. search needs)
+    (λ c. search needs)
     loop-again
-    loop-less-2
+    (λ c. search needs)
     loop-again-2
     returns-2)

@@ -19,26 +19,11 @@ abbrev μ-loop : tie.MeasureT-loop
 loop-holds : tie.Need-loop-holds Inv-loop μ-loop
 loop-holds c = (search needs, λ j h. absurd (omega arith))
 
-sub-read-entry : tie.Need-sub-read-entry Inv-loop μ-loop
-sub-read-entry c = search needs
-
-read-entry-requires : tie.Need-read-entry-requires Inv-loop μ-loop
-read-entry-requires c κs = search needs
-
-read-entry-requires-2 : tie.Need-read-entry-requires-2 Inv-loop μ-loop
-read-entry-requires-2 c κs = search needs
-
 returns : tie.Need-returns Inv-loop μ-loop
 returns c =
     let low : _ ≡ _ = ap (λ (e : Entry). e .index) (c .before .before .before .before .read-entry .ensures) in
     let high : _ ≡ _ = ap (λ (e : Entry). e .index) (c .before .before .before .read-entry2 .ensures) in
     sym (ascending-not _ _ (c .before .before .before .before .before .before .loop .i) (omega arith) (omega arith) (omega arith))
-
-add-i : tie.Need-add-i Inv-loop μ-loop
-add-i c = search needs
-
-loop-less : tie.Need-loop-less Inv-loop μ-loop
-loop-less c = search needs
 
 loop-again : tie.Need-loop-again Inv-loop μ-loop
 loop-again c =
@@ -56,11 +41,11 @@ ascends-spec =
     Inv-loop
     μ-loop
     loop-holds
-    sub-read-entry
-    read-entry-requires
-    read-entry-requires-2
+    (λ c. search needs)
+    (λ c κs. search needs)
+    (λ c κs. search needs)
     returns
-    add-i
-    loop-less
+    (λ c. search needs)
+    (λ c. search needs)
     loop-again
     returns-2)

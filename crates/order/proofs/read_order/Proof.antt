@@ -11,56 +11,20 @@ use Rattle.order.proofs.read_order.Tie as tie
 returns : tie.Need-returns
 returns c = unsound-reading _ (λ k. omega arith)
 
-read32-requires : tie.Need-read32-requires
-read32-requires c κs = search needs
-
 returns-2 : tie.Need-returns-2
 returns-2 c = unsound-reading _ (λ k. omega arith)
-
-read32-requires-2 : tie.Need-read32-requires-2
-read32-requires-2 c κs = search needs
-
-cast-placements : tie.Need-cast-placements
-cast-placements c = search needs
 
 returns-3 : tie.Need-returns-3
 returns-3 c = unsound-reading _ (λ k. omega arith)
 
-mul-start : tie.Need-mul-start
-mul-start c = search needs
-
-add-start : tie.Need-add-start
-add-start c = search needs
-
 returns-4 : tie.Need-returns-4
 returns-4 c = unsound-reading _ (λ k. omega arith)
-
-mul-read32 : tie.Need-mul-read32
-mul-read32 c = search needs
-
-add-read32 : tie.Need-add-read32
-add-read32 c = search needs
-
-read32-requires-3 : tie.Need-read32-requires-3
-read32-requires-3 c κs = search needs
-
-cast-externals : tie.Need-cast-externals
-cast-externals c = search needs
 
 returns-5 : tie.Need-returns-5
 returns-5 c = unsound-read _ _ _ (c .before .before .before .before .read322 .ensures) (c .before .read323 .ensures) (λ k. omega arith)
 
-mul-if6 : tie.Need-mul-if6
-mul-if6 c = search needs
-
-add-if6 : tie.Need-add-if6
-add-if6 c = search needs
-
 returns-6 : tie.Need-returns-6
 returns-6 c = unsound-read _ _ _ (c .before .before .before .before .before .read322 .ensures) (c .before .before .read323 .ensures) (λ k. omega arith)
-
-ascends-requires : tie.Need-ascends-requires
-ascends-requires c κs = search needs
 
 returns-7 : tie.Need-returns-7
 returns-7 c = unsound-read _ _ _ (c .before .before .before .before .before .before .before .read322 .ensures) (c .before .before .before .before .read323 .ensures) (λ k. not-both _ _ (c .if7 .taken) (c .before .ascends .ensures) (k .placed))
@@ -70,9 +34,6 @@ ascends-requires-2 c κs = omega arith
 
 returns-8 : tie.Need-returns-8
 returns-8 c = unsound-read _ _ _ (c .before .before .before .before .before .before .before .before .before .read322 .ensures) (c .before .before .before .before .before .before .read323 .ensures) (λ k. not-both _ _ (c .if8 .taken) (c .before .ascends2 .ensures) (k .given))
-
-read32-requires-4 : tie.Need-read32-requires-4
-read32-requires-4 c κs = search needs
 
 returns-9 : tie.Need-returns-9
 returns-9 c =
@@ -97,25 +58,25 @@ read-order-spec =
     tie.close
     (tie.spec
     returns
-    read32-requires
+    (λ c κs. search needs)
     returns-2
-    read32-requires-2
-    cast-placements
+    (λ c κs. search needs)
+    (λ c. search needs)
     returns-3
-    mul-start
-    add-start
+    (λ c. search needs)
+    (λ c. search needs)
     returns-4
-    mul-read32
-    add-read32
-    read32-requires-3
-    cast-externals
+    (λ c. search needs)
+    (λ c. search needs)
+    (λ c κs. search needs)
+    (λ c. search needs)
     returns-5
-    mul-if6
-    add-if6
+    (λ c. search needs)
+    (λ c. search needs)
     returns-6
-    ascends-requires
+    (λ c κs. search needs)
     returns-7
     ascends-requires-2
     returns-8
-    read32-requires-4
+    (λ c κs. search needs)
     returns-9)

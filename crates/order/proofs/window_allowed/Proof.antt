@@ -9,12 +9,9 @@ returns : tie.Need-returns
 unfolding windowAllowed lengthAllowed
 returns c = rw (lt-leb (c .before .args .len) 65536 (c .if1 .taken))
 
-add-result : tie.Need-add-result
-add-result c = search needs
-
 returns-2 : tie.Need-returns-2
 unfolding windowAllowed lengthAllowed
 returns-2 c = rw (le-leb (c .before .args .len) 65536 (c .if1 .left))
 
 pub window-allowed-spec : {M : Type 1} → statement M
-window-allowed-spec = tie.close (tie.spec returns add-result returns-2)
+window-allowed-spec = tie.close (tie.spec returns (λ c. search needs) returns-2)

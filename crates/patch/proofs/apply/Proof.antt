@@ -14,18 +14,6 @@ use borrow.Author.Needs.{needs}
 use Rattle.patch.proofs.apply.Statement.{statement}
 use Rattle.patch.proofs.apply.Tie as tie
 
-read-relocation-requires : tie.Need-read-relocation-requires
-read-relocation-requires c κs = search needs
-
-cast-at : tie.Need-cast-at
-cast-at c = search needs
-
-decide-requires : tie.Need-decide-requires
-decide-requires c κs = search needs
-
-enum-known-calculation : tie.Need-enum-known-calculation
-enum-known-calculation c = search needs
-
 sum-at-requires : tie.Need-sum-at-requires
 sum-at-requires c κs =
     let f = c .before .before .before .before .before .before .before .before .before .pre in
@@ -61,9 +49,6 @@ read-bytes-requires c κs =
     let inside = store-inside s (a .site) (a .j) (f .3 .site) (shape-inside s (a .site) (a .j) (kept .shape)) _ (ap touched told) in
     (rw r (omega (arith, inside, found-length s (a .site) (f .3 .site))), store-width _ _ _ _ _ told)
 
-place-of-requires : tie.Need-place-of-requires
-place-of-requires c κs = search needs
-
 patch-requires : tie.Need-patch-requires
 patch-requires c κs =
     let a = c .before .before .before .before .before .before .before .before .before .before .before .before .before .before .before .args in
@@ -86,18 +71,6 @@ write-bytes-requires c κs =
     let kept = kept-rules s o (a .addresses) (a .site) (a .j) (f .3 .kept (a .j) (f .4)) in
     let inside = store-inside s (a .site) (a .j) (f .3 .site) (shape-inside s (a .site) (a .j) (kept .shape)) _ (ap touched told) in
     (rw r (omega (arith, inside, found-length s (a .site) (f .3 .site))), store-width _ _ _ _ _ told)
-
-enum-told : tie.Need-enum-told
-enum-told c = search needs
-
-enum-told-2 : tie.Need-enum-told-2
-enum-told-2 c = search needs
-
-enum-told-3 : tie.Need-enum-told-3
-enum-told-3 c = search needs
-
-same-length : tie.Need-same-length
-same-length c = search needs
 
 returns : tie.Need-returns
 returns c =
@@ -143,20 +116,20 @@ pub apply-spec : {M : Type 1} → statement M
 apply-spec =
     tie.close
     (tie.spec
-    read-relocation-requires
-    cast-at
-    decide-requires
-    enum-known-calculation
+    (λ c κs. search needs)
+    (λ c. search needs)
+    (λ c κs. search needs)
+    (λ c. search needs)
     sum-at-requires
     distance-for-requires
     read-bytes-requires
-    place-of-requires
+    (λ c κs. search needs)
     patch-requires
     write-bytes-requires
-    enum-told
-    enum-told-2
-    enum-told-3
-    same-length
+    (λ c. search needs)
+    (λ c. search needs)
+    (λ c. search needs)
+    (λ c. search needs)
     returns
     returns-2
     returns-3

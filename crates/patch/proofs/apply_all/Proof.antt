@@ -16,9 +16,6 @@ Inv-loop object order counts symbols addresses site part₀ n j₀ part j = (j �
 abbrev μ-loop : tie.MeasureT-loop
 μ-loop object order counts symbols addresses site part₀ n j₀ part j = n - j
 
-cast-n : tie.Need-cast-n Inv-loop μ-loop
-cast-n c = search needs
-
 loop-holds : tie.Need-loop-holds Inv-loop μ-loop
 unfolding after
 loop-holds c = (omega arith, refl, c .before .before .before .before .pre .4)
@@ -31,21 +28,12 @@ apply-requires c κs =
     let size : length (at .part) ≡ a .site .target .size = at .inv .1 ∙ ap length (f .4) ∙ found-length (a .object .now) (a .site) (f .3 .site) in
     (f .0, f .1, f .2, f .3, c .before .loop-test .taken, size)
 
-add-j : tie.Need-add-j Inv-loop μ-loop
-add-j c = search needs
-
-loop-less : tie.Need-loop-less Inv-loop μ-loop
-loop-less c = search needs
-
 loop-again : tie.Need-loop-again Inv-loop μ-loop
 unfolding after
 loop-again c =
     let a = c .before .before .before .before .before .before .before .before .before .before .args in
     let at = c .before .before .before .before .before .loop in
     (omega arith, omega arith, rw add-one (c .before .before .apply .ensures ∙ ap (applied (a .object .now) (a .order .now) (a .addresses) (a .site) (at .j)) (at .inv .2)))
-
-same-length : tie.Need-same-length Inv-loop μ-loop
-same-length c = search needs
 
 returns : tie.Need-returns Inv-loop μ-loop
 returns c =
@@ -60,11 +48,11 @@ apply-all-spec =
     (tie.spec
     Inv-loop
     μ-loop
-    cast-n
+    (λ c. search needs)
     loop-holds
     apply-requires
-    add-j
-    loop-less
+    (λ c. search needs)
+    (λ c. search needs)
     loop-again
-    same-length
+    (λ c. search needs)
     returns)

@@ -5,24 +5,6 @@ use borrow.Author.Needs.{needs}
 use Rattle.patch.proofs.distance_at.Statement.{statement}
 use Rattle.patch.proofs.distance_at.Tie as tie
 
-read-relocation-requires : tie.Need-read-relocation-requires
-read-relocation-requires c κs = search needs
-
-symbol-value-requires : tie.Need-symbol-value-requires
-symbol-value-requires c κs = search needs
-
-place-of-requires : tie.Need-place-of-requires
-place-of-requires c κs = search needs
-
-target-of-requires : tie.Need-target-of-requires
-target-of-requires c κs = search needs
-
-cast-sub32 : tie.Need-cast-sub32
-cast-sub32 c = search needs
-
-sub32-requires : tie.Need-sub32-requires
-sub32-requires c κs = search needs
-
 returns : tie.Need-returns
 returns c =
     let a = c .before .before .before .before .before .before .before .before .args in
@@ -32,10 +14,10 @@ pub distance-at-spec : {M : Type 1} → statement M
 distance-at-spec =
     tie.close
     (tie.spec
-    read-relocation-requires
-    symbol-value-requires
-    place-of-requires
-    target-of-requires
-    cast-sub32
-    sub32-requires
+    (λ c κs. search needs)
+    (λ c κs. search needs)
+    (λ c κs. search needs)
+    (λ c κs. search needs)
+    (λ c. search needs)
+    (λ c κs. search needs)
     returns)

@@ -4,9 +4,6 @@ use borrow.Author.Needs.{needs}
 use Rattle.patch.proofs.distance_for.Statement.{statement}
 use Rattle.patch.proofs.distance_for.Tie as tie
 
-takes-pair-requires : tie.Need-takes-pair-requires
-takes-pair-requires c κs = search needs
-
 pair-distance-requires : tie.Need-pair-distance-requires
 pair-distance-requires c κs =
     let f = c .before .before .before .before .pre in
@@ -21,4 +18,4 @@ returns-2 c = rw (← (c .before .takes-pair .ensures), c .if1 .left)
 
 pub distance-for-spec : {M : Type 1} → statement M
 distance-for-spec =
-    tie.close (tie.spec takes-pair-requires pair-distance-requires returns returns-2)
+    tie.close (tie.spec (λ c κs. search needs) pair-distance-requires returns returns-2)

@@ -9,12 +9,6 @@ use borrow.Author.Needs.{needs}
 use Rattle.patch.proofs.high_part.Statement.{statement}
 use Rattle.patch.proofs.high_part.Tie as tie
 
-hi20-requires : tie.Need-hi20-requires
-hi20-requires c κs = search needs
-
-cast-result : tie.Need-cast-result
-cast-result c = search needs
-
 mul-result : tie.Need-mul-result
 unfolding high
 mul-result c =
@@ -28,4 +22,4 @@ returns c =
     (ap (λ h. 4096 * h) (c .hi20 .ensures), omega arith)
 
 pub high-part-spec : {M : Type 1} → statement M
-high-part-spec = tie.close (tie.spec hi20-requires cast-result mul-result returns)
+high-part-spec = tie.close (tie.spec (λ c κs. search needs) (λ c. search needs) mul-result returns)

@@ -16,9 +16,6 @@ use borrow.Author.Needs.{needs}
 use Rattle.patch.proofs.lay_section.Statement.{statement}
 use Rattle.patch.proofs.lay_section.Tie as tie
 
-read-section-requires : tie.Need-read-section-requires
-read-section-requires c κs = search needs
-
 section-bytes-requires : tie.Need-section-bytes-requires
 section-bytes-requires c κs =
     let a = c .before .before .before .before .args in
@@ -37,15 +34,6 @@ copy-requires c κs =
     let inside = loaded-inside s (f .0) (a .t) (f .4) (f .5) in
     let size : length (bytesOf s (sectionAt s (a .t))) ≡ sectionAt s (a .t) .size = length-part s (sectionAt s (a .t) .offset .0) (sectionAt s (a .t) .size) (inside .inside) in
     rw (c .before .section-bytes .ensures, c .before .before .read-section .ensures) (size ∙ sym (f .6))
-
-rela-of-requires : tie.Need-rela-of-requires
-rela-of-requires c κs = search needs
-
-section-count-requires : tie.Need-section-count-requires
-section-count-requires c κs = search needs
-
-symbols-of-requires : tie.Need-symbols-of-requires
-symbols-of-requires c κs = search needs
 
 site-at-requires : tie.Need-site-at-requires
 site-at-requires c κs =
@@ -68,9 +56,6 @@ apply-all-requires c κs =
     let held = c .before .before .before .before .before .before .before .before .copy .ensures ∙ c .before .before .before .before .before .before .before .before .before .before .section-bytes .ensures ∙ ap (bytesOf s) (c .before .before .before .before .before .before .before .before .before .before .before .read-section .ensures) ∙ sym (found-target s (a .addresses) (a .t) there) ∙ ap (found s) (sym site) in
     (f .0, f .1, c .before .before .symbols-of .ensures, subst (Checked s o (a .addresses)) (sym site) (checked s o (a .addresses) (f .0) (f .2) (f .3) (relaOf s (a .t)) there (counts .0)), held)
 
-same-length : tie.Need-same-length
-same-length c = search needs
-
 returns : tie.Need-returns
 returns c =
     let a = c .before .before .before .before .before .before .before .before .before .before .before .before .before .before .before .before .before .before .args in
@@ -80,9 +65,6 @@ returns c =
     let there : relaOf s (a .t) < sectionCount s = omega (arith, c .before .before .before .before .before .before .before .before .rela-of .ensures, c .before .before .before .before .before .before .before .section-count .ensures, c .before .before .before .before .before .before .if1 .taken) in
     let site : c .before .before .before .before .site-at .result ≡ siteAt s (a .addresses) (relaOf s (a .t)) = c .before .before .before .before .site-at .ensures ∙ ap (siteAt s (a .addresses)) (c .before .before .before .before .before .before .before .before .rela-of .ensures) in
     c .before .before .apply-all .ensures ∙ ap (λ x. after s o (a .addresses) x (count x)) site ∙ sym (relocated-some s o (a .addresses) (a .t) there)
-
-same-length-2 : tie.Need-same-length-2
-same-length-2 c = search needs
 
 returns-2 : tie.Need-returns-2
 returns-2 c =
@@ -97,15 +79,15 @@ pub lay-section-spec : {M : Type 1} → statement M
 lay-section-spec =
     tie.close
     (tie.spec
-    read-section-requires
+    (λ c κs. search needs)
     section-bytes-requires
     copy-requires
-    rela-of-requires
-    section-count-requires
-    symbols-of-requires
+    (λ c κs. search needs)
+    (λ c κs. search needs)
+    (λ c κs. search needs)
     site-at-requires
     apply-all-requires
-    same-length
+    (λ c. search needs)
     returns
-    same-length-2
+    (λ c. search needs)
     returns-2)

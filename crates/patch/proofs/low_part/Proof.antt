@@ -5,14 +5,8 @@ use borrow.Author.Needs.{needs}
 use Rattle.patch.proofs.low_part.Statement.{statement}
 use Rattle.patch.proofs.low_part.Tie as tie
 
-lo12-requires : tie.Need-lo12-requires
-lo12-requires c κs = search needs
-
-cast-result : tie.Need-cast-result
-cast-result c = search needs
-
 returns : tie.Need-returns
 returns c = (c .lo12 .ensures, rw (c .lo12 .ensures) (residue-lt 12 (low 32 (c .before .args .x))))
 
 pub low-part-spec : {M : Type 1} → statement M
-low-part-spec = tie.close (tie.spec lo12-requires cast-result returns)
+low-part-spec = tie.close (tie.spec (λ c κs. search needs) (λ c. search needs) returns)

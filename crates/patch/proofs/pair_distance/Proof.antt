@@ -13,12 +13,6 @@ use borrow.Author.Needs.{needs}
 use Rattle.patch.proofs.pair_distance.Statement.{statement}
 use Rattle.patch.proofs.pair_distance.Tie as tie
 
-read-relocation-requires : tie.Need-read-relocation-requires
-read-relocation-requires c κs = search needs
-
-cast-read-symbol : tie.Need-cast-read-symbol
-cast-read-symbol c = search needs
-
 read-symbol-requires : tie.Need-read-symbol-requires
 read-symbol-requires c κs =
     let a = c .before .before .before .before .args in
@@ -27,12 +21,6 @@ read-symbol-requires c κs =
     let there : c .before .read-relocation .result .symbol < symbolCount s = rw (c .before .read-relocation .ensures) (f .5 .inside (f .4)) in
     rw (f .2 .table (omega (arith, f .2 .count))) (symbol-inside s (f .0) _ there)
 
-hi20-pair-requires : tie.Need-hi20-pair-requires
-hi20-pair-requires c κs = search needs
-
-enum-known-k : tie.Need-enum-known-k
-enum-known-k c = search needs
-
 distance-at-requires : tie.Need-distance-at-requires
 distance-at-requires c κs =
     let a = c .before .before .before .before .before .before .before .before .before .args in
@@ -40,9 +28,6 @@ distance-at-requires c κs =
     let f = c .before .before .before .before .before .before .before .before .before .pre in
     let found = pair-there s (a .site) _ _ (sym (c .before .before .before .hi20-pair .ensures) ∙ c .before .k .given .1) in
     (f .0, f .1, f .2, record { site = f .3 .site; there = found .0 })
-
-enum-told : tie.Need-enum-told
-enum-told c = search needs
 
 returns : tie.Need-returns
 returns c =
@@ -68,12 +53,12 @@ pub pair-distance-spec : {M : Type 1} → statement M
 pair-distance-spec =
     tie.close
     (tie.spec
-    read-relocation-requires
-    cast-read-symbol
+    (λ c κs. search needs)
+    (λ c. search needs)
     read-symbol-requires
-    hi20-pair-requires
-    enum-known-k
+    (λ c κs. search needs)
+    (λ c. search needs)
     distance-at-requires
-    enum-told
+    (λ c. search needs)
     returns
     returns-2)

@@ -14,119 +14,20 @@ use borrow.Author.Needs.{needs}
 use Rattle.patch.proofs.patch.Statement.{statement}
 use Rattle.patch.proofs.patch.Tie as tie
 
-cast-t : tie.Need-cast-t
-cast-t c = search needs
-
-cast-sub32 : tie.Need-cast-sub32
-cast-sub32 c = search needs
-
-sub32-requires : tie.Need-sub32-requires
-sub32-requires c κs = search needs
-
-enum-told : tie.Need-enum-told
-enum-told c = search needs
-
-cast-put-field : tie.Need-cast-put-field
-cast-put-field c = search needs
-
-put-field-requires : tie.Need-put-field-requires
-put-field-requires c κs = search needs
-
-enum-told-2 : tie.Need-enum-told-2
-enum-told-2 c = search needs
-
-cast-put-field-2 : tie.Need-cast-put-field-2
-cast-put-field-2 c = search needs
-
-put-field-requires-2 : tie.Need-put-field-requires-2
-put-field-requires-2 c κs = search needs
-
-enum-told-3 : tie.Need-enum-told-3
-enum-told-3 c = search needs
-
-cast-put-field-3 : tie.Need-cast-put-field-3
-cast-put-field-3 c = search needs
-
-put-field-requires-3 : tie.Need-put-field-requires-3
-put-field-requires-3 c κs = search needs
-
-enum-told-4 : tie.Need-enum-told-4
-enum-told-4 c = search needs
-
-both-halves-requires : tie.Need-both-halves-requires
-both-halves-requires c κs = search needs
-
-put-field-requires-4 : tie.Need-put-field-requires-4
-put-field-requires-4 c κs = search needs
-
-enum-told-5 : tie.Need-enum-told-5
-enum-told-5 c = search needs
-
-high-part-requires : tie.Need-high-part-requires
-high-part-requires c κs = search needs
-
-put-field-requires-5 : tie.Need-put-field-requires-5
-put-field-requires-5 c κs = search needs
-
-enum-told-6 : tie.Need-enum-told-6
-enum-told-6 c = search needs
-
-high-part-requires-2 : tie.Need-high-part-requires-2
-high-part-requires-2 c κs = search needs
-
-put-field-requires-6 : tie.Need-put-field-requires-6
-put-field-requires-6 c κs = search needs
-
-enum-told-7 : tie.Need-enum-told-7
-enum-told-7 c = search needs
-
-low-part-requires : tie.Need-low-part-requires
-low-part-requires c κs = search needs
-
-put-field-requires-7 : tie.Need-put-field-requires-7
-put-field-requires-7 c κs = search needs
-
-enum-told-8 : tie.Need-enum-told-8
-enum-told-8 c = search needs
-
-low-part-requires-2 : tie.Need-low-part-requires-2
-low-part-requires-2 c κs = search needs
-
-put-field-requires-8 : tie.Need-put-field-requires-8
-put-field-requires-8 c κs = search needs
-
-enum-told-9 : tie.Need-enum-told-9
-enum-told-9 c = search needs
-
 data-width-requires : tie.Need-data-width-requires
 data-width-requires c κs =
     let a = c .before .before .before .before .args in
     sym (ap (λ k. onData k (a .field)) (c .enum-told9 .given .1)) ∙ c .before .before .before .before .pre
-
-add-requires : tie.Need-add-requires
-add-requires c κs = search needs
-
-enum-told-10 : tie.Need-enum-told-10
-enum-told-10 c = search needs
 
 data-width-requires-2 : tie.Need-data-width-requires-2
 data-width-requires-2 c κs =
     let a = c .before .before .before .before .args in
     sym (ap (λ k. onData k (a .field)) (c .enum-told10 .given .1)) ∙ c .before .before .before .before .pre
 
-sub-requires : tie.Need-sub-requires
-sub-requires c κs = search needs
-
-enum-told-11 : tie.Need-enum-told-11
-enum-told-11 c = search needs
-
 data-width-requires-3 : tie.Need-data-width-requires-3
 data-width-requires-3 c κs =
     let a = c .before .before .before .before .args in
     sym (ap (λ k. onData k (a .field)) (c .enum-told11 .given .1)) ∙ c .before .before .before .before .pre
-
-set-requires : tie.Need-set-requires
-set-requires c κs = search needs
 
 returns : tie.Need-returns
 unfolding patched
@@ -235,42 +136,42 @@ pub patch-spec : {M : Type 1} → statement M
 patch-spec =
     tie.close
     (tie.spec
-    cast-t
-    cast-sub32
-    sub32-requires
-    enum-told
-    cast-put-field
-    put-field-requires
-    enum-told-2
-    cast-put-field-2
-    put-field-requires-2
-    enum-told-3
-    cast-put-field-3
-    put-field-requires-3
-    enum-told-4
-    both-halves-requires
-    put-field-requires-4
-    enum-told-5
-    high-part-requires
-    put-field-requires-5
-    enum-told-6
-    high-part-requires-2
-    put-field-requires-6
-    enum-told-7
-    low-part-requires
-    put-field-requires-7
-    enum-told-8
-    low-part-requires-2
-    put-field-requires-8
-    enum-told-9
+    (λ c. search needs)
+    (λ c. search needs)
+    (λ c κs. search needs)
+    (λ c. search needs)
+    (λ c. search needs)
+    (λ c κs. search needs)
+    (λ c. search needs)
+    (λ c. search needs)
+    (λ c κs. search needs)
+    (λ c. search needs)
+    (λ c. search needs)
+    (λ c κs. search needs)
+    (λ c. search needs)
+    (λ c κs. search needs)
+    (λ c κs. search needs)
+    (λ c. search needs)
+    (λ c κs. search needs)
+    (λ c κs. search needs)
+    (λ c. search needs)
+    (λ c κs. search needs)
+    (λ c κs. search needs)
+    (λ c. search needs)
+    (λ c κs. search needs)
+    (λ c κs. search needs)
+    (λ c. search needs)
+    (λ c κs. search needs)
+    (λ c κs. search needs)
+    (λ c. search needs)
     data-width-requires
-    add-requires
-    enum-told-10
+    (λ c κs. search needs)
+    (λ c. search needs)
     data-width-requires-2
-    sub-requires
-    enum-told-11
+    (λ c κs. search needs)
+    (λ c. search needs)
     data-width-requires-3
-    set-requires
+    (λ c κs. search needs)
     returns
     returns-2
     returns-3

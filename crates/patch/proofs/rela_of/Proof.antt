@@ -20,20 +20,8 @@ Inv-loop object t n i₀ i = (i ≤ n) × ((k : ℕ) → k < i → (countingRela
 abbrev μ-loop : tie.MeasureT-loop
 μ-loop object t n i₀ i = n - i
 
-section-count-requires : tie.Need-section-count-requires Inv-loop μ-loop
-section-count-requires c κs = search needs
-
 loop-holds : tie.Need-loop-holds Inv-loop μ-loop
 loop-holds c = (omega arith, λ k h. absurd (omega arith))
-
-read-section-requires : tie.Need-read-section-requires Inv-loop μ-loop
-read-section-requires c κs = search needs
-
-is-counting-rela-requires : tie.Need-is-counting-rela-requires Inv-loop μ-loop
-is-counting-rela-requires c κs = search needs
-
-cast-if1 : tie.Need-cast-if1 Inv-loop μ-loop
-cast-if1 c = search needs
 
 returns : tie.Need-returns Inv-loop μ-loop
 unfolding relaOf
@@ -44,12 +32,6 @@ returns c =
     let count : c .before .before .before .before .before .before .section-count .result ≡ sectionCount s = c .before .before .before .before .before .before .section-count .ensures in
     let here : (countingRela s (at .i) && eqb (sectionAt s (at .i) .info) (a .t)) ≡ true = rw (← (c .before .before .before .read-section .ensures), ← (c .before .before .is-counting-rela .ensures)) (c .if1 .taken) in
     sym (first-is _ (sectionCount s) (at .i) (omega arith) (at .inv .1) (λ _. here))
-
-add-i : tie.Need-add-i Inv-loop μ-loop
-add-i c = search needs
-
-loop-less : tie.Need-loop-less Inv-loop μ-loop
-loop-less c = search needs
 
 loop-again : tie.Need-loop-again Inv-loop μ-loop
 loop-again c =
@@ -75,13 +57,13 @@ rela-of-spec =
     (tie.spec
     Inv-loop
     μ-loop
-    section-count-requires
+    (λ c κs. search needs)
     loop-holds
-    read-section-requires
-    is-counting-rela-requires
-    cast-if1
+    (λ c κs. search needs)
+    (λ c κs. search needs)
+    (λ c. search needs)
     returns
-    add-i
-    loop-less
+    (λ c. search needs)
+    (λ c. search needs)
     loop-again
     returns-2)

@@ -5,15 +5,6 @@ use borrow.Author.Needs.{needs}
 use Rattle.patch.proofs.sum_at.Statement.{statement}
 use Rattle.patch.proofs.sum_at.Tie as tie
 
-read-relocation-requires : tie.Need-read-relocation-requires
-read-relocation-requires c κs = search needs
-
-symbol-value-requires : tie.Need-symbol-value-requires
-symbol-value-requires c κs = search needs
-
-symbol-sum-requires : tie.Need-symbol-sum-requires
-symbol-sum-requires c κs = search needs
-
 returns : tie.Need-returns
 returns c =
     let a = c .before .before .before .before .before .args in
@@ -21,4 +12,4 @@ returns c =
 
 pub sum-at-spec : {M : Type 1} → statement M
 sum-at-spec =
-    tie.close (tie.spec read-relocation-requires symbol-value-requires symbol-sum-requires returns)
+    tie.close (tie.spec (λ c κs. search needs) (λ c κs. search needs) (λ c κs. search needs) returns)

@@ -9,21 +9,6 @@ use borrow.Author.Needs.{needs}
 use Rattle.patch.proofs.symbol_sum.Statement.{statement}
 use Rattle.patch.proofs.symbol_sum.Tie as tie
 
-enum-known-value : tie.Need-enum-known-value
-enum-known-value c = search needs
-
-cast-add64 : tie.Need-cast-add64
-cast-add64 c = search needs
-
-add64-requires : tie.Need-add64-requires
-add64-requires c κs = search needs
-
-enum-told : tie.Need-enum-told
-enum-told c = search needs
-
-add64-requires-2 : tie.Need-add64-requires-2
-add64-requires-2 c κs = search needs
-
 returns : tie.Need-returns
 returns c =
     let a = c .before .before .before .before .args in
@@ -38,10 +23,10 @@ pub symbol-sum-spec : {M : Type 1} → statement M
 symbol-sum-spec =
     tie.close
     (tie.spec
-    enum-known-value
-    cast-add64
-    add64-requires
-    enum-told
-    add64-requires-2
+    (λ c. search needs)
+    (λ c. search needs)
+    (λ c κs. search needs)
+    (λ c. search needs)
+    (λ c κs. search needs)
     returns
     returns-2)

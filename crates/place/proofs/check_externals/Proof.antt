@@ -42,9 +42,6 @@ read-entry-requires c κs =
     let f = reading-sound o (c .before .before .before .before .before .args .counts) (c .before .before .before .before .before .pre .1) in
     omega arith
 
-is-undefined-requires : tie.Need-is-undefined-requires Inv-loop μ-loop
-is-undefined-requires c κs = search needs
-
 returns : tie.Need-returns Inv-loop μ-loop
 unfolding externalCheck externalValue
 returns c =
@@ -58,12 +55,6 @@ returns c =
     ap At (ap (λ e. e .index) (c .before .before .read-entry .ensures))
     ∙ sym (lowest-named o (16 + 8 * c .before .before .before .before .before .before .before .before .args .counts .placements) (c .before .before .before .before .before .before .before .before .args .counts .externals) (f .given) (λ x. not (isUndefined s x)) (at .j) (omega arith) small (at .inv .1) found)
     ∙ ap (λ k. lowest (λ x. isGiven (valueIn o (16 + 8 * k .placements) (k .externals) x) && not (isUndefined s x)) (2 ^ 32)) counts
-
-add-j : tie.Need-add-j Inv-loop μ-loop
-add-j c = search needs
-
-loop-less : tie.Need-loop-less Inv-loop μ-loop
-loop-less c = search needs
 
 loop-again : tie.Need-loop-again Inv-loop μ-loop
 loop-again c =
@@ -95,9 +86,9 @@ check-externals-spec =
     add-start
     loop-holds
     read-entry-requires
-    is-undefined-requires
+    (λ c κs. search needs)
     returns
-    add-j
-    loop-less
+    (λ c. search needs)
+    (λ c. search needs)
     loop-again
     returns-2)

@@ -15,15 +15,6 @@ use borrow.Author.Needs.{needs}
 use Rattle.place.proofs.check_placements.Statement.{statement}
 use Rattle.place.proofs.check_placements.Tie as tie
 
-lowest-unplaced-requires : tie.Need-lowest-unplaced-requires
-lowest-unplaced-requires c κs = search needs
-
-first-extra-requires : tie.Need-first-extra-requires
-first-extra-requires c κs = search needs
-
-section-count-requires : tie.Need-section-count-requires
-section-count-requires c κs = search needs
-
 read-entry-requires : tie.Need-read-entry-requires
 read-entry-requires c κs =
     let a = c .before .before .before .before .before .before .before .args in
@@ -36,9 +27,6 @@ read-entry-requires c κs =
     let x : c .before .before .before .first-extra .result ≡ firstExtra s o = c .before .before .before .first-extra .ensures in
     let count : c .before .before .section-count .result ≡ sectionCount s = c .before .before .section-count .ensures in
     omega arith
-
-cast-if2 : tie.Need-cast-if2
-cast-if2 c = search needs
 
 cast-t13 : tie.Need-cast-t13
 cast-t13 c =
@@ -139,11 +127,11 @@ pub check-placements-spec : {M : Type 1} → statement M
 check-placements-spec =
     tie.close
     (tie.spec
-    lowest-unplaced-requires
-    first-extra-requires
-    section-count-requires
+    (λ c κs. search needs)
+    (λ c κs. search needs)
+    (λ c κs. search needs)
     read-entry-requires
-    cast-if2
+    (λ c. search needs)
     cast-t13
     returns
     returns-2

@@ -27,9 +27,6 @@ read-entry-requires c κs =
     let f = reading-sound o (c .before .before .before .before .args .counts) (c .before .before .before .before .pre .1) in
     omega arith
 
-is-allocated-section-requires : tie.Need-is-allocated-section-requires Inv-loop μ-loop
-is-allocated-section-requires c κs = search needs
-
 returns : tie.Need-returns Inv-loop μ-loop
 returns c =
     let o = c .before .before .before .before .before .before .before .args .order .now in
@@ -38,12 +35,6 @@ returns c =
     let s = c .before .before .before .before .before .before .before .args .object .now in
     let found : not (isAllocated s (placement o (at .j) .index)) ≡ true = rw (← (c .before .before .read-entry .ensures), ← (c .before .is-allocated-section .ensures)) (c .if1 .taken) in
     sym (first-is _ (placementCount o) (at .j) (omega arith) (at .inv .1) (λ _. found))
-
-add-j : tie.Need-add-j Inv-loop μ-loop
-add-j c = search needs
-
-loop-less : tie.Need-loop-less Inv-loop μ-loop
-loop-less c = search needs
 
 loop-again : tie.Need-loop-again Inv-loop μ-loop
 loop-again c =
@@ -69,9 +60,9 @@ first-extra-spec =
     μ-loop
     loop-holds
     read-entry-requires
-    is-allocated-section-requires
+    (λ c κs. search needs)
     returns
-    add-j
-    loop-less
+    (λ c. search needs)
+    (λ c. search needs)
     loop-again
     returns-2)

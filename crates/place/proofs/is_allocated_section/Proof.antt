@@ -10,21 +10,12 @@ use borrow.Author.Needs.{needs}
 use Rattle.place.proofs.is_allocated_section.Statement.{statement}
 use Rattle.place.proofs.is_allocated_section.Tie as tie
 
-section-count-requires : tie.Need-section-count-requires
-section-count-requires c κs = search needs
-
 returns : tie.Need-returns
 unfolding isAllocated
 returns c =
     let a = c .before .before .before .args in
     let out : sectionCount (a .object .now) ≤ a .i = omega arith in
     rw (le-ltb _ _ out)
-
-read-section-requires : tie.Need-read-section-requires
-read-section-requires c κs = search needs
-
-is-allocated-requires : tie.Need-is-allocated-requires
-is-allocated-requires c κs = search needs
 
 returns-2 : tie.Need-returns-2
 unfolding isAllocated
@@ -36,4 +27,4 @@ returns-2 c =
 pub is-allocated-section-spec : {M : Type 1} → statement M
 is-allocated-section-spec =
     tie.close
-    (tie.spec section-count-requires returns read-section-requires is-allocated-requires returns-2)
+    (tie.spec (λ c κs. search needs) returns (λ c κs. search needs) (λ c κs. search needs) returns-2)

@@ -12,18 +12,12 @@ use borrow.Author.Needs.{needs}
 use Rattle.place.proofs.is_undefined.Statement.{statement}
 use Rattle.place.proofs.is_undefined.Tie as tie
 
-symbol-count-requires : tie.Need-symbol-count-requires
-symbol-count-requires c κs = search needs
-
 returns : tie.Need-returns
 unfolding isUndefined
 returns c =
     let a = c .before .before .before .args in
     let out : symbolCount (a .object .now) ≤ a .k = omega arith in
     simp (le-ltb _ _ out, and-false)
-
-symbol-table-requires : tie.Need-symbol-table-requires
-symbol-table-requires c κs = search needs
 
 read-section-requires : tie.Need-read-section-requires
 read-section-requires c κs =
@@ -52,9 +46,9 @@ pub is-undefined-spec : {M : Type 1} → statement M
 is-undefined-spec =
     tie.close
     (tie.spec
-    symbol-count-requires
+    (λ c κs. search needs)
     returns
-    symbol-table-requires
+    (λ c κs. search needs)
     read-section-requires
     read-symbol-requires
     returns-2)

@@ -19,26 +19,8 @@ Inv-loop object order counts n i₀ i = (i ≤ n) × ((j : ℕ) → j < i → (i
 abbrev μ-loop : tie.MeasureT-loop
 μ-loop object order counts n i₀ i = n - i
 
-section-count-requires : tie.Need-section-count-requires Inv-loop μ-loop
-section-count-requires c κs = search needs
-
 loop-holds : tie.Need-loop-holds Inv-loop μ-loop
 loop-holds c = (omega arith, λ j h. absurd (omega arith))
-
-cast-is-allocated-section : tie.Need-cast-is-allocated-section Inv-loop μ-loop
-cast-is-allocated-section c = search needs
-
-is-allocated-section-requires : tie.Need-is-allocated-section-requires Inv-loop μ-loop
-is-allocated-section-requires c κs = search needs
-
-cast-placed-at : tie.Need-cast-placed-at Inv-loop μ-loop
-cast-placed-at c = search needs
-
-placed-at-requires : tie.Need-placed-at-requires Inv-loop μ-loop
-placed-at-requires c κs = search needs
-
-is-given-requires : tie.Need-is-given-requires Inv-loop μ-loop
-is-given-requires c κs = search needs
 
 returns : tie.Need-returns Inv-loop μ-loop
 returns c =
@@ -48,12 +30,6 @@ returns c =
     let found : (isAllocated s i && not (isGiven (placedAt o i))) ≡ true = rw (← (c .before .before .before .is-allocated-section .ensures), ← (c .before .before .placed-at .ensures), ← (c .before .is-given .ensures)) (c .if1 .taken) in
     let count : c .before .before .before .before .before .before .section-count .result ≡ sectionCount s = c .before .before .before .before .before .before .section-count .ensures in
     sym (first-is _ (sectionCount s) i (omega arith) (c .before .before .before .before .before .loop .inv .1) (λ _. found))
-
-add-i : tie.Need-add-i Inv-loop μ-loop
-add-i c = search needs
-
-loop-less : tie.Need-loop-less Inv-loop μ-loop
-loop-less c = search needs
 
 loop-again : tie.Need-loop-again Inv-loop μ-loop
 loop-again c =
@@ -77,15 +53,15 @@ lowest-unplaced-spec =
     (tie.spec
     Inv-loop
     μ-loop
-    section-count-requires
+    (λ c κs. search needs)
     loop-holds
-    cast-is-allocated-section
-    is-allocated-section-requires
-    cast-placed-at
-    placed-at-requires
-    is-given-requires
+    (λ c. search needs)
+    (λ c κs. search needs)
+    (λ c. search needs)
+    (λ c κs. search needs)
+    (λ c κs. search needs)
     returns
-    add-i
-    loop-less
+    (λ c. search needs)
+    (λ c. search needs)
     loop-again
     returns-2)

@@ -10,45 +10,18 @@ Inv-loop image₀ book₀ count i₀ image book i = i ≤ count
 abbrev μ-loop : tie.MeasureT-loop
 μ-loop image₀ book₀ count i₀ image book i = count - i
 
-slice-aggregate-image : tie.Need-slice-aggregate-image Inv-loop μ-loop
-slice-aggregate-image c = search needs
-
-slice-aggregate-book : tie.Need-slice-aggregate-book Inv-loop μ-loop
-slice-aggregate-book c = search needs
-
-number-requires : tie.Need-number-requires Inv-loop μ-loop
-number-requires c κs = search needs
-
-loop-holds : tie.Need-loop-holds Inv-loop μ-loop
-loop-holds c = search needs
-
-case-requires : tie.Need-case-requires Inv-loop μ-loop
-case-requires c κs = search needs
-
-add-i : tie.Need-add-i Inv-loop μ-loop
-add-i c = search needs
-
-loop-less : tie.Need-loop-less Inv-loop μ-loop
-loop-less c = search needs
-
-loop-again : tie.Need-loop-again Inv-loop μ-loop
-loop-again c = search needs
-
-returns : tie.Need-returns Inv-loop μ-loop
-returns c = search needs
-
 pub main-spec : {M : Type 1} → statement M
 main-spec =
     tie.close
     (tie.spec
     Inv-loop
     μ-loop
-    slice-aggregate-image
-    slice-aggregate-book
-    number-requires
-    loop-holds
-    case-requires
-    add-i
-    loop-less
-    loop-again
-    returns)
+    (λ c. search needs)
+    (λ c. search needs)
+    (λ c κs. search needs)
+    (λ c. search needs)
+    (λ c κs. search needs)
+    (λ c. search needs)
+    (λ c. search needs)
+    (λ c. search needs)
+    (λ c. search needs))

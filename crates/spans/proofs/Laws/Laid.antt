@@ -15,7 +15,8 @@ use Rattle.place.specs.declared.Fault.the-variants.{Nowhere}
 use Rattle.placing.specs.Placing.{endOf, hasBytes, placingCheck}
 use Rattle.placing.proofs.Laws.Theorems.{inside-image}
 use Rattle.spans.specs.Spans.{highest, lowestByte, spanOf}
-use Rattle.spans.specs.Pieces.{pieces, Sized, FromBase}
+use Rattle.spans.specs.Pieces.{pieces}
+use Rattle.spans.specs.Facts.{Sized, FromBase}
 
 -- ---- one piece more
 

@@ -4,12 +4,9 @@ use borrow.Author.Needs.{needs}
 use Rattle.spans.proofs.has_bytes.Statement.{statement}
 use Rattle.spans.proofs.has_bytes.Tie as tie
 
-is-loaded-requires : tie.Need-is-loaded-requires
-is-loaded-requires c κs = search needs
-
 returns : tie.Need-returns
 unfolding hasBytes
 returns c = rw (c .before .is-loaded .ensures)
 
 pub has-bytes-spec : {M : Type 1} → statement M
-has-bytes-spec = tie.close (tie.spec is-loaded-requires returns)
+has-bytes-spec = tie.close (tie.spec (λ c κs. search needs) returns)

@@ -19,24 +19,6 @@ loop-holds : tie.Need-loop-holds Inv-loop μ-loop
 unfolding highest
 loop-holds c = (omega arith, refl)
 
-read-section-requires : tie.Need-read-section-requires Inv-loop μ-loop
-read-section-requires c κs = search needs
-
-mul-raised : tie.Need-mul-raised Inv-loop μ-loop
-mul-raised c = search needs
-
-array-read-raised : tie.Need-array-read-raised Inv-loop μ-loop
-array-read-raised c = search needs
-
-raised-requires : tie.Need-raised-requires Inv-loop μ-loop
-raised-requires c κs = search needs
-
-add-i : tie.Need-add-i Inv-loop μ-loop
-add-i c = search needs
-
-loop-less : tie.Need-loop-less Inv-loop μ-loop
-loop-less c = search needs
-
 loop-again : tie.Need-loop-again Inv-loop μ-loop
 unfolding highest endOf
 loop-again c = (omega arith, rw (add-one, c .raised .ensures, c .before .read-section .ensures, c .before .before .before .loop .inv .1))
@@ -54,11 +36,11 @@ highest-end-spec =
     Inv-loop
     μ-loop
     loop-holds
-    read-section-requires
-    mul-raised
-    array-read-raised
-    raised-requires
-    add-i
-    loop-less
+    (λ c κs. search needs)
+    (λ c. search needs)
+    (λ c. search needs)
+    (λ c κs. search needs)
+    (λ c. search needs)
+    (λ c. search needs)
     loop-again
     returns)

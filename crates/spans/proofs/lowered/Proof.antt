@@ -7,19 +7,10 @@ use borrow.Author.Needs.{needs}
 use Rattle.spans.proofs.lowered.Statement.{statement}
 use Rattle.spans.proofs.lowered.Tie as tie
 
-has-bytes-requires : tie.Need-has-bytes-requires
-has-bytes-requires c κs = search needs
-
 returns : tie.Need-returns
 returns c =
     let none : hasBytes (c .before .before .args .h) ≡ false = sym (c .before .has-bytes .ensures) ∙ not-true _ (c .if1 .taken) in
     rw none
-
-less-requires : tie.Need-less-requires
-less-requires c κs = search needs
-
-smaller-requires : tie.Need-smaller-requires
-smaller-requires c κs = search needs
 
 returns-2 : tie.Need-returns-2
 returns-2 c =
@@ -30,8 +21,8 @@ pub lowered-spec : {M : Type 1} → statement M
 lowered-spec =
     tie.close
     (tie.spec
-    has-bytes-requires
+    (λ c κs. search needs)
     returns
-    less-requires
-    smaller-requires
+    (λ c κs. search needs)
+    (λ c κs. search needs)
     returns-2)

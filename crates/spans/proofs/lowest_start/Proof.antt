@@ -18,24 +18,6 @@ loop-holds : tie.Need-loop-holds Inv-loop μ-loop
 unfolding lowestByte
 loop-holds c = (omega arith, refl)
 
-read-section-requires : tie.Need-read-section-requires Inv-loop μ-loop
-read-section-requires c κs = search needs
-
-mul-lowered : tie.Need-mul-lowered Inv-loop μ-loop
-mul-lowered c = search needs
-
-array-read-lowered : tie.Need-array-read-lowered Inv-loop μ-loop
-array-read-lowered c = search needs
-
-lowered-requires : tie.Need-lowered-requires Inv-loop μ-loop
-lowered-requires c κs = search needs
-
-add-i : tie.Need-add-i Inv-loop μ-loop
-add-i c = search needs
-
-loop-less : tie.Need-loop-less Inv-loop μ-loop
-loop-less c = search needs
-
 loop-again : tie.Need-loop-again Inv-loop μ-loop
 unfolding lowestByte
 loop-again c = (omega arith, rw (add-one, c .lowered .ensures, c .before .read-section .ensures, c .before .before .before .loop .inv .1))
@@ -53,11 +35,11 @@ lowest-start-spec =
     Inv-loop
     μ-loop
     loop-holds
-    read-section-requires
-    mul-lowered
-    array-read-lowered
-    lowered-requires
-    add-i
-    loop-less
+    (λ c κs. search needs)
+    (λ c. search needs)
+    (λ c. search needs)
+    (λ c κs. search needs)
+    (λ c. search needs)
+    (λ c. search needs)
     loop-again
     returns)

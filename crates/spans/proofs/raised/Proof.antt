@@ -7,25 +7,10 @@ use borrow.Author.Needs.{needs}
 use Rattle.spans.proofs.raised.Statement.{statement}
 use Rattle.spans.proofs.raised.Tie as tie
 
-has-bytes-requires : tie.Need-has-bytes-requires
-has-bytes-requires c κs = search needs
-
 returns : tie.Need-returns
 returns c =
     let none : hasBytes (c .before .before .args .h) ≡ false = sym (c .before .has-bytes .ensures) ∙ not-true _ (c .if1 .taken) in
     rw none
-
-cast-less : tie.Need-cast-less
-cast-less c = search needs
-
-add-less : tie.Need-add-less
-add-less c = search needs
-
-less-requires : tie.Need-less-requires
-less-requires c κs = search needs
-
-larger-requires : tie.Need-larger-requires
-larger-requires c κs = search needs
 
 returns-2 : tie.Need-returns-2
 returns-2 c =
@@ -36,10 +21,10 @@ pub raised-spec : {M : Type 1} → statement M
 raised-spec =
     tie.close
     (tie.spec
-    has-bytes-requires
+    (λ c κs. search needs)
     returns
-    cast-less
-    add-less
-    less-requires
-    larger-requires
+    (λ c. search needs)
+    (λ c. search needs)
+    (λ c κs. search needs)
+    (λ c κs. search needs)
     returns-2)

@@ -7,24 +7,12 @@ use borrow.Author.Needs.{needs}
 use Rattle.spans.proofs.span_of.Statement.{statement}
 use Rattle.spans.proofs.span_of.Tie as tie
 
-section-count-requires : tie.Need-section-count-requires
-section-count-requires c κs = search needs
-
-highest-end-requires : tie.Need-highest-end-requires
-highest-end-requires c κs = search needs
-
-lowest-start-requires : tie.Need-lowest-start-requires
-lowest-start-requires c κs = search needs
-
 cast-start : tie.Need-cast-start
 cast-start c =
     let end : c .before .highest-end .result < 4294967296 =
     rw (c .before .highest-end .ensures, c .before .before .section-count .ensures) (c .before .before .before .before .pre .1) in
     let low : c .lowest-start .result ≤ c .before .highest-end .result = rw (c .lowest-start .ensures) (lowestByte-le _ _ _ _ _) in
     omega arith
-
-less-requires : tie.Need-less-requires
-less-requires c κs = search needs
 
 cast-size : tie.Need-cast-size
 cast-size c =
@@ -40,10 +28,10 @@ pub span-of-spec : {M : Type 1} → statement M
 span-of-spec =
     tie.close
     (tie.spec
-    section-count-requires
-    highest-end-requires
-    lowest-start-requires
+    (λ c κs. search needs)
+    (λ c κs. search needs)
+    (λ c κs. search needs)
     cast-start
-    less-requires
+    (λ c κs. search needs)
     cast-size
     returns)

@@ -20,7 +20,7 @@ use Rattle.effects.specs.Effects.{touched, isStore}
 use Rattle.rela.specs.Shape.{end}
 use Rattle.stores.specs.Patches.{patched}
 use Rattle.stores.specs.Sections.{sumAt, pairDistance, applied, after}
-use Rattle.stores.specs.Promises.{touches, untouched}
+use Rattle.stores.specs.Wholes.{touches, untouched}
 use Rattle.stores.proofs.Laws.Sections.{applied-store, applied-marker}
 
 module _ (object order addresses : List ℕ) (x : Site) where

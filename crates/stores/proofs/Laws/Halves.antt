@@ -34,7 +34,8 @@ use Rattle.values.proofs.Laws.Pairs.{pair-there}
 use Rattle.rules.proofs.Laws.Search.{kept-rules}
 use Rattle.stores.specs.Patches.{highPart}
 use Rattle.stores.specs.Sections.{distanceAt, distanceOf, pairDistance, after}
-use Rattle.stores.specs.Promises.{stackAt, Stored, ReadsBack, AddUp, Halves}
+use Rattle.stores.specs.Promises.{stackAt, Stored, ReadsBack, AddUp}
+use Rattle.stores.specs.Wholes.{Halves}
 use Rattle.stores.specs.Facts.{Checked}
 use Rattle.stores.proofs.Laws.ReadBack.{read-back}
 

@@ -41,9 +41,6 @@ returns-3 c =
     let wrong : (eqb (symbolAt s (sectionAt s (symbolTable s)) (a .k) .kind) 6 || eqb (symbolAt s (sectionAt s (symbolTable s)) (a .k) .kind) 10) ≡ true = rw (← symbol) (c .if3 .taken) in
     (rw (ne-eqb _ _ (c .before .before .before .before .before .before .if1 .left), lt-ltb _ _ there, wrong), refl)
 
-value-in-section-requires : tie.Need-value-in-section-requires
-value-in-section-requires c κs = search needs
-
 returns-4 : tie.Need-returns-4
 unfolding symbolValue
 returns-4 c =
@@ -63,5 +60,5 @@ symbol-value-spec =
     returns-2
     read-symbol-requires
     returns-3
-    value-in-section-requires
+    (λ c κs. search needs)
     returns-4)

@@ -7,17 +7,8 @@ use borrow.Author.Needs.{needs}
 use Rattle.symbols.proofs.symbols_of.Statement.{statement}
 use Rattle.symbols.proofs.symbols_of.Tie as tie
 
-symbol-count-requires : tie.Need-symbol-count-requires
-symbol-count-requires c κs = search needs
-
-read-section-requires : tie.Need-read-section-requires
-read-section-requires c κs = search needs
-
 returns : tie.Need-returns
 returns c = record { count = c .before .before .symbol-count .ensures; table = λ some. absurd (omega arith) }
-
-symbol-table-requires : tie.Need-symbol-table-requires
-symbol-table-requires c κs = search needs
 
 read-section-requires-2 : tie.Need-read-section-requires-2
 read-section-requires-2 c κs =
@@ -35,9 +26,9 @@ pub symbols-of-spec : {M : Type 1} → statement M
 symbols-of-spec =
     tie.close
     (tie.spec
-    symbol-count-requires
-    read-section-requires
+    (λ c κs. search needs)
+    (λ c κs. search needs)
     returns
-    symbol-table-requires
+    (λ c κs. search needs)
     read-section-requires-2
     returns-2)

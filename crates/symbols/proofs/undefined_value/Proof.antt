@@ -6,12 +6,6 @@ use borrow.Author.Needs.{needs}
 use Rattle.symbols.proofs.undefined_value.Statement.{statement}
 use Rattle.symbols.proofs.undefined_value.Tie as tie
 
-enum-known-value : tie.Need-enum-known-value
-enum-known-value c = search needs
-
-enum-told : tie.Need-enum-told
-enum-told c = search needs
-
 returns : tie.Need-returns
 returns c = sym (ap (ofUndefined (c .before .before .before .args .symbol)) (c .before .value .given .1))
 
@@ -26,4 +20,4 @@ returns-3 c =
     rw (c .before .before .enum-told .given .1, ne-eqb _ _ (c .if1 .left))
 
 pub undefined-value-spec : {M : Type 1} → statement M
-undefined-value-spec = tie.close (tie.spec enum-known-value enum-told returns returns-2 returns-3)
+undefined-value-spec = tie.close (tie.spec (λ c. search needs) (λ c. search needs) returns returns-2 returns-3)

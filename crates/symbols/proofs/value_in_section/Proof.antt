@@ -11,18 +11,6 @@ use borrow.Author.Needs.{needs}
 use Rattle.symbols.proofs.value_in_section.Statement.{statement}
 use Rattle.symbols.proofs.value_in_section.Tie as tie
 
-cast-is-allocated-section : tie.Need-cast-is-allocated-section
-cast-is-allocated-section c = search needs
-
-is-allocated-section-requires : tie.Need-is-allocated-section-requires
-is-allocated-section-requires c κs = search needs
-
-cast-address : tie.Need-cast-address
-cast-address c = search needs
-
-mul-address : tie.Need-mul-address
-mul-address c = search needs
-
 array-read-address : tie.Need-array-read-address
 array-read-address c =
     let a = c .before .before .before .before .args in
@@ -31,12 +19,6 @@ array-read-address c =
     let there = allocated-there s (a .symbol .section) inside in
     let few = c .before .before .before .before .pre .0 .table .few in
     omega arith
-
-cast-add32 : tie.Need-cast-add32
-cast-add32 c = search needs
-
-add32-requires : tie.Need-add32-requires
-add32-requires c κs = search needs
 
 returns : tie.Need-returns
 unfolding ofSection
@@ -62,12 +44,6 @@ returns-3 c =
     let inside : isAllocated s (a .symbol .section) ≡ false = sym (c .before .before .before .is-allocated-section .ensures) ∙ c .before .before .if1 .left in
     rw (inside, ne-eqb _ _ (c .before .if2 .left), ne-eqb _ _ (c .if3 .taken))
 
-external-value-requires : tie.Need-external-value-requires
-external-value-requires c κs = search needs
-
-undefined-value-requires : tie.Need-undefined-value-requires
-undefined-value-requires c κs = search needs
-
 returns-4 : tie.Need-returns-4
 unfolding ofSection
 returns-4 c =
@@ -80,16 +56,16 @@ pub value-in-section-spec : {M : Type 1} → statement M
 value-in-section-spec =
     tie.close
     (tie.spec
-    cast-is-allocated-section
-    is-allocated-section-requires
-    cast-address
-    mul-address
+    (λ c. search needs)
+    (λ c κs. search needs)
+    (λ c. search needs)
+    (λ c. search needs)
     array-read-address
-    cast-add32
-    add32-requires
+    (λ c. search needs)
+    (λ c κs. search needs)
     returns
     returns-2
     returns-3
-    external-value-requires
-    undefined-value-requires
+    (λ c κs. search needs)
+    (λ c κs. search needs)
     returns-4)

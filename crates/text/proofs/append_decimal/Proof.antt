@@ -7,23 +7,11 @@ use borrow.Author.Needs.{needs}
 use Rattle.text.proofs.append_decimal.Statement.{statement}
 use Rattle.text.proofs.append_decimal.Tie as tie
 
-decimal-requires : tie.Need-decimal-requires
-decimal-requires c κs = search needs
-
-array-share-prefix-digits : tie.Need-array-share-prefix-digits
-array-share-prefix-digits c = search needs
-
-slice-aggregate-append : tie.Need-slice-aggregate-append
-slice-aggregate-append c = search needs
-
 append-requires : tie.Need-append-requires
 append-requires c κs =
     let d = c .before .before .decimal in
     let few = fewest-most (c .before .before .before .before .before .args .n) (d .result) (c .before .before .before .before .before .fits .n .fits) (d .ensures .1 .0) in
     omega (arith, few, d .ensures .0 .0, d .ensures .0 .1)
-
-same-length : tie.Need-same-length
-same-length c = search needs
 
 returns : tie.Need-returns
 unfolding decimal
@@ -39,9 +27,9 @@ pub append-decimal-spec : {M : Type 1} → statement M
 append-decimal-spec =
     tie.close
     (tie.spec
-    decimal-requires
-    array-share-prefix-digits
-    slice-aggregate-append
+    (λ c κs. search needs)
+    (λ c. search needs)
+    (λ c. search needs)
     append-requires
-    same-length
+    (λ c. search needs)
     returns)

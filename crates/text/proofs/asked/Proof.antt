@@ -11,23 +11,11 @@ use Rattle.text.proofs.asked.Tie as tie
 never : _≡_ {A = Bool} false true → ⊥
 never e = let z : _≡_ {A = ℕ} 0 1 = ap (λ b. cond b 1 0) e in omega arith
 
-slice-aggregate-same : tie.Need-slice-aggregate-same
-slice-aggregate-same c = search needs
-
-same-requires : tie.Need-same-requires
-same-requires c κs = search needs
-
 returns : tie.Need-returns
 returns c = (c .before .same .ensures .0 (c .if2 .taken), search needs)
 
 returns-2 : tie.Need-returns-2
 returns-2 c = (λ e _. never (sym (c .if2 .left) ∙ c .before .same .ensures .1 e), λ e n. omega arith)
-
-slice-aggregate-same-2 : tie.Need-slice-aggregate-same-2
-slice-aggregate-same-2 c = search needs
-
-same-requires-2 : tie.Need-same-requires-2
-same-requires-2 c κs = search needs
 
 returns-3 : tie.Need-returns-3
 returns-3 c = (c .before .same2 .ensures .0 (c .if4 .taken), search needs)
@@ -35,19 +23,16 @@ returns-3 c = (c .before .same2 .ensures .0 (c .if4 .taken), search needs)
 returns-4 : tie.Need-returns-4
 returns-4 c = (λ e n. omega arith, λ e _. never (sym (c .if4 .left) ∙ c .before .same2 .ensures .1 e))
 
-returns-5 : tie.Need-returns-5
-returns-5 c = search needs
-
 pub asked-spec : {M : Type 1} → statement M
 asked-spec =
     tie.close
     (tie.spec
-    slice-aggregate-same
-    same-requires
+    (λ c. search needs)
+    (λ c κs. search needs)
     returns
     returns-2
-    slice-aggregate-same-2
-    same-requires-2
+    (λ c. search needs)
+    (λ c κs. search needs)
     returns-3
     returns-4
-    returns-5)
+    (λ c. search needs))

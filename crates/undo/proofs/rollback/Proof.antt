@@ -8,20 +8,8 @@ use borrow.Author.Needs.{needs}
 use Rattle.undo.proofs.rollback.Statement.{statement}
 use Rattle.undo.proofs.rollback.Tie as tie
 
-is-sound-requires : tie.Need-is-sound-requires
-is-sound-requires c κs = search needs
-
-same-length : tie.Need-same-length
-same-length c = search needs
-
 returns : tie.Need-returns
 returns c = unsound _ (sym (c .before .is-sound .ensures) ∙ not-true _ (c .if1 .taken))
-
-length-allowed-requires : tie.Need-length-allowed-requires
-length-allowed-requires c κs = search needs
-
-same-length-2 : tie.Need-same-length-2
-same-length-2 c = search needs
 
 returns-2 : tie.Need-returns-2
 returns-2 c = too-long _ (sym (c .before .before .before .is-sound .ensures) ∙ not-false _ (c .before .before .if1 .left)) (sym (c .before .length-allowed .ensures) ∙ not-true _ (c .if2 .taken))
@@ -29,20 +17,11 @@ returns-2 c = too-long _ (sym (c .before .before .before .is-sound .ensures) ∙
 read32-requires : tie.Need-read32-requires
 read32-requires c κs = let k = test-sound _ _ (sym (c .before .before .before .before .is-sound .ensures) ∙ not-false _ (c .before .before .before .if1 .left)) in omega (arith, k .fits)
 
-same-length-3 : tie.Need-same-length-3
-same-length-3 c = search needs
-
 returns-3 : tie.Need-returns-3
 returns-3 c = none-stands _ (sym (c .before .before .before .before .before .before .is-sound .ensures) ∙ not-false _ (c .before .before .before .before .before .if1 .left)) (sym (c .before .before .before .before .length-allowed .ensures) ∙ not-false _ (c .before .before .before .if2 .left)) (sym (c .before .read32 .ensures) ∙ c .if3 .taken)
 
 undo-requires : tie.Need-undo-requires
 undo-requires c κs = undoable _ _ (test-sound _ _ (sym (c .before .before .before .before .before .before .before .before .is-sound .ensures) ∙ not-false _ (c .before .before .before .before .before .before .before .if1 .left))) (omega (arith, c .before .before .if3 .left, c .before .before .before .read32 .ensures))
-
-same-length-4 : tie.Need-same-length-4
-same-length-4 c = search needs
-
-same-length-5 : tie.Need-same-length-5
-same-length-5 c = search needs
 
 returns-4 : tie.Need-returns-4
 returns-4 c = done-with _ (sym (c .before .before .before .before .before .before .before .before .before .before .before .before .before .is-sound .ensures) ∙ not-false _ (c .before .before .before .before .before .before .before .before .before .before .before .before .if1 .left)) (sym (c .before .before .before .before .before .before .before .before .before .before .before .length-allowed .ensures) ∙ not-false _ (c .before .before .before .before .before .before .before .before .before .before .if2 .left)) _ (λ z. c .before .before .before .before .before .before .before .if3 .left (c .before .before .before .before .before .before .before .before .read32 .ensures ∙ z)) (c .before .before .before .before .undo .ensures)
@@ -51,16 +30,16 @@ pub rollback-spec : {M : Type 1} → statement M
 rollback-spec =
     tie.close
     (tie.spec
-    is-sound-requires
-    same-length
+    (λ c κs. search needs)
+    (λ c. search needs)
     returns
-    length-allowed-requires
-    same-length-2
+    (λ c κs. search needs)
+    (λ c. search needs)
     returns-2
     read32-requires
-    same-length-3
+    (λ c. search needs)
     returns-3
     undo-requires
-    same-length-4
-    same-length-5
+    (λ c. search needs)
+    (λ c. search needs)
     returns-4)

@@ -10,9 +10,6 @@ use borrow.Author.Needs.{needs}
 use Rattle.validate.proofs.check_object.Statement.{statement}
 use Rattle.validate.proofs.check_object.Tie as tie
 
-check-header-requires : tie.Need-check-header-requires
-check-header-requires c κs = search needs
-
 returns : tie.Need-returns
 unfolding objectCheck
 returns c =
@@ -25,12 +22,6 @@ check-sections-requires c κs =
     let s = c .before .before .before .args .object .now in
     let allowed : headerAllowed s ≡ true = sym (c .before .check-header .ensures) ∙ not-false _ (c .if1 .left) in
     header-long s allowed
-
-enum-told : tie.Need-enum-told
-enum-told c = search needs
-
-enum-known-i : tie.Need-enum-known-i
-enum-known-i c = search needs
 
 returns-2 : tie.Need-returns-2
 unfolding objectCheck
@@ -51,10 +42,10 @@ pub check-object-spec : {M : Type 1} → statement M
 check-object-spec =
     tie.close
     (tie.spec
-    check-header-requires
+    (λ c κs. search needs)
     returns
     check-sections-requires
-    enum-told
-    enum-known-i
+    (λ c. search needs)
+    (λ c. search needs)
     returns-2
     returns-3)

@@ -19,14 +19,8 @@ Inv-loop object n i₀ i = (i ≤ n) × ((j : ℕ) → j < i → not (sectionWel
 abbrev μ-loop : tie.MeasureT-loop
 μ-loop object n i₀ i = n - i
 
-check-table-requires : tie.Need-check-table-requires Inv-loop μ-loop
-check-table-requires c κs = search needs
-
 returns : tie.Need-returns Inv-loop μ-loop
 returns c = sym (check-table-broken _ (sym (c .before .check-table .ensures) ∙ not-true _ (c .if1 .taken)))
-
-section-count-requires : tie.Need-section-count-requires Inv-loop μ-loop
-section-count-requires c κs = search needs
 
 loop-holds : tie.Need-loop-holds Inv-loop μ-loop
 loop-holds c = (omega arith, λ j h. absurd (omega arith))
@@ -64,12 +58,6 @@ returns-2 c =
     let broken : sectionWell s (at .i) ≡ false = section-well s (at .i) ∙ rw (← (c .before .before .before .is-plain-well .ensures), ← (c .before .before .is-symbol-table-well .ensures), ← (c .before .is-relocation-well .ensures)) (not-true _ (c .if2 .taken)) in
     sym (check-broken s (at .i) allowed (omega arith) (at .inv .1) broken)
 
-add-i : tie.Need-add-i Inv-loop μ-loop
-add-i c = search needs
-
-loop-less : tie.Need-loop-less Inv-loop μ-loop
-loop-less c = search needs
-
 loop-again : tie.Need-loop-again Inv-loop μ-loop
 loop-again c =
     let s = c .before .before .before .before .before .before .before .before .before .before .args .object .now in
@@ -90,16 +78,16 @@ check-sections-spec =
     (tie.spec
     Inv-loop
     μ-loop
-    check-table-requires
+    (λ c κs. search needs)
     returns
-    section-count-requires
+    (λ c κs. search needs)
     loop-holds
     is-plain-well-requires
     is-symbol-table-well-requires
     is-relocation-well-requires
     cast-t12
     returns-2
-    add-i
-    loop-less
+    (λ c. search needs)
+    (λ c. search needs)
     loop-again
     returns-3)

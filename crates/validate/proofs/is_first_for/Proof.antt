@@ -20,12 +20,6 @@ abbrev μ-loop : tie.MeasureT-loop
 loop-holds : tie.Need-loop-holds Inv-loop μ-loop
 loop-holds c = (omega arith, λ k h. absurd (omega arith))
 
-read-section-requires : tie.Need-read-section-requires Inv-loop μ-loop
-read-section-requires c κs = search needs
-
-is-counting-rela-requires : tie.Need-is-counting-rela-requires Inv-loop μ-loop
-is-counting-rela-requires c κs = search needs
-
 returns : tie.Need-returns Inv-loop μ-loop
 returns c =
     let s = c .before .before .before .before .before .before .before .args .object .now in
@@ -33,12 +27,6 @@ returns c =
     let t = c .before .before .before .before .before .before .before .args .target in
     let found : countingRela s (at .j) && eqb (sectionAt s (at .j) .info) t ≡ true = rw (← (c .before .before .is-counting-rela .ensures), ← (c .before .before .before .read-section .ensures)) (c .if1 .taken) in
     sym (everywhere-not _ (c .before .before .before .before .before .before .before .args .i) (at .j) (omega arith) (ap not found))
-
-add-j : tie.Need-add-j Inv-loop μ-loop
-add-j c = search needs
-
-loop-less : tie.Need-loop-less Inv-loop μ-loop
-loop-less c = search needs
 
 loop-again : tie.Need-loop-again Inv-loop μ-loop
 loop-again c =
@@ -61,10 +49,10 @@ is-first-for-spec =
     Inv-loop
     μ-loop
     loop-holds
-    read-section-requires
-    is-counting-rela-requires
+    (λ c κs. search needs)
+    (λ c κs. search needs)
     returns
-    add-j
-    loop-less
+    (λ c. search needs)
+    (λ c. search needs)
     loop-again
     returns-2)

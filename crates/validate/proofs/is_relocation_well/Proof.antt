@@ -8,12 +8,6 @@ use borrow.Author.Needs.{needs}
 use Rattle.validate.proofs.is_relocation_well.Statement.{statement}
 use Rattle.validate.proofs.is_relocation_well.Tie as tie
 
-read-section-requires : tie.Need-read-section-requires
-read-section-requires c κs = search needs
-
-has-target-requires : tie.Need-has-target-requires
-has-target-requires c κs = search needs
-
 returns : tie.Need-returns
 returns c =
     let s = c .before .before .before .before .args .object .now in
@@ -52,8 +46,8 @@ pub is-relocation-well-spec : {M : Type 1} → statement M
 is-relocation-well-spec =
     tie.close
     (tie.spec
-    read-section-requires
-    has-target-requires
+    (λ c κs. search needs)
+    (λ c κs. search needs)
     returns
     returns-2
     returns-3

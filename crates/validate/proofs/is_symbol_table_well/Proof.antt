@@ -4,16 +4,10 @@ use borrow.Author.Needs.{needs}
 use Rattle.validate.proofs.is_symbol_table_well.Statement.{statement}
 use Rattle.validate.proofs.is_symbol_table_well.Tie as tie
 
-read-section-requires : tie.Need-read-section-requires
-read-section-requires c κs = search needs
-
-symbol-table-requires : tie.Need-symbol-table-requires
-symbol-table-requires c κs = search needs
-
 returns : tie.Need-returns
 unfolding symbolTableWell
 returns c = rw (c .before .before .before .symbol-table .ensures, c .before .before .before .before .before .read-section .ensures)
 
 pub is-symbol-table-well-spec : {M : Type 1} → statement M
 is-symbol-table-well-spec =
-    tie.close (tie.spec read-section-requires symbol-table-requires returns)
+    tie.close (tie.spec (λ c κs. search needs) (λ c κs. search needs) returns)

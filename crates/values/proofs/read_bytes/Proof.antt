@@ -6,29 +6,11 @@ use borrow.Author.Needs.{needs}
 use Rattle.values.proofs.read_bytes.Statement.{statement}
 use Rattle.values.proofs.read_bytes.Tie as tie
 
-read8-requires : tie.Need-read8-requires
-read8-requires c κs = search needs
-
-cast-result : tie.Need-cast-result
-cast-result c = search needs
-
 returns : tie.Need-returns
 returns c = rw (c .before .if1 .taken) (c .read8 .ensures)
 
-read16-requires : tie.Need-read16-requires
-read16-requires c κs = search needs
-
-cast-result-2 : tie.Need-cast-result-2
-cast-result-2 c = search needs
-
 returns-2 : tie.Need-returns-2
 returns-2 c = rw (c .before .if2 .taken) (c .read16 .ensures)
-
-read32-requires : tie.Need-read32-requires
-read32-requires c κs = search needs
-
-cast-result-3 : tie.Need-cast-result-3
-cast-result-3 c = search needs
 
 returns-3 : tie.Need-returns-3
 returns-3 c = rw (c .before .if3 .taken) (c .read32 .ensures)
@@ -47,14 +29,14 @@ pub read-bytes-spec : {M : Type 1} → statement M
 read-bytes-spec =
     tie.close
     (tie.spec
-    read8-requires
-    cast-result
+    (λ c κs. search needs)
+    (λ c. search needs)
     returns
-    read16-requires
-    cast-result-2
+    (λ c κs. search needs)
+    (λ c. search needs)
     returns-2
-    read32-requires
-    cast-result-3
+    (λ c κs. search needs)
+    (λ c. search needs)
     returns-3
     read64-requires
     returns-4)

@@ -8,18 +8,6 @@ use borrow.Author.Needs.{needs}
 use Rattle.values.proofs.target_of.Statement.{statement}
 use Rattle.values.proofs.target_of.Tie as tie
 
-enum-known-value : tie.Need-enum-known-value
-enum-known-value c = search needs
-
-add32-requires : tie.Need-add32-requires
-add32-requires c κs = search needs
-
-enum-told : tie.Need-enum-told
-enum-told c = search needs
-
-add32-requires-2 : tie.Need-add32-requires-2
-add32-requires-2 c κs = search needs
-
 returns : tie.Need-returns
 returns c =
     let a = c .before .before .before .before .args in
@@ -33,4 +21,4 @@ returns-2 c =
 pub target-of-spec : {M : Type 1} → statement M
 target-of-spec =
     tie.close
-    (tie.spec enum-known-value add32-requires enum-told add32-requires-2 returns returns-2)
+    (tie.spec (λ c. search needs) (λ c κs. search needs) (λ c. search needs) (λ c κs. search needs) returns returns-2)

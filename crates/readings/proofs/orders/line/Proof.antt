@@ -4,35 +4,17 @@ use borrow.Author.Needs.{needs}
 use Rattle.readings.proofs.orders.line.Statement.{statement}
 use Rattle.readings.proofs.orders.line.Tie as tie
 
-read-order-requires : tie.Need-read-order-requires
-read-order-requires c κs = search needs
-
-enum-told : tie.Need-enum-told
-enum-told c = search needs
-
-answer-requires : tie.Need-answer-requires
-answer-requires c κs = search needs
-
-enum-known-counts : tie.Need-enum-known-counts
-enum-known-counts c = search needs
-
 well-formed-requires : tie.Need-well-formed-requires
 well-formed-requires c κs = sym (c .before .before .before .read-order .ensures) ∙ c .before .counts .given .1
-
-end-requires : tie.Need-end-requires
-end-requires c κs = search needs
-
-returns : tie.Need-returns
-returns c = search needs
 
 pub line-spec : {M : Type 1} → statement M
 line-spec =
     tie.close
     (tie.spec
-    read-order-requires
-    enum-told
-    answer-requires
-    enum-known-counts
+    (λ c κs. search needs)
+    (λ c. search needs)
+    (λ c κs. search needs)
+    (λ c. search needs)
     well-formed-requires
-    end-requires
-    returns)
+    (λ c κs. search needs)
+    (λ c. search needs))

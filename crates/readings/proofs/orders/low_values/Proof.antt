@@ -10,25 +10,7 @@ Inv-loop s counts d₀ k₀ d k = k ≤ 34
 abbrev μ-loop : tie.MeasureT-loop
 μ-loop s counts d₀ k₀ d k = 34 - k
 
-loop-holds : tie.Need-loop-holds Inv-loop μ-loop
-loop-holds c = search needs
-
-values-requires : tie.Need-values-requires Inv-loop μ-loop
-values-requires c κs = search needs
-
-add-k : tie.Need-add-k Inv-loop μ-loop
-add-k c = search needs
-
-loop-less : tie.Need-loop-less Inv-loop μ-loop
-loop-less c = search needs
-
-loop-again : tie.Need-loop-again Inv-loop μ-loop
-loop-again c = search needs
-
-returns : tie.Need-returns Inv-loop μ-loop
-returns c = search needs
-
 pub low-values-spec : {M : Type 1} → statement M
 low-values-spec =
     tie.close
-    (tie.spec Inv-loop μ-loop loop-holds values-requires add-k loop-less loop-again returns)
+    (tie.spec Inv-loop μ-loop (λ c. search needs) (λ c κs. search needs) (λ c. search needs) (λ c. search needs) (λ c. search needs) (λ c. search needs))

@@ -7,37 +7,10 @@ use borrow.Author.Needs.{needs}
 use Rattle.rela.proofs.shape.is_apart.Statement.{statement}
 use Rattle.rela.proofs.shape.is_apart.Tie as tie
 
-read-relocation-requires : tie.Need-read-relocation-requires
-read-relocation-requires c κs = search needs
-
-read-relocation-requires-2 : tie.Need-read-relocation-requires-2
-read-relocation-requires-2 c κs = search needs
-
-decide-requires : tie.Need-decide-requires
-decide-requires c κs = search needs
-
-decide-requires-2 : tie.Need-decide-requires-2
-decide-requires-2 c κs = search needs
-
-stack-width-requires : tie.Need-stack-width-requires
-stack-width-requires c κs = search needs
-
-cast-end : tie.Need-cast-end
-cast-end c = search needs
-
-bytes-touched-requires : tie.Need-bytes-touched-requires
-bytes-touched-requires c κs = search needs
-
 add-end : tie.Need-add-end
 add-end c =
     let few : c .bytes-touched .result ≤ 8 = rw (c .bytes-touched .ensures, c .before .before .before .before .decide .ensures) (touched-small _) in
     omega arith
-
-cast-result : tie.Need-cast-result
-cast-result c = search needs
-
-stack-width-requires-2 : tie.Need-stack-width-requires-2
-stack-width-requires-2 c κs = search needs
 
 returns : tie.Need-returns
 unfolding sharesPlace
@@ -47,14 +20,14 @@ pub is-apart-spec : {M : Type 1} → statement M
 is-apart-spec =
     tie.close
     (tie.spec
-    read-relocation-requires
-    read-relocation-requires-2
-    decide-requires
-    decide-requires-2
-    stack-width-requires
-    cast-end
-    bytes-touched-requires
+    (λ c κs. search needs)
+    (λ c κs. search needs)
+    (λ c κs. search needs)
+    (λ c κs. search needs)
+    (λ c κs. search needs)
+    (λ c. search needs)
+    (λ c κs. search needs)
     add-end
-    cast-result
-    stack-width-requires-2
+    (λ c. search needs)
+    (λ c κs. search needs)
     returns)

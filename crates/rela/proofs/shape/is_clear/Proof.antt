@@ -7,12 +7,6 @@ use borrow.Author.Needs.{needs}
 use Rattle.rela.proofs.shape.is_clear.Statement.{statement}
 use Rattle.rela.proofs.shape.is_clear.Tie as tie
 
-enum-told : tie.Need-enum-told
-enum-told c = search needs
-
-enum-known-previous : tie.Need-enum-known-previous
-enum-known-previous c = search needs
-
 is-apart-requires : tie.Need-is-apart-requires
 is-apart-requires c κs =
     let a = c .before .before .before .before .args in
@@ -32,4 +26,4 @@ returns-2 c =
 
 pub is-clear-spec : {M : Type 1} → statement M
 is-clear-spec =
-    tie.close (tie.spec enum-told enum-known-previous is-apart-requires returns returns-2)
+    tie.close (tie.spec (λ c. search needs) (λ c. search needs) is-apart-requires returns returns-2)

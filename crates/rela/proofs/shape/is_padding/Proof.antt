@@ -11,13 +11,10 @@ returns c =
     let a = c .before .args in
     sym (padding-refused (a .at) (a .size) (a .addend) (c .if1 .taken) (omega arith))
 
-add-result : tie.Need-add-result
-add-result c = search needs
-
 returns-2 : tie.Need-returns-2
 returns-2 c =
     let a = c .before .args in
     sym (padding-is (a .at) (a .size) (a .addend) (c .if1 .left))
 
 pub is-padding-spec : {M : Type 1} → statement M
-is-padding-spec = tie.close (tie.spec returns add-result returns-2)
+is-padding-spec = tie.close (tie.spec returns (λ c. search needs) returns-2)

@@ -10,15 +10,6 @@ returns : tie.Need-returns
 unfolding neverFalls
 returns c = rw (c .if1 .taken)
 
-sub-read-relocation : tie.Need-sub-read-relocation
-sub-read-relocation c = search needs
-
-read-relocation-requires : tie.Need-read-relocation-requires
-read-relocation-requires c κs = search needs
-
-read-relocation-requires-2 : tie.Need-read-relocation-requires-2
-read-relocation-requires-2 c κs = search needs
-
 returns-2 : tie.Need-returns-2
 returns-2 c =
     let a = c .before .before .before .before .before .before .args in
@@ -29,7 +20,7 @@ never-falls-spec =
     tie.close
     (tie.spec
     returns
-    sub-read-relocation
-    read-relocation-requires
-    read-relocation-requires-2
+    (λ c. search needs)
+    (λ c κs. search needs)
+    (λ c κs. search needs)
     returns-2)

@@ -8,12 +8,6 @@ use borrow.Author.Needs.{needs}
 use Rattle.rela.proofs.sites.site_at.Statement.{statement}
 use Rattle.rela.proofs.sites.site_at.Tie as tie
 
-read-section-requires : tie.Need-read-section-requires
-read-section-requires c κs = search needs
-
-cast-index : tie.Need-cast-index
-cast-index c = search needs
-
 read-section-requires-2 : tie.Need-read-section-requires-2
 read-section-requires-2 c κs =
     let a = c .before .before .before .args in
@@ -22,9 +16,6 @@ read-section-requires-2 c κs =
     let there : sectionAt s (a .i) .info < sectionCount s = f .0 .sections (a .i) (f .1) .rela (f .2) .target-there in
     let info : c .before .read-section .result .info < sectionCount s = rw (c .before .read-section .ensures) there in
     record { header = f .0 .table .header; inside = omega (arith, info, f .0 .table .inside) }
-
-mul-t8 : tie.Need-mul-t8
-mul-t8 c = search needs
 
 array-read-t11 : tie.Need-array-read-t11
 array-read-t11 c =
@@ -43,9 +34,9 @@ pub site-at-spec : {M : Type 1} → statement M
 site-at-spec =
     tie.close
     (tie.spec
-    read-section-requires
-    cast-index
+    (λ c κs. search needs)
+    (λ c. search needs)
     read-section-requires-2
-    mul-t8
+    (λ c. search needs)
     array-read-t11
     returns)

@@ -34,24 +34,9 @@ Inv-search object order counts addresses symbols n result₀ number₀ i₀ resu
 abbrev μ-search : tie.MeasureT-search
 μ-search object order counts addresses symbols n result₀ number₀ i₀ result number i = n - i
 
-symbols-of-requires : tie.Need-symbols-of-requires Inv-loop μ-loop Inv-search μ-search
-symbols-of-requires c κs = search needs
-
-section-count-requires : tie.Need-section-count-requires Inv-loop μ-loop Inv-search μ-search
-section-count-requires c κs = search needs
-
 search-holds : tie.Need-search-holds Inv-loop μ-loop Inv-search μ-search
 unfolding sum
 search-holds c = (omega arith, refl, λ k h. absurd (omega arith), refl)
-
-is-counting-rela-requires : tie.Need-is-counting-rela-requires Inv-loop μ-loop Inv-search μ-search
-is-counting-rela-requires c κs = search needs
-
-add-i : tie.Need-add-i Inv-loop μ-loop Inv-search μ-search
-add-i c = search needs
-
-search-less : tie.Need-search-less Inv-loop μ-loop Inv-search μ-search
-search-less c = search needs
 
 search-again : tie.Need-search-again Inv-loop μ-loop Inv-search μ-search
 unfolding sum relocationsIn
@@ -77,9 +62,6 @@ site-at-requires c κs =
     let count : c .before .before .before .before .section-count .result ≡ sectionCount s = c .before .before .before .before .section-count .ensures in
     let here : at .i < sectionCount s = omega arith in
     (f .0, here, sym (c .before .is-counting-rela .ensures) ∙ not-false _ (c .if1 .left))
-
-cast-count : tie.Need-cast-count Inv-loop μ-loop Inv-search μ-search
-cast-count c = search needs
 
 loop-holds : tie.Need-loop-holds Inv-loop μ-loop Inv-search μ-search
 unfolding the-previous
@@ -119,15 +101,6 @@ find-broken-requires c κs =
     let turn = c .before .before .loop in
     (f .0, f .1, c .before .before .before .before .before .before .before .before .before .before .symbols-of .ensures, record { site = sound; there = omega arith }, turn .inv .2)
 
-is-broken-requires : tie.Need-is-broken-requires Inv-loop μ-loop Inv-search μ-search
-is-broken-requires c κs = search needs
-
-decide-requires : tie.Need-decide-requires Inv-loop μ-loop Inv-search μ-search
-decide-requires c κs = search needs
-
-step-requires : tie.Need-step-requires Inv-loop μ-loop Inv-search μ-search
-step-requires c κs = search needs
-
 add-number : tie.Need-add-number Inv-loop μ-loop Inv-search μ-search
 add-number c =
     let a = c .before .before .before .before .before .before .before .before .before .before .before .before .before .before .before .before .before .before .args in
@@ -161,9 +134,6 @@ add-j c =
     let turn = c .before .before .before .before .before .before .before .loop in
     omega (arith, counted s (at .i) (turn .j) here (omega arith), relocations-few s (f .0))
 
-loop-less : tie.Need-loop-less Inv-loop μ-loop Inv-search μ-search
-loop-less c = search needs
-
 loop-again : tie.Need-loop-again Inv-loop μ-loop Inv-search μ-search
 unfolding the-previous
 loop-again c =
@@ -186,12 +156,6 @@ loop-again c =
     ap (λ k. isBroken (findingOf s o (a .addresses) k)) number ∙ ap isBroken (finding-entry s (at .i) (turn .j) here (omega arith) o (a .addresses)) ∙ ap (λ x. isBroken (finding s o (a .addresses) x (turn .j))) (sym site) ∙ ap isBroken (sym (c .before .before .before .before .find-broken .ensures)) ∙ sym (c .before .before .before .is-broken .ensures) ∙ c .before .before .if2 .left in
     let next : c .step .result ≡ the-previous s x (turn .j + 1) = rw (add-one, c .step .ensures, c .before .decide .ensures, c .before .before .before .before .before .read-relocation .ensures, turn .inv .2) in
     (omega arith, omega (arith, turn .inv .1), next, below-more (λ k. isBroken (findingOf s o (a .addresses) k) ≡ false) _ (turn .inv .3) fine, turn .inv .4)
-
-add-i-2 : tie.Need-add-i-2 Inv-loop μ-loop Inv-search μ-search
-add-i-2 c = search needs
-
-search-less-2 : tie.Need-search-less-2 Inv-loop μ-loop Inv-search μ-search
-search-less-2 c = search needs
 
 search-again-2 : tie.Need-search-again-2 Inv-loop μ-loop Inv-search μ-search
 unfolding sum
@@ -254,27 +218,27 @@ check-relocations-spec =
     μ-loop
     Inv-search
     μ-search
-    symbols-of-requires
-    section-count-requires
+    (λ c κs. search needs)
+    (λ c κs. search needs)
     search-holds
-    is-counting-rela-requires
-    add-i
-    search-less
+    (λ c κs. search needs)
+    (λ c. search needs)
+    (λ c. search needs)
     search-again
     site-at-requires
-    cast-count
+    (λ c. search needs)
     loop-holds
     read-relocation-requires
     find-broken-requires
-    is-broken-requires
-    decide-requires
-    step-requires
+    (λ c κs. search needs)
+    (λ c κs. search needs)
+    (λ c κs. search needs)
     add-number
     add-j
-    loop-less
+    (λ c. search needs)
     loop-again
-    add-i-2
-    search-less-2
+    (λ c. search needs)
+    (λ c. search needs)
     search-again-2
     returns
     returns-2)

@@ -17,15 +17,6 @@ use borrow.Author.Needs.{needs}
 use Rattle.relocate.proofs.search.find_broken.Statement.{statement}
 use Rattle.relocate.proofs.search.find_broken.Tie as tie
 
-read-relocation-requires : tie.Need-read-relocation-requires
-read-relocation-requires c κs = search needs
-
-decide-requires : tie.Need-decide-requires
-decide-requires c κs = search needs
-
-is-shape-kept-requires : tie.Need-is-shape-kept-requires
-is-shape-kept-requires c κs = search needs
-
 returns : tie.Need-returns
 unfolding finding
 returns c =
@@ -36,9 +27,6 @@ returns c =
     let r = c .before .before .before .read-relocation .ensures in
     let broken : shapeWell s x (a .j) ≡ false = sym (c .before .is-shape-kept .ensures) ∙ not-true _ (c .if1 .taken) in
     rw broken
-
-symbol-value-requires : tie.Need-symbol-value-requires
-symbol-value-requires c κs = search needs
 
 is-symbol-kept-requires : tie.Need-is-symbol-kept-requires
 is-symbol-kept-requires c κs =
@@ -122,15 +110,6 @@ returns-4 c =
     let broken : pairWell s x (a .j) ≡ false = sym (c .before .is-paired .ensures) ∙ not-true _ (c .if4 .taken) in
     rw (shape, symbol, form, broken)
 
-target-of-requires : tie.Need-target-of-requires
-target-of-requires c κs = search needs
-
-place-of-requires : tie.Need-place-of-requires
-place-of-requires c κs = search needs
-
-is-in-reach-requires : tie.Need-is-in-reach-requires
-is-in-reach-requires c κs = search needs
-
 returns-5 : tie.Need-returns-5
 unfolding finding
 returns-5 c =
@@ -147,15 +126,6 @@ returns-5 c =
     let same : c .before .is-in-reach .result ≡ distanceWell (effect s x (a .j)) (T (S (valueAt s o (a .addresses) x (a .j))) (A s x (a .j))) (P s x (a .j)) = c .before .is-in-reach .ensures ∙ reach-read s x (a .j) _ _ _ _ _ _ (c .before .before .before .before .before .before .before .before .before .before .before .before .before .before .before .before .before .pre .3 .site) (shape-inside s x (a .j) shape) r (c .before .before .before .before .before .before .before .before .before .before .before .before .before .decide .ensures) value (c .before .before .before .target-of .ensures) (c .before .before .place-of .ensures) in
     let broken : distanceWell (effect s x (a .j)) (T (S (valueAt s o (a .addresses) x (a .j))) (A s x (a .j))) (P s x (a .j)) ≡ false = sym same ∙ not-true _ (c .if5 .taken) in
     rw (shape, symbol, form, pair, broken)
-
-cast-p : tie.Need-cast-p
-cast-p c = search needs
-
-cast-p-2 : tie.Need-cast-p-2
-cast-p-2 c = search needs
-
-add-p : tie.Need-add-p
-add-p c = search needs
 
 is-on-boundary-requires : tie.Need-is-on-boundary-requires
 is-on-boundary-requires c κs =
@@ -214,24 +184,24 @@ pub find-broken-spec : {M : Type 1} → statement M
 find-broken-spec =
     tie.close
     (tie.spec
-    read-relocation-requires
-    decide-requires
-    is-shape-kept-requires
+    (λ c κs. search needs)
+    (λ c κs. search needs)
+    (λ c κs. search needs)
     returns
-    symbol-value-requires
+    (λ c κs. search needs)
     is-symbol-kept-requires
     returns-2
     is-form-kept-requires
     returns-3
     is-paired-requires
     returns-4
-    target-of-requires
-    place-of-requires
-    is-in-reach-requires
+    (λ c κs. search needs)
+    (λ c κs. search needs)
+    (λ c κs. search needs)
     returns-5
-    cast-p
-    cast-p-2
-    add-p
+    (λ c. search needs)
+    (λ c. search needs)
+    (λ c. search needs)
     is-on-boundary-requires
     returns-6
     returns-7)

@@ -22,21 +22,6 @@ size-small s f t h e =
     let inside : Inside s (sectionAt s t .offset .0) (sectionAt s t .size) = loaded-inside s f t h e in
     omega (arith, header-short s (f .header))
 
-read-section-requires : tie.Need-read-section-requires
-read-section-requires c κs = search needs
-
-is-loaded-requires : tie.Need-is-loaded-requires
-is-loaded-requires c κs = search needs
-
-cast-lay : tie.Need-cast-lay
-cast-lay c = search needs
-
-sub-lay : tie.Need-sub-lay
-sub-lay c = search needs
-
-part-lay-start : tie.Need-part-lay-start
-part-lay-start c = search needs
-
 part-lay-end : tie.Need-part-lay-end
 part-lay-end c =
     let start = c .before .before .before .before .before .before .before .before in
@@ -59,26 +44,17 @@ lay-requires c κs =
     let size : n ≡ sectionAt s t .size = ap (λ h. h .size) read in
     (pre .0, pre .1, pre .2, pre .3, pre .4, laid, length-take-le (n - 0) (start .args .room .now) (omega arith) ∙ omega arith)
 
-same-length : tie.Need-same-length
-same-length c = search needs
-
-returns : tie.Need-returns
-returns c = search needs
-
-returns-2 : tie.Need-returns-2
-returns-2 c = search needs
-
 pub section-spec : {M : Type 1} → statement M
 section-spec =
     tie.close
     (tie.spec
-    read-section-requires
-    is-loaded-requires
-    cast-lay
-    sub-lay
-    part-lay-start
+    (λ c κs. search needs)
+    (λ c κs. search needs)
+    (λ c. search needs)
+    (λ c. search needs)
+    (λ c. search needs)
     part-lay-end
     lay-requires
-    same-length
-    returns
-    returns-2)
+    (λ c. search needs)
+    (λ c. search needs)
+    (λ c. search needs))

@@ -11,63 +11,6 @@ use borrow.Author.Needs.{needs}
 use Rattle.riscv.proofs.data.add.Statement.{statement}
 use Rattle.riscv.proofs.data.add.Tie as tie
 
-enum-told : tie.Need-enum-told
-enum-told c = search needs
-
-cast-add8 : tie.Need-cast-add8
-cast-add8 c = search needs
-
-add8-requires : tie.Need-add8-requires
-add8-requires c κs = search needs
-
-cast-put-data : tie.Need-cast-put-data
-cast-put-data c = search needs
-
-put-data-requires : tie.Need-put-data-requires
-put-data-requires c κs = search needs
-
-enum-told-2 : tie.Need-enum-told-2
-enum-told-2 c = search needs
-
-cast-add8-2 : tie.Need-cast-add8-2
-cast-add8-2 c = search needs
-
-add8-requires-2 : tie.Need-add8-requires-2
-add8-requires-2 c κs = search needs
-
-cast-result : tie.Need-cast-result
-cast-result c = search needs
-
-enum-told-3 : tie.Need-enum-told-3
-enum-told-3 c = search needs
-
-cast-add16 : tie.Need-cast-add16
-cast-add16 c = search needs
-
-add16-requires : tie.Need-add16-requires
-add16-requires c κs = search needs
-
-cast-result-2 : tie.Need-cast-result-2
-cast-result-2 c = search needs
-
-enum-told-4 : tie.Need-enum-told-4
-enum-told-4 c = search needs
-
-cast-add32 : tie.Need-cast-add32
-cast-add32 c = search needs
-
-add32-requires : tie.Need-add32-requires
-add32-requires c κs = search needs
-
-cast-result-3 : tie.Need-cast-result-3
-cast-result-3 c = search needs
-
-enum-told-5 : tie.Need-enum-told-5
-enum-told-5 c = search needs
-
-add64-requires : tie.Need-add64-requires
-add64-requires c κs = search needs
-
 returns : tie.Need-returns
 unfolding added
 returns c =
@@ -108,25 +51,25 @@ pub add-spec : {M : Type 1} → statement M
 add-spec =
     tie.close
     (tie.spec
-    enum-told
-    cast-add8
-    add8-requires
-    cast-put-data
-    put-data-requires
-    enum-told-2
-    cast-add8-2
-    add8-requires-2
-    cast-result
-    enum-told-3
-    cast-add16
-    add16-requires
-    cast-result-2
-    enum-told-4
-    cast-add32
-    add32-requires
-    cast-result-3
-    enum-told-5
-    add64-requires
+    (λ c. search needs)
+    (λ c. search needs)
+    (λ c κs. search needs)
+    (λ c. search needs)
+    (λ c κs. search needs)
+    (λ c. search needs)
+    (λ c. search needs)
+    (λ c κs. search needs)
+    (λ c. search needs)
+    (λ c. search needs)
+    (λ c. search needs)
+    (λ c κs. search needs)
+    (λ c. search needs)
+    (λ c. search needs)
+    (λ c. search needs)
+    (λ c κs. search needs)
+    (λ c. search needs)
+    (λ c. search needs)
+    (λ c κs. search needs)
     returns
     returns-2
     returns-3

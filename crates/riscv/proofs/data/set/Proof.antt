@@ -6,13 +6,10 @@ use borrow.Author.Needs.{needs}
 use Rattle.riscv.proofs.data.set.Statement.{statement}
 use Rattle.riscv.proofs.data.set.Tie as tie
 
-put-data-requires : tie.Need-put-data-requires
-put-data-requires c κs = search needs
-
 returns : tie.Need-returns
 returns c =
     let a = c .before .args in
     c .put-data .ensures ∙ set-data (a .width) (a .v) (a .x) (omega arith)
 
 pub set-spec : {M : Type 1} → statement M
-set-spec = tie.close (tie.spec put-data-requires returns)
+set-spec = tie.close (tie.spec (λ c κs. search needs) returns)

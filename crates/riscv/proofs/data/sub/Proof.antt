@@ -11,63 +11,6 @@ use borrow.Author.Needs.{needs}
 use Rattle.riscv.proofs.data.sub.Statement.{statement}
 use Rattle.riscv.proofs.data.sub.Tie as tie
 
-enum-told : tie.Need-enum-told
-enum-told c = search needs
-
-cast-sub8 : tie.Need-cast-sub8
-cast-sub8 c = search needs
-
-sub8-requires : tie.Need-sub8-requires
-sub8-requires c κs = search needs
-
-cast-put-data : tie.Need-cast-put-data
-cast-put-data c = search needs
-
-put-data-requires : tie.Need-put-data-requires
-put-data-requires c κs = search needs
-
-enum-told-2 : tie.Need-enum-told-2
-enum-told-2 c = search needs
-
-cast-sub8-2 : tie.Need-cast-sub8-2
-cast-sub8-2 c = search needs
-
-sub8-requires-2 : tie.Need-sub8-requires-2
-sub8-requires-2 c κs = search needs
-
-cast-result : tie.Need-cast-result
-cast-result c = search needs
-
-enum-told-3 : tie.Need-enum-told-3
-enum-told-3 c = search needs
-
-cast-sub16 : tie.Need-cast-sub16
-cast-sub16 c = search needs
-
-sub16-requires : tie.Need-sub16-requires
-sub16-requires c κs = search needs
-
-cast-result-2 : tie.Need-cast-result-2
-cast-result-2 c = search needs
-
-enum-told-4 : tie.Need-enum-told-4
-enum-told-4 c = search needs
-
-cast-sub32 : tie.Need-cast-sub32
-cast-sub32 c = search needs
-
-sub32-requires : tie.Need-sub32-requires
-sub32-requires c κs = search needs
-
-cast-result-3 : tie.Need-cast-result-3
-cast-result-3 c = search needs
-
-enum-told-5 : tie.Need-enum-told-5
-enum-told-5 c = search needs
-
-sub64-requires : tie.Need-sub64-requires
-sub64-requires c κs = search needs
-
 returns : tie.Need-returns
 unfolding subtracted
 returns c =
@@ -108,25 +51,25 @@ pub sub-spec : {M : Type 1} → statement M
 sub-spec =
     tie.close
     (tie.spec
-    enum-told
-    cast-sub8
-    sub8-requires
-    cast-put-data
-    put-data-requires
-    enum-told-2
-    cast-sub8-2
-    sub8-requires-2
-    cast-result
-    enum-told-3
-    cast-sub16
-    sub16-requires
-    cast-result-2
-    enum-told-4
-    cast-sub32
-    sub32-requires
-    cast-result-3
-    enum-told-5
-    sub64-requires
+    (λ c. search needs)
+    (λ c. search needs)
+    (λ c κs. search needs)
+    (λ c. search needs)
+    (λ c κs. search needs)
+    (λ c. search needs)
+    (λ c. search needs)
+    (λ c κs. search needs)
+    (λ c. search needs)
+    (λ c. search needs)
+    (λ c. search needs)
+    (λ c κs. search needs)
+    (λ c. search needs)
+    (λ c. search needs)
+    (λ c. search needs)
+    (λ c κs. search needs)
+    (λ c. search needs)
+    (λ c. search needs)
+    (λ c κs. search needs)
     returns
     returns-2
     returns-3

@@ -5,15 +5,9 @@ use borrow.Author.Needs.{needs}
 use Rattle.riscv.proofs.halves.hi20.Statement.{statement}
 use Rattle.riscv.proofs.halves.hi20.Tie as tie
 
-add-result : tie.Need-add-result
-add-result c = search needs
-
-cast-result : tie.Need-cast-result
-cast-result c = search needs
-
 returns : tie.Need-returns
 unfolding high
 returns c = omega arith
 
 pub hi20-spec : {M : Type 1} → statement M
-hi20-spec = tie.close (tie.spec add-result cast-result returns)
+hi20-spec = tie.close (tie.spec (λ c. search needs) (λ c. search needs) returns)

@@ -9,9 +9,6 @@ use borrow.Author.Needs.{needs}
 use Rattle.riscv.proofs.ranges.in_reach.Statement.{statement}
 use Rattle.riscv.proofs.ranges.in_reach.Tie as tie
 
-sub-d : tie.Need-sub-d
-sub-d c = search needs
-
 returns : tie.Need-returns
 unfolding reaches within even
 returns c =
@@ -26,4 +23,4 @@ returns-2 c =
     rw (sub-back (a .t) (a .p) (c .before .if1 .left), d)
 
 pub in-reach-spec : {M : Type 1} → statement M
-in-reach-spec = tie.close (tie.spec sub-d returns returns-2)
+in-reach-spec = tie.close (tie.spec (λ c. search needs) returns returns-2)

@@ -5,48 +5,6 @@ use borrow.Author.Needs.{needs}
 use Rattle.riscv.proofs.ranges.range_of.Statement.{statement}
 use Rattle.riscv.proofs.ranges.range_of.Tie as tie
 
-enum-told : tie.Need-enum-told
-enum-told c = search needs
-
-enum-told-2 : tie.Need-enum-told-2
-enum-told-2 c = search needs
-
-enum-told-3 : tie.Need-enum-told-3
-enum-told-3 c = search needs
-
-enum-told-4 : tie.Need-enum-told-4
-enum-told-4 c = search needs
-
-enum-told-5 : tie.Need-enum-told-5
-enum-told-5 c = search needs
-
-every-distance-requires : tie.Need-every-distance-requires
-every-distance-requires c κs = search needs
-
-enum-told-6 : tie.Need-enum-told-6
-enum-told-6 c = search needs
-
-every-distance-requires-2 : tie.Need-every-distance-requires-2
-every-distance-requires-2 c κs = search needs
-
-enum-told-7 : tie.Need-enum-told-7
-enum-told-7 c = search needs
-
-every-distance-requires-3 : tie.Need-every-distance-requires-3
-every-distance-requires-3 c κs = search needs
-
-enum-told-8 : tie.Need-enum-told-8
-enum-told-8 c = search needs
-
-every-distance-requires-4 : tie.Need-every-distance-requires-4
-every-distance-requires-4 c κs = search needs
-
-enum-told-9 : tie.Need-enum-told-9
-enum-told-9 c = search needs
-
-every-distance-requires-5 : tie.Need-every-distance-requires-5
-every-distance-requires-5 c κs = search needs
-
 returns : tie.Need-returns
 returns c = sym (ap rangeOf (c .enum-told .given .1))
 
@@ -78,20 +36,20 @@ pub range-of-spec : {M : Type 1} → statement M
 range-of-spec =
     tie.close
     (tie.spec
-    enum-told
-    enum-told-2
-    enum-told-3
-    enum-told-4
-    enum-told-5
-    every-distance-requires
-    enum-told-6
-    every-distance-requires-2
-    enum-told-7
-    every-distance-requires-3
-    enum-told-8
-    every-distance-requires-4
-    enum-told-9
-    every-distance-requires-5
+    (λ c. search needs)
+    (λ c. search needs)
+    (λ c. search needs)
+    (λ c. search needs)
+    (λ c. search needs)
+    (λ c κs. search needs)
+    (λ c. search needs)
+    (λ c κs. search needs)
+    (λ c. search needs)
+    (λ c κs. search needs)
+    (λ c. search needs)
+    (λ c κs. search needs)
+    (λ c. search needs)
+    (λ c κs. search needs)
     returns
     returns-2
     returns-3

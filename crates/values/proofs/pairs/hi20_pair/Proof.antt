@@ -20,23 +20,8 @@ Inv-search object site offset n at₀ k₀ at k = (k ≤ n) × Searched (isPair 
 abbrev μ-search : tie.MeasureT-search
 μ-search object site offset n at₀ k₀ at k = n - k
 
-cast-n : tie.Need-cast-n Inv-search μ-search
-cast-n c = search needs
-
 search-holds : tie.Need-search-holds Inv-search μ-search
 search-holds c = (omega arith, record { fits = omega arith; none = λ _ i h. absurd (omega arith); here = λ h. absurd (omega arith); before = λ h. absurd (omega arith); alone = λ h. absurd (omega arith) })
-
-is-pair-requires : tie.Need-is-pair-requires Inv-search μ-search
-is-pair-requires c κs = search needs
-
-chosen-requires : tie.Need-chosen-requires Inv-search μ-search
-chosen-requires c κs = search needs
-
-add-k : tie.Need-add-k Inv-search μ-search
-add-k c = search needs
-
-search-less : tie.Need-search-less Inv-search μ-search
-search-less c = search needs
 
 search-again : tie.Need-search-again Inv-search μ-search
 search-again c =
@@ -78,12 +63,12 @@ hi20-pair-spec =
     (tie.spec
     Inv-search
     μ-search
-    cast-n
+    (λ c. search needs)
     search-holds
-    is-pair-requires
-    chosen-requires
-    add-k
-    search-less
+    (λ c κs. search needs)
+    (λ c κs. search needs)
+    (λ c. search needs)
+    (λ c. search needs)
     search-again
     returns
     returns-2)

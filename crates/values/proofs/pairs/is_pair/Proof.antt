@@ -4,12 +4,9 @@ use borrow.Author.Needs.{needs}
 use Rattle.values.proofs.pairs.is_pair.Statement.{statement}
 use Rattle.values.proofs.pairs.is_pair.Tie as tie
 
-read-relocation-requires : tie.Need-read-relocation-requires
-read-relocation-requires c κs = search needs
-
 returns : tie.Need-returns
 unfolding isPair
 returns c = rw (c .before .before .read-relocation .ensures)
 
 pub is-pair-spec : {M : Type 1} → statement M
-is-pair-spec = tie.close (tie.spec read-relocation-requires returns)
+is-pair-spec = tie.close (tie.spec (λ c κs. search needs) returns)

@@ -1,0 +1,41 @@
+-- What else the final bytes of one section say: bytes that no relocation touches, and two halves of one number. `demands` says both of the
+-- image. Assumes nothing: these are definitions.
+use mathlib.Core.Path.{_≡_}
+use mathlib.Core.Bool.{Bool, not, _&&_}
+use mathlib.Core.List.{List}
+use Prim.Native.Nat.{ℕ, _<_}
+use lib.Dec.{leb, ltb}
+use Rattle.word.specs.Bytes.{leAt}
+use Rattle.word.specs.First.{everywhere}
+use Rattle.fields.specs.declared.Field.{Field}
+use Rattle.fields.specs.declared.Field.the-variants.{U}
+use Rattle.riscv.specs.declared.forms.Form.{Form}
+use Rattle.types.specs.declared.Calculation.the-variants.{HighAbsolute, LowAbsolute, LowOfPair}
+use Rattle.types.specs.declared.Decision.the-variants.{Store}
+use Rattle.rela.specs.declared.sites.Site.{Site}
+use Rattle.values.specs.declared.pairs.Pair.the-variants.{At}
+use Rattle.rela.specs.Sites.{count, effect, offset, A}
+use Rattle.values.specs.Values.{S, T, valueAt}
+use Rattle.rela.specs.Shape.{end}
+use Rattle.values.specs.Pairs.{pairOf}
+use Rattle.rules.specs.Rules.{symbol}
+use Rattle.stores.specs.Sections.{distanceAt}
+use Rattle.stores.specs.Promises.{AddUp}
+
+-- relocation j touches byte b; none does
+unfoldable pub touches : List ℕ → Site → ℕ → ℕ → Bool
+touches object x j b = leb (offset object x j) b && ltb b (end object x j)
+
+unfoldable pub untouched : List ℕ → Site → ℕ → Bool
+untouched object x b = everywhere (λ j. not (touches object x j b)) (count x)
+
+-- "the high half and the low half laid for one address or distance add up to it modulo 2^32"
+pub record Halves (object order addresses : List ℕ) (x : Site) (final : List ℕ) : Type 0 where
+  -- 26 with 27 or 28: for one address T, anywhere in the section
+  pub address : (i j : ℕ) → i < count x → j < count x → (f g : Field) (a b : Form) (m n : ℕ) → effect object x i ≡ Store HighAbsolute f a m → effect object x j ≡ Store LowAbsolute g b n
+      → T (S (valueAt object order addresses x i)) (A object x i) ≡ T (S (valueAt object order addresses x j)) (A object x j)
+      → AddUp f (leAt m final (offset object x i)) g (leAt n final (offset object x j)) (T (S (valueAt object order addresses x i)) (A object x i))
+  -- 23 with 24 or 25: there is one pair, and the two add up to its distance
+  pub distance : (j : ℕ) → j < count x → (g : Field) (b : Form) (n : ℕ) → effect object x j ≡ Store LowOfPair g b n
+      → (k : ℕ) × (k < count x) × (pairOf object x (symbol object x j .value) ≡ At k)
+      × AddUp U (leAt 4 final (offset object x k)) g (leAt n final (offset object x j)) (distanceAt object order addresses x k)
