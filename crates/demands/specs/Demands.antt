@@ -30,6 +30,7 @@ pub record Demand1 (installs : InstallCall) (rollsBack : RollbackCall) : Type 0 
   pub rollback-refused : (f : Files) → (rollsBack f .answer ≡ done → ⊥) → FirstBroken (rollbackTable f) (rollsBack f .answer .number) (rollsBack f .answer .place)
   -- of a taking-back, "given exactly when" (of a fit, demand 2 has it)
   pub rollback-holds : (f : Files) → rollsBack f .answer ≡ done → AllHold (rollbackTable f)
+  pub rollback-done : (f : Files) → AllHold (rollbackTable f) → rollsBack f .answer ≡ done
   pub rollback-first : (f : Files) (n p : ℕ) → FirstBroken (rollbackTable f) n p → rollsBack f .answer ≡ record { number = n; place = p }
   -- "and image and ledger then hold exactly the bytes they held."
   pub install-kept : (object order : List ℕ) (f : Files) → (installs object order f .answer ≡ done → ⊥) → installs object order f .after ≡ f

@@ -92,39 +92,42 @@ fn read_some(fd: i32, buf: &mut [u8]) -> Contents
 
 // Replaces the file of argument `first`, then that of argument `second`. Both new files are written before either takes its name.
 pub fn replace_both(first: usize, new: &[u8], second: usize, other: &[u8]) -> bool {
-    let tag = tag();
     let mut name = [0u8; 4103];
-    let target = write_beside(first, tag, new, &mut name);
+    let target = write_beside(first, new, &mut name);
     let end = target + 7;
     if target == 0 {
         return false;
     }
-    replace_second(first, tag, &name[..end], target, second, other)
+    replace_second(first, &name[..end], target, second, other)
 }
 
 // The same, from where the first new file is written.
-fn replace_second(
-    first: usize,
-    tag: [u8; 7],
-    name: &[u8],
-    target: usize,
-    second: usize,
-    other: &[u8],
-) -> bool
+fn replace_second(first: usize, name: &[u8], target: usize, second: usize, other: &[u8]) -> bool
     requires { ⌜ target ≤ length (now name) ⌝ }
 {
     let mut b = [0u8; 4103];
-    let n = write_beside(second, tag, other, &mut b);
+    let n = write_beside(second, other, &mut b);
     let end = n + 7;
     if n == 0 {
         os::unlink(name);
         return false;
     }
-    put_both(first, tag, name, target, &b[..end], n)
+    if check::same(&name[..target], &b[..n]) {
+        os::unlink(name);
+        os::unlink(&b[..end]);
+        say(&b[..n], b": cannot be image and ledger at once\n");
+        return false;
+    }
+    put_both(first, name, target, &b[..end], n)
+}
+
+fn say(name: &[u8], what: &[u8]) {
+    io::write_all(libc::STDERR_FILENO, name);
+    io::write_all(libc::STDERR_FILENO, what);
 }
 
 // The same, from where both are. Where the second cannot take its name, the first file is put back.
-fn put_both(first: usize, tag: [u8; 7], a: &[u8], m: usize, b: &[u8], n: usize) -> bool
+fn put_both(first: usize, a: &[u8], m: usize, b: &[u8], n: usize) -> bool
     requires { ⌜ (m ≤ length (now a)) × (n ≤ length (now b)) ⌝ }
 {
     let mut old = [0u8; ROOM];
@@ -142,13 +145,13 @@ fn put_both(first: usize, tag: [u8; 7], a: &[u8], m: usize, b: &[u8], n: usize) 
     if put(b, n) {
         return true;
     }
-    replace(first, tag, &old[..k]);
+    replace(first, &old[..k]);
     false
 }
 
-fn replace(i: usize, tag: [u8; 7], bytes: &[u8]) {
+fn replace(i: usize, bytes: &[u8]) {
     let mut name = [0u8; 4103];
-    let n = write_beside(i, tag, bytes, &mut name);
+    let n = write_beside(i, bytes, &mut name);
     let end = n + 7;
     if n > 0 {
         put(&name[..end], n);
@@ -195,8 +198,8 @@ fn folder(path: &[u8]) -> usize
 }
 
 // Writes a new file beside the one that argument i names, or says why it cannot. The new file's name is put into `name`; the
-// answer is the length of the old one's, without the tag, and 0 where there is no new file.
-fn write_beside(i: usize, tag: [u8; 7], bytes: &[u8], name: &mut [u8]) -> usize
+// answer is the length of the old one's, which it begins with, and 0 where there is no new file.
+fn write_beside(i: usize, bytes: &[u8], name: &mut [u8]) -> usize
     requires { ⌜ length (now name) ≡ 4103 ⌝ }
     ensures { λ r. ⌜ Counts (r + 7) (now (name .exit)) ⌝ }
 {
@@ -208,38 +211,21 @@ fn write_beside(i: usize, tag: [u8; 7], bytes: &[u8], name: &mut [u8]) -> usize
     if n == 0 {
         return 0;
     }
-    let end = text::beside(&path[..n], tag, name);
-    if write_new(&given[..g], &name[..end], old.mode, bytes) {
-        return n;
-    }
-    0
+    let end = text::beside(&path[..n], *b".XXXXXX", name);
+    let is_made = write_new(&given[..g], &mut name[..end], old.mode, bytes);
+    if_made(is_made, n)
 }
 
-// A dot and six random letters. Both new files of a call have the same, so that one file in two places is found: the second
-// cannot be made.
-fn tag() -> [u8; 7] {
-    let mut b = [0u8; 6];
-    libc::getentropy(&mut b);
-    [
-        b'.',
-        letter(b[0]),
-        letter(b[1]),
-        letter(b[2]),
-        letter(b[3]),
-        letter(b[4]),
-        letter(b[5]),
-    ]
-}
-
-fn letter(b: u8) -> u8
-    ensures { λ r. ⌜ (97 ≤ r) × (r ≤ 122) ⌝ }
+fn if_made(is_made: bool, n: usize) -> usize
+    ensures { λ r. ⌜ r ≤ n ⌝ }
 {
-    b'a' + b % 26
+    if is_made { n } else { 0 }
 }
 
-// Makes the file `name` with the mode and the bytes, or says of the file `given` why it cannot. It is then on its device.
-fn write_new(given: &[u8], name: &[u8], mode: Mode, bytes: &[u8]) -> bool {
-    let fd = os::create(name);
+// Makes a file with the mode and the bytes, or says of the file `given` why it cannot. It is then on its device. Its name is `name`,
+// whose last six letters are replaced, so that it is a new one. Until it has its mode, nobody else can open it.
+fn write_new(given: &[u8], name: &mut [u8], mode: Mode, bytes: &[u8]) -> bool {
+    let fd = os::create_temp(name);
     if fd < 0 {
         os::fail(given);
         return false;
@@ -253,8 +239,7 @@ fn write_new(given: &[u8], name: &[u8], mode: Mode, bytes: &[u8]) -> bool {
     is_stored
 }
 
-// The mode comes first, so that nobody reads what the old file did not let them. Owner and group are kept where the system lets the
-// program, as it lets root.
+// Owner and group are kept where the system lets the program, as it lets root.
 fn store(fd: i32, mode: Mode, bytes: &[u8]) -> bool {
     libc::fchown(fd, mode.owner, mode.group);
     if libc::fchmod(fd, mode.bits) != 0 {
@@ -288,11 +273,7 @@ fn target(given: &[u8], path: &mut [u8]) -> Replaced
     let n = own_path(fd, mode.plain, path);
     libc::close(fd);
     if n == 0 {
-        io::write_all(libc::STDERR_FILENO, given);
-        io::write_all(
-            libc::STDERR_FILENO,
-            b": not a plain file that can be replaced\n",
-        );
+        say(given, b": not a plain file that can be replaced\n");
     }
     Replaced { len: n, mode }
 }

@@ -23,7 +23,7 @@ fn fit(object: &str, order: &str, image: &str, ledger: &str) -> Result<(), Box<d
     let (object, order) = (fs::read(object)?, fs::read(order)?);
     let (mut new_image, mut new_ledger) = (fs::read(image)?, fs::read(ledger)?);
     let answer = aktinoph::fit(&object, &order, &mut new_image, &mut new_ledger);
-    if is_done(answer) {
+    if report(answer) {
         fs::write(ledger, new_ledger)?;
         fs::write(image, new_image)?;
     }
@@ -33,15 +33,16 @@ fn fit(object: &str, order: &str, image: &str, ledger: &str) -> Result<(), Box<d
 fn take_back(image: &str, ledger: &str) -> Result<(), Box<dyn Error>> {
     let (mut new_image, mut new_ledger) = (fs::read(image)?, fs::read(ledger)?);
     let answer = aktinoph::take_back(&mut new_image, &mut new_ledger);
-    if is_done(answer) {
+    if report(answer) {
         fs::write(image, new_image)?;
         fs::write(ledger, new_ledger)?;
     }
     Ok(())
 }
 
-/// Writes number and place, and in words why a call was refused.
-fn is_done(answer: Answer) -> bool {
+/// Writes number and place, and in words why a call was refused. Gives whether
+/// it was done.
+fn report(answer: Answer) -> bool {
     println!("{} {}", answer.number(), answer.place());
     if let Err(refusal) = answer.check() {
         eprintln!("{refusal}");

@@ -3,7 +3,7 @@
 
 use std::fs::{self, File, OpenOptions};
 use std::io::{Read, Write};
-use std::os::unix::fs::{fchown, MetadataExt};
+use std::os::unix::fs::{fchown, MetadataExt, OpenOptionsExt};
 use std::path::{Path, PathBuf};
 
 use reference::MAX_BYTES;
@@ -71,14 +71,15 @@ impl Replacement {
         }
         let name = old.file_name().unwrap_or_default().to_string_lossy();
         let new = old.with_file_name(format!(".{name}.{}.{role}", std::process::id()));
+        // Until it has its mode, nobody else can open it.
         let mut file = OpenOptions::new()
             .write(true)
             .create_new(true)
+            .mode(0o600)
             .open(&new)
             .map_err(failed)?;
         let replacement = Replacement { new, old };
-        // Owner and group are kept where the system lets the program, and the
-        // mode comes before the bytes.
+        // Owner and group are kept where the system lets the program.
         let _ = fchown(&file, Some(attributes.uid()), Some(attributes.gid()));
         file.set_permissions(attributes.permissions())
             .and_then(|()| file.write_all(bytes))

@@ -286,6 +286,7 @@ demand-1 =
       install-refused = λ object order f r. first-of (table object order f) (ours object order f .answer) (told object order f) r;
       rollback-refused = λ f r. first-of (rollbackTable f) (ours-back f .answer) (rollback-told f) r;
       rollback-holds = λ f e. done-all (rollbackTable f) (ours-back f .answer) (rollback-above f) (rollback-told f) e;
+      rollback-done = λ f h. all-done (rollbackTable f) (ours-back f .answer) (rollback-told f) h;
       rollback-first = λ f n p b. named (rollbackTable f) (ours-back f .answer) (rollback-told f) n p b;
       install-kept = λ object order f r.
           refusal-keeps judgement f (Install object order)

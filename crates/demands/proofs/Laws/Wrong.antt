@@ -25,6 +25,7 @@ use Rattle.journal.specs.Journals.{oldAt, count, entry, entries, total, isBlank
 use Rattle.journal.proofs.Laws.Sound.{test-sound}
 use Rattle.journal.specs.Plans.{overwritten}
 use Rattle.history.specs.Calls.{Answer, done, Files, succeed, Install, Rollback, InstallCall, RollbackCall, calling, run}
+use Rattle.history.specs.Records.{Released}
 use Rattle.history.specs.Histories.{Standing, begin, spans, laid, stand, fall, told, Start}
 use Rattle.place.specs.Placements.{isAllocated}
 use Rattle.placing.specs.Placing.{hasBytes}
@@ -39,7 +40,7 @@ use Rattle.judgement.specs.Judgement.{planOf, judgement}
 use Rattle.demands.specs.Rules.{PlacedAsAllocated}
 use Rattle.demands.specs.First.{AllHold, FirstBroken, table as table-of}
 use Rattle.demands.specs.Laid.{sectionIn}
-use Rattle.demands.proofs.Laws.First.{none-broken, at-once, at-each}
+use Rattle.demands.proofs.Laws.First.{at-once, at-each}
 use Rattle.demands.specs.Demands.{rollbackTable, Demand1, Demand2, Demand3, Journalled}
 use Rattle.demands.proofs.Laws.Sample.{words, object, order, files, journal-is, header-is, table-is, sections-are, keeps-all}
 use Rattle.demands.proofs.Laws.Demands.{Done, done-leaves, demand-2}
@@ -243,27 +244,25 @@ unfolding rollbackTable standing words bytes leAt le
 standing-holds = (at-once 1 standing-sound, (at-once 3 (omega arith), (at-once 16 (omega arith), tt)))
 
 module _ (installs : InstallCall) (rollsBack : RollbackCall) (d : Demand1 installs rollsBack) (k : Journalled installs rollsBack) where
-  -- so that it is taken back, and what follows from that holds
-  rolled-back : (rollsBack standing .answer ≡ done → ⊥) → ⊥
-  rolled-back not-done = none-broken (rollbackTable standing) _ _ standing-holds (d .rollback-refused standing not-done)
+  -- and is, so that what is said of a done rollback holds
+  released : Released standing (rollsBack standing .after)
+  released = k .releases standing (d .rollback-done standing standing-holds)
 
   -- one that leaves the old bytes in the journal: "zeroes the entry and the released bytes"
   pub leaves-old-bytes : ((f : Files) → drop oldAt (rollsBack f .after .journal) ≡ drop oldAt (f .journal)) → ⊥
   unfolding standing words bytes leAt le entry part
   leaves-old-bytes wrong =
-      rolled-back (λ e.
-      let zero-now : part (rollsBack standing .after .journal) oldAt 4 ≡ replicate 4 0 = k .releases standing e .released-zero in
+      let zero-now : part (rollsBack standing .after .journal) oldAt 4 ≡ replicate 4 0 = released .released-zero in
       let z : _≡_ {A = ℕ} 0xAA 0 = ap (λ l. getD l 0 0) (sym (ap (take 4) (wrong standing)) ∙ zero-now) in
-      omega arith)
+      omega arith
 
   -- one that clears the journal to its end: "Bytes past 136 + k are .. not written otherwise"
   pub clears-to-the-end : ((f : Files) → drop 140 (rollsBack f .after .journal) ≡ replicate (length (f .journal) - 140) 0) → ⊥
   unfolding standing words bytes leAt le
   clears-to-the-end wrong =
-      rolled-back (λ e.
-      let same : drop 140 (rollsBack standing .after .journal) ≡ 0x55 ∷ [] = k .releases standing e .past-same in
+      let same : drop 140 (rollsBack standing .after .journal) ≡ 0x55 ∷ [] = released .past-same in
       let z : _≡_ {A = ℕ} 0x55 0 = ap (λ l. getD l 0 0) (sym same ∙ wrong standing) in
-      omega arith)
+      omega arith
 
 -- a fit that does not record the old bytes: "A fit appends the span's old bytes."
 pub records-no-old-bytes : (installs : InstallCall) (rollsBack : RollbackCall) → Demand2 installs → Journalled installs rollsBack

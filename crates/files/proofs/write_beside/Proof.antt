@@ -11,9 +11,6 @@ returns c = counts 7 (c .before .before .before .before .before .before .before 
 returns-2 : tie.Need-returns-2
 returns-2 c = counts _ _ (omega arith)
 
-returns-3 : tie.Need-returns-3
-returns-3 c = counts 7 (c .before .before .before .before .before .before .beside .last .1 .1 .0) (omega arith)
-
 pub write-beside-spec : {M : Type 1} → statement M
 write-beside-spec =
     tie.close
@@ -35,7 +32,6 @@ write-beside-spec =
     (λ c. search needs)
     (λ c. search needs)
     (λ c κs. search needs)
+    (λ c κs. search needs)
     (λ c. search needs)
-    returns-2
-    (λ c. search needs)
-    returns-3)
+    returns-2)

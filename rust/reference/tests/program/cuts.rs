@@ -1,6 +1,7 @@
 //! A program that ends, or whose calls of the system fail, at any moment.
 
 use std::fs;
+use std::os::unix::fs::MetadataExt;
 use std::path::{Path, PathBuf};
 use std::process::{Command, Output};
 use std::sync::OnceLock;
@@ -112,6 +113,26 @@ fn folder_synced_after_each_rename() {
                 assert_eq!(output.expect("a sync").status.code(), Some(99));
                 assert_eq!(pair(&bench), *state);
             }
+        }
+    });
+}
+
+/// Until a new file has the mode of the one that it replaces, nobody else can
+/// open it.
+#[test]
+fn new_files_are_private() {
+    on_both(|program| {
+        let (old, new) = before_and_after();
+        for (arguments, before) in [(&FIT[..], &old), (&TAKE_BACK[..], &new)] {
+            let bench = bench_with(program, before);
+            disturbed(&bench, arguments, "end", "fchmod", 1).expect("a mode");
+            let names = ["object", "order", "image", "ledger"];
+            let is_new = |path: &PathBuf| !names.iter().any(|name| path.ends_with(name));
+            let paths = bench.files().into_iter().map(|(path, _)| path);
+            let made: Vec<PathBuf> = paths.filter(is_new).collect();
+            assert_eq!(made.len(), 1);
+            let mode = fs::metadata(&made[0]).expect("the new file").mode();
+            assert_eq!(mode & 0o7777, 0o600);
         }
     });
 }
