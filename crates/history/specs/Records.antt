@@ -2,7 +2,6 @@
 -- and after the call. Assumes nothing: these are definitions.
 use mathlib.Core.Path.{_≡_}
 use Prim.Native.Nat.{ℕ, _+_, _-_, _≤_, _<_}
-use mathlib.Core.List.{List}
 use lib.ListN.{length, getD, drop, replicate}
 use Rattle.word.specs.Bytes.{part}
 use Rattle.journal.specs.declared.Span.{Span}
