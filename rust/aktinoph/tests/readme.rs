@@ -1,0 +1,44 @@
+//! What the README shows of this crate, run.
+
+use std::fs;
+use std::path::Path;
+
+use aktinoph::Refusal;
+
+fn repository() -> &'static Path {
+    Path::new(concat!(env!("CARGO_MANIFEST_DIR"), "/../.."))
+}
+
+/// The README's lines, with nothing between them but an assertion.
+#[rustfmt::skip]
+fn as_shown(object: Vec<u8>, order: Vec<u8>, laid: &[u8]) -> Result<(), Refusal> {
+    let mut image = vec![0xA5; 1024];
+    let mut ledger = vec![0; aktinoph::LEDGER_HEAD + image.len()];
+
+    aktinoph::fit(&object, &order, &mut image, &mut ledger).check()?;      // Err: "relocation 7: the distance is odd or too far"
+    assert_eq!(image, laid);
+    aktinoph::take_back(&mut image, &mut ledger).check()?;
+    assert_eq!(image, vec![0xA5; 1024]);
+    Ok(())
+}
+
+#[test]
+fn shown_lines_run() {
+    let folder = repository().join("objects/clang-switch");
+    let read = |name: &str| fs::read(folder.join(name)).expect("a file of the repository");
+    let [object, order, laid] = ["clang-switch.o", "order", "image"].map(read);
+    assert_eq!(as_shown(object, order, &laid), Ok(()));
+}
+
+/// The lines that are run are those of the README, in its order.
+#[test]
+fn shown_lines_are_these() {
+    let readme = fs::read_to_string(repository().join("README.md")).expect("the README");
+    let (_, from) = readme.split_once("```rust\n").expect("a Rust example");
+    let (shown, _) = from.split_once("```").expect("its end");
+    let shown: Vec<&str> = shown.lines().map(str::trim).collect();
+    let shown: Vec<&str> = shown.into_iter().filter(|line| !line.is_empty()).collect();
+    let own = include_str!("readme.rs").lines().map(str::trim);
+    let run: Vec<&str> = own.filter(|line| shown.contains(line)).collect();
+    assert_eq!(run, shown);
+}
