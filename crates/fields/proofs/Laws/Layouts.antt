@@ -11,10 +11,10 @@ use Rattle.fields.specs.Layouts.{Bits, keep, imm, size, read, put, outsi
 -- ---- one digit of a number in mixed radix
 
 -- a digit d below 2^n, and the rest above it
-digit-low : (n d rest : ℕ) → d < 2 ^ n → (d + 2 ^ n * rest) % 2 ^ n ≡ d
+pub digit-low : (n d rest : ℕ) → d < 2 ^ n → (d + 2 ^ n * rest) % 2 ^ n ≡ d
 digit-low n d rest h = rw (add-comm d (2 ^ n * rest), mul-comm (2 ^ n) rest) (digits-mod rest h)
 
-digit-high : (n d rest : ℕ) → d < 2 ^ n → (d + 2 ^ n * rest) / 2 ^ n ≡ rest
+pub digit-high : (n d rest : ℕ) → d < 2 ^ n → (d + 2 ^ n * rest) / 2 ^ n ≡ rest
 digit-high n d rest h = rw (add-comm d (2 ^ n * rest), mul-comm (2 ^ n) rest) (digits-div rest h)
 
 -- ---- the laws, for every layout
