@@ -2,3 +2,4 @@
 pub mod Halves
 pub mod Ranges
 pub mod Data
+pub mod Apart
