@@ -3,7 +3,7 @@ use mathlib.Core.Path.{_≡_}
 use mathlib.Core.Bool.{false}
 use mathlib.Core.List.{List}
 use Prim.Native.Nat.{ℕ, _≤_, _<_}
-use lib.ListN.{length}
+use lib.ListN.{length, getD}
 use Rattle.elf.specs.Headers.{sectionCount}
 use Rattle.elf.specs.Sections.{sectionAt, allocated}
 use Rattle.order.specs.Orders.{placementCount}
@@ -62,6 +62,22 @@ pub record Journalled (installs : InstallCall) (rollsBack : RollbackCall) : Type
 -- refused ones included, the following holds after it." The history goes by document 01's judgement.
 abbrev pub Demand3 : InstallCall → RollbackCall → Type 0
 Demand3 installs rollsBack = (start : Files) → Start start → (calls : List Call) → Holds (calling installs rollsBack) judgement start calls
+
+-- ---- calls that meet what is said of each by itself, on bytes. `Only` shows that no two of them differ.
+
+abbrev pub AreBytes : List ℕ → Type 0
+AreBytes s = (i : ℕ) → getD s i 0 < 256
+
+abbrev pub OnBytes : Files → Type 0
+OnBytes f = AreBytes (f .image) × AreBytes (f .journal)
+
+pub record Meets (installs : InstallCall) (rollsBack : RollbackCall) : Type 0 where
+  pub demand-1 : Demand1 installs rollsBack
+  pub demand-2 : Demand2 installs
+  pub journalled : Journalled installs rollsBack
+  -- what is left is bytes, where what is given is
+  pub install-bytes : (object order : List ℕ) (f : Files) → AreBytes object → OnBytes f → OnBytes (installs object order f .after)
+  pub rollback-bytes : (f : Files) → OnBytes f → OnBytes (rollsBack f .after)
 
 -- the two calls that the fitter's contracts name
 abbrev pub ours : InstallCall

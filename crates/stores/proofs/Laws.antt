@@ -6,5 +6,6 @@ pub mod After
 pub mod Said
 pub mod Stacks
 pub mod ReadBack
+pub mod Known
 pub mod Halves
 pub mod Bench

@@ -51,7 +51,7 @@ use Rattle.demands.proofs.Laws.Spans.{is-span}
 holds-once : {R : Type 0} (n : ℕ) → HoldBelow (rule n (λ _. R) nil) 1 → R
 holds-once n h = h 0 (omega arith) .0
 
-rules-hold : (object order : List ℕ) (f : Files) → AllHold (table object order f) → Rules object order f
+pub rules-hold : (object order : List ℕ) (f : Files) → AllHold (table object order f) → Rules object order f
 unfolding table
 rules-hold object order f h1 =
     let h2 = h1 .1 in
@@ -119,7 +119,7 @@ hold-rules object order f r = (
 
 -- ---- an answer by its number and place
 
-numbers-above : (object order : List ℕ) (f : Files) → AllAbove (table object order f)
+pub numbers-above : (object order : List ℕ) (f : Files) → AllAbove (table object order f)
 unfolding table
 numbers-above object order f = (
   (omega arith, tt),
@@ -245,7 +245,7 @@ done-leaves object order f e = go (sound (f .journal) (length (f .image))) refl 
 
 -- ---- a rollback
 
-rollback-told : (f : Files) → Told (rollbackTable f) (rollback f .answer)
+pub rollback-told : (f : Files) → Told (rollbackTable f) (rollback f .answer)
 unfolding rollbackTable rollback lengthAllowed
 rollback-told f = go (sound (f .journal) len) refl (leb len 65536) refl (eqb (count (f .journal)) 0) refl
   where
@@ -273,7 +273,7 @@ rollback-told f = go (sound (f .journal) len) refl (leb len 65536) refl (eqb (co
         let some : count (f .journal) ≡ 0 → ⊥ = eqb-false (count (f .journal)) 0 r in
         inl (refl, (at-once 1 (test-sound (f .journal) len p), (at-once 3 (leb-true len 65536 q), (at-once 16 (omega arith), tt))))
 
-rollback-above : (f : Files) → AllAbove (rollbackTable f)
+pub rollback-above : (f : Files) → AllAbove (rollbackTable f)
 unfolding rollbackTable
 rollback-above f = ((omega arith, tt), ((omega arith, tt), ((omega arith, tt), tt)))
 

@@ -5,11 +5,9 @@ use mathlib.Core.List.{List}
 use Prim.Native.Nat.{ℕ, _+_, _≤_, _<_}
 use native.Mathlib.Omega.{arith}
 use native.Mathlib.Decide.{decLt}
-use lib.ListN.{length, getD, drop}
+use lib.ListN.{length, getD}
 use lib.Dec.{leb, ltb, eqb}
-use lib.Seq.{getD-drop, getD-take}
 use borrow.Author.Tests.{leb-true, ltb-true, ltb-false, eqb-true, eq-eqb}
-use Rattle.word.specs.Bytes.{part}
 use Rattle.word.proofs.Laws.Tests.{and-left, and-right, clash}
 use Rattle.word.proofs.Laws.First.{first-is, everywhere-is}
 use Rattle.word.proofs.Laws.Whole.{residue-lt}
@@ -44,12 +42,8 @@ use Rattle.judgement.specs.Facts.{Fitting}
 use Rattle.judgement.proofs.Laws.Laying.{is-sound, is-placed}
 use Rattle.demands.specs.Laid.{start, sectionIn, Covers, siteOf, Untouched, bytesAt, target, Laid}
 use Rattle.demands.proofs.Laws.Relocations.{shape-well}
+use Rattle.demands.proofs.Laws.Lists.{getD-part}
 use Rattle.demands.proofs.Laws.Images.{installed-length, installed-section, installed-others}
-
--- a byte of a part
-getD-part : (s : List ℕ) (i n b : ℕ) → b < n → getD (part s i n) b 0 ≡ getD s (i + b) 0
-unfolding part
-getD-part s i n b h = getD-take n (drop i s) b 0 h ∙ getD-drop i s b 0
 
 not-touched : (p b q : ℕ) → (p ≤ b → b < q → ⊥) → not (leb p b && ltb b q) ≡ true
 not-touched p b q out = go (leb p b) refl (ltb b q) refl
@@ -118,7 +112,7 @@ module _ (object order : List ℕ) (counts : Counts) (image : List ℕ) (fit : F
     abbrev x : Site
     x = siteOf object order i
 
-    is-checked : Checked object order a x
+    pub is-checked : Checked object order a x
     is-checked = checked object order a (is-sound object order counts (length image) fit) (is-placed object order counts (length image) fit) (fit .relocations) i h-there c
 
     -- the RELA section of its target

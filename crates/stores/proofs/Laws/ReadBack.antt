@@ -49,7 +49,7 @@ use Rattle.stores.proofs.Laws.Stacks.{field-lt, stacked}
 
 -- ---- what is stored fits its bytes
 
-radix : (f : Field) → 2 ^ total (layout f) ≡ 256 ^ fieldBytes f
+pub radix : (f : Field) → 2 ^ total (layout f) ≡ 256 ^ fieldBytes f
 unfolding total
 radix U = refl
 radix I = refl

@@ -1,0 +1,196 @@
+-- An image of bytes is known by what demand 2 says of it. Assumes nothing.
+use mathlib.Core.Logic.{_⊎_, inl, inr, ⊎-elim}
+use mathlib.Core.Path.{_≡_, refl, sym, ap, subst, _∙_}
+use mathlib.Core.Bool.{Bool, true, false}
+use mathlib.Core.List.{List}
+use Prim.Native.Nat.{ℕ, zero, suc, _+_, _-_, _≤_, _<_}
+use native.Mathlib.Omega.{arith}
+use native.Mathlib.Decide.{decLt}
+use lib.ListN.{length, getD}
+use lib.Seq.{ext-getD}
+use Rattle.word.proofs.Laws.Tests.{clash}
+use Rattle.word.proofs.Laws.Bytes.{Bytes}
+use Rattle.word.proofs.Laws.Lists.{length-part}
+use Rattle.elf.specs.Headers.{sectionCount}
+use Rattle.elf.specs.Sections.{sectionAt, countingRela}
+use Rattle.order.specs.declared.Counts.{Counts}
+use Rattle.lookup.specs.Addresses.{addresses}
+use Rattle.placing.specs.Placing.{hasBytes}
+use Rattle.types.specs.declared.Decision.{Decision}
+use Rattle.types.specs.declared.Decision.the-variants.{Marker, Align, Store, Refused}
+use Rattle.rela.specs.declared.sites.Site.{Site}
+use Rattle.rela.specs.Sites.{siteAt, count, entry, effect, offset, A, P, found}
+use Rattle.rela.specs.Shape.{end}
+use Rattle.effects.specs.Effects.{touched}
+use Rattle.values.specs.Values.{valueAt, S, T}
+use Rattle.rules.proofs.Laws.Search.{kept-rules}
+use Rattle.stores.specs.Sections.{pairDistance}
+use Rattle.stores.specs.Promises.{stackAt, Stored, ReadsBack}
+use Rattle.stores.proofs.Laws.Known.{bytes-known}
+use Rattle.judgement.specs.Facts.{Fitting}
+use Rattle.judgement.proofs.Laws.Laying.{bytes-inside}
+use Rattle.demands.specs.Laid.{start, sectionIn, Covers, siteOf, IsRelocation, Untouched, Laid}
+use Rattle.demands.proofs.Laws.Relocations.{shape-well}
+use Rattle.demands.proofs.Laws.Lists.{getD-part, bytes-part, same-number, spelt-lt}
+use Rattle.demands.proofs.Laws.Laid.{is-checked}
+
+module _ (object order : List ℕ) where
+  -- ---- whether a section covers a byte, and a relocation touches it
+
+  cover-below : (b n : ℕ) → n ≤ sectionCount object → ((t : ℕ) × Covers object order t b) ⊎ ((t : ℕ) → t < n → Covers object order t b → ⊥)
+  cover-below b zero h = inr (λ t l c. omega arith)
+  cover-below b (suc t) h =
+      go (cover-below b t (omega arith)) (hasBytes (sectionAt object t)) refl (decLt b (start object order t)) (decLt b (start object order t + sectionAt object t .size))
+    where
+      -- a section of n or below it
+      last : ((u : ℕ) → u < t → Covers object order u b → ⊥) → (Covers object order t b → ⊥) → (u : ℕ) → u < suc t → Covers object order u b → ⊥
+      last none here u l c = at (decLt u t)
+        where
+          at : Dec (u < t) → ⊥
+          at (yes k) = none u k c
+          at (no k) = let same : u ≡ t = omega arith in let moved : Covers object order t b = rw (← same) c in here moved
+
+      go : ((u : ℕ) × Covers object order u b) ⊎ ((u : ℕ) → u < t → Covers object order u b → ⊥) → (d : Bool) → hasBytes (sectionAt object t) ≡ d
+          → Dec (b < start object order t) → Dec (b < start object order t + sectionAt object t .size)
+          → ((u : ℕ) × Covers object order u b) ⊎ ((u : ℕ) → u < suc t → Covers object order u b → ⊥)
+      go (inl c) d e x y = inl c
+      go (inr none) false e x y = inr (last none (λ c. clash (hasBytes (sectionAt object t)) e (c .loaded)))
+      go (inr none) true e (yes k) y = inr (last none (λ c. omega (arith, c .from)))
+      go (inr none) true e (no k) (yes l) = inl (t, record { there = h; loaded = e; from = omega arith; to = l })
+      go (inr none) true e (no k) (no l) = inr (last none (λ c. omega (arith, c .to)))
+
+  -- relocation j of RELA section i, which relocates section t, touches byte b of it
+  pub record Touches (t b i j : ℕ) : Type 0 where
+    pub is : IsRelocation object order i j
+    pub relocates : sectionAt object i .info ≡ t
+    pub low : offset object (siteOf object order i) j ≤ b
+    pub high : b < end object (siteOf object order i) j
+
+  touch-in : (t b i : ℕ) → i < sectionCount object → countingRela object i ≡ true → sectionAt object i .info ≡ t → (m : ℕ) → m ≤ count (siteOf object order i)
+      → ((j : ℕ) × Touches t b i j) ⊎ ((j : ℕ) → j < m → Touches t b i j → ⊥)
+  touch-in t b i there counts relocates zero h = inr (λ j l c. omega arith)
+  touch-in t b i there counts relocates (suc m) h =
+      go (touch-in t b i there counts relocates m (omega arith)) (decLt b (offset object (siteOf object order i) m)) (decLt b (end object (siteOf object order i) m))
+    where
+      last : ((j : ℕ) → j < m → Touches t b i j → ⊥) → (Touches t b i m → ⊥) → (j : ℕ) → j < suc m → Touches t b i j → ⊥
+      last none here j l c = at (decLt j m)
+        where
+          at : Dec (j < m) → ⊥
+          at (yes k) = none j k c
+          at (no k) = let same : j ≡ m = omega arith in let moved : Touches t b i m = rw (← same) c in here moved
+
+      go : ((j : ℕ) × Touches t b i j) ⊎ ((j : ℕ) → j < m → Touches t b i j → ⊥) → Dec (b < offset object (siteOf object order i) m) → Dec (b < end object (siteOf object order i) m)
+          → ((j : ℕ) × Touches t b i j) ⊎ ((j : ℕ) → j < suc m → Touches t b i j → ⊥)
+      go (inl c) x y = inl c
+      go (inr none) (yes k) y = inr (last none (λ c. omega (arith, c .low)))
+      go (inr none) (no k) (yes l) =
+          inl (m, record { is = record { there = there; counts = counts; entry = h }; relocates = relocates; low = omega arith; high = l })
+      go (inr none) (no k) (no l) = inr (last none (λ c. omega (arith, c .high)))
+
+  touch-below : (t b n : ℕ) → n ≤ sectionCount object → ((i : ℕ) × ((j : ℕ) × Touches t b i j)) ⊎ ((i j : ℕ) → i < n → Touches t b i j → ⊥)
+  touch-below t b zero h = inr (λ i j l c. omega arith)
+  touch-below t b (suc i) h = go (touch-below t b i (omega arith)) (countingRela object i) refl (decLt (sectionAt object i .info) t) (decLt t (sectionAt object i .info))
+    where
+      last : ((k j : ℕ) → k < i → Touches t b k j → ⊥) → ((j : ℕ) → Touches t b i j → ⊥) → (k j : ℕ) → k < suc i → Touches t b k j → ⊥
+      last none here k j l c = at (decLt k i)
+        where
+          at : Dec (k < i) → ⊥
+          at (yes m) = none k j m c
+          at (no m) = let same : k ≡ i = omega arith in let moved : Touches t b i j = rw (← same) c in here j moved
+
+      go : ((k : ℕ) × ((j : ℕ) × Touches t b k j)) ⊎ ((k j : ℕ) → k < i → Touches t b k j → ⊥) → (d : Bool) → countingRela object i ≡ d
+          → Dec (sectionAt object i .info < t) → Dec (t < sectionAt object i .info)
+          → ((k : ℕ) × ((j : ℕ) × Touches t b k j)) ⊎ ((k j : ℕ) → k < suc i → Touches t b k j → ⊥)
+      go (inl c) d e x y = inl c
+      go (inr none) false e x y = inr (last none (λ j c. clash (countingRela object i) e (c .is .counts)))
+      go (inr none) true e (yes l) y = inr (last none (λ j c. omega (arith, c .relocates)))
+      go (inr none) true e (no l) (yes m) = inr (last none (λ j c. omega (arith, c .relocates)))
+      go (inr none) true e (no l) (no m) =
+          ⊎-elim (λ c. inl (i, c)) (λ out. inr (last none (λ j c. out j (c .is .entry) c)))
+          (touch-in t b i h e (omega arith) (count (siteOf object order i)) (omega arith))
+
+  -- ---- two images of which demand 2 says the same
+
+  module _ (counts : Counts) (before g h : List ℕ) (fit : Fitting object order counts (length before)) (lg : Laid object order before g) (lh : Laid object order before h)
+      (bg : Bytes g) (bh : Bytes h) where
+    -- bytes of a section in either
+    in-section : (t b : ℕ) → b < sectionAt object t .size → getD (sectionIn object order g t) b 0 ≡ getD (sectionIn object order h t) b 0
+        → getD g (start object order t + b) 0 ≡ getD h (start object order t + b) 0
+    in-section t b l e =
+        sym (getD-part g (start object order t) (sectionAt object t .size) b l) ∙ e ∙ getD-part h (start object order t) (sectionAt object t .size) b l
+
+    -- a byte that a relocation touches
+    touched-same : (t b i j : ℕ) → t < sectionCount object → hasBytes (sectionAt object t) ≡ true → Touches t b i j
+        → getD (sectionIn object order g t) b 0 ≡ getD (sectionIn object order h t) b 0
+    unfolding ReadsBack siteAt
+    touched-same t b i j there some c = go (effect object x j) refl
+      where
+        x : Site
+        x = siteOf object order i
+
+        sg : List ℕ
+        sg = sectionIn object order g t
+
+        sh : List ℕ
+        sh = sectionIn object order h t
+
+        inside : end object x j ≤ sectionAt object t .size
+        inside =
+            let kept = kept-rules object order (addresses order) x j (is-checked object order counts before fit i (c .is .there) (c .is .counts) .kept j (c .is .entry)) in
+            let within : end object x j ≤ sectionAt object (sectionAt object i .info) .size = shape-well object x j (kept .shape) .inside in
+            omega (arith, within, ap (λ u. sectionAt object u .size) (c .relocates))
+
+        length-is : (s : List ℕ) → length s ≡ length before → length (sectionIn object order s t) ≡ sectionAt object t .size
+        length-is s e = length-part s (start object order t) (sectionAt object t .size) (omega (arith, bytes-inside object order counts (length before) fit t there some .1))
+
+        bsg : Bytes sg
+        bsg = bytes-part g (start object order t) (sectionAt object t .size) bg
+
+        bsh : Bytes sh
+        bsh = bytes-part h (start object order t) (sectionAt object t .size) bh
+
+        says : (s : List ℕ) → Laid object order before s → (d : Decision) → effect object x j ≡ d
+            → Stored d (found object x) (sectionIn object order s t) (offset object x j) (T (S (valueAt object order (addresses order) x j)) (A object x j)) (P object x j)
+            (pairDistance object order (addresses order) x j) (λ v. stackAt object order (addresses order) x (offset object x j) v (count x))
+        says s l d e =
+            subst
+            (λ q. Stored q (found object x) (sectionIn object order s t) (offset object x j) (T (S (valueAt object order (addresses order) x j)) (A object x j)) (P object x j)
+            (pairDistance object order (addresses order) x j) (λ v. stackAt object order (addresses order) x (offset object x j) v (count x)))
+            e (subst (λ u. ReadsBack object order (addresses order) x (sectionIn object order s u) j) (c .relocates) (l .fields i j (c .is)))
+
+        go : (d : Decision) → effect object x j ≡ d → getD sg b 0 ≡ getD sh b 0
+        go (Store k f form n) e =
+            let ends : end object x j ≡ offset object x j + n = ap (λ d. offset object x j + touched d) e in
+            let a = says g lg (Store k f form n) e in
+            let z = says h lh (Store k f form n) e in
+            same-number sg sh (offset object x j) n b bsg bsh (omega (arith, length-is g (lg .same-length), inside)) (omega (arith, length-is h (lh .same-length), inside))
+            (bytes-known (entry object x j .kind) k f form n e _ _ (spelt-lt n sg (offset object x j) bsg) (spelt-lt n sh (offset object x j) bsh) _ _ _ _ (a .0) (z .0) (a .1 ∙ sym (z .1)))
+            (c .low) (omega (arith, c .high))
+        go Marker e = let none : end object x j ≡ offset object x j + 0 = ap (λ d. offset object x j + touched d) e in absurd (omega (arith, c .low, c .high))
+        go Align e = let none : end object x j ≡ offset object x j + 0 = ap (λ d. offset object x j + touched d) e in absurd (omega (arith, c .low, c .high))
+        go Refused e = let none : end object x j ≡ offset object x j + 0 = ap (λ d. offset object x j + touched d) e in absurd (omega (arith, c .low, c .high))
+
+    -- every byte
+    byte-same : (b : ℕ) → getD g b 0 ≡ getD h b 0
+    byte-same b = ⊎-elim (λ c. covered (c .0) (c .1)) (λ none. free (λ t c. none t (c .there) c)) (cover-below b (sectionCount object) (omega arith))
+      where
+        free : ((t : ℕ) → Covers object order t b → ⊥) → getD g b 0 ≡ getD h b 0
+        free none = lg .others-same b none ∙ sym (lh .others-same b none)
+
+        covered : (t : ℕ) → Covers object order t b → getD g b 0 ≡ getD h b 0
+        covered t c =
+            let k : ℕ = b - start object order t in
+            let there : start object order t + (b - start object order t) ≡ b = omega (arith, c .from) in
+            let within : b - start object order t < sectionAt object t .size = omega (arith, c .from, c .to) in
+            let here : Covers object order t (start object order t + (b - start object order t)) = rw there c in
+            let same : getD g (start object order t + (b - start object order t)) 0 ≡ getD h (start object order t + (b - start object order t)) 0 =
+            ⊎-elim
+            (λ r. in-section t (b - start object order t) within (touched-same t (b - start object order t) (r .0) (r .1 .0) (c .there) (c .loaded) (r .1 .1)))
+            (λ none.
+            let own : Untouched object order t (b - start object order t) = λ i j is relocates low high. none i j (is .there) (record { is = is; relocates = relocates; low = low; high = high }) in
+            lg .own t (b - start object order t) here own ∙ sym (lh .own t (b - start object order t) here own))
+            (touch-below t (b - start object order t) (sectionCount object) (omega arith)) in
+            ap (λ i. getD g i 0) (sym there) ∙ same ∙ ap (λ i. getD h i 0) there
+
+    pub same-image : g ≡ h
+    same-image = ext-getD 0 g h (lg .same-length ∙ sym (lh .same-length)) (λ b l. byte-same b)
