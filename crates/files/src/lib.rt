@@ -1,5 +1,6 @@
 // Files, by the places of their names among the arguments: read whole, and replaced whole by rename.
 ghost use mathlib.Core.Path.{_≡_};
+ghost use mathlib.Core.Bool.{cond};
 ghost use Prim.Native.Nat.{_+_, _≤_};
 ghost use lib.ListN.{length};
 ghost use Rattle.io.specs.Counts.{Counts};
@@ -216,10 +217,10 @@ fn write_beside(i: usize, bytes: &[u8], name: &mut [u8]) -> usize
     if_made(is_made, n)
 }
 
-fn if_made(is_made: bool, n: usize) -> usize
-    ensures { λ r. ⌜ r ≤ n ⌝ }
+fn if_made(made: bool, n: usize) -> usize
+    ensures { λ r. ⌜ (r ≡ cond made n 0) × (r ≤ n) ⌝ }
 {
-    if is_made { n } else { 0 }
+    if made { n } else { 0 }
 }
 
 // Makes a file with the mode and the bytes, or says of the file `given` why it cannot. It is then on its device. Its name is `name`,

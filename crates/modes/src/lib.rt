@@ -59,7 +59,7 @@ fn ask(fd: i32, mut st: stat) -> Asked {
 
 // That of a file that is not open.
 pub fn unknown() -> Mode
-    ensures { λ r. ⌜ (r .plain ≡ false) × (r .bits < 4096) ⌝ }
+    ensures { λ r. ⌜ (r .plain ≡ false) × (r .bits ≡ 0) ⌝ }
 {
     Mode {
         plain: false,

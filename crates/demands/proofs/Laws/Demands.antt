@@ -209,7 +209,7 @@ pub record Done (object order : List ℕ) (f : Files) : Type 0 where
   pub room-is : noRoom (count (f .journal)) (held (f .journal)) (spanOf (planOf object order) .size) (length (f .journal)) ≡ false
   pub after-is : install judgement object order f .after ≡ installed (planOf object order) f
 
-wrong-number : {A : Type 0} (n p : ℕ) → 0 < n → _≡_ {A = Answer} (record { number = n; place = p }) done → A
+pub wrong-number : {A : Type 0} (n p : ℕ) → 0 < n → _≡_ {A = Answer} (record { number = n; place = p }) done → A
 wrong-number n p l e = absurd (omega (arith, ap (λ x. x .number) e))
 
 pub done-leaves : (object order : List ℕ) (f : Files) → install judgement object order f .answer ≡ done → Done object order f

@@ -1,8 +1,8 @@
 -- Lists by their places and parts, and lists of bytes. Assumes nothing.
-use mathlib.Core.Logic.{_⊎_, inl, inr}
-use mathlib.Core.Path.{_≡_, sym, ap, _∙_}
+use mathlib.Core.Logic.{_⊎_, inl, inr, ⊎-elim}
+use mathlib.Core.Path.{_≡_, sym, ap, subst, _∙_}
 use mathlib.Core.List.{List}
-use Prim.Native.Nat.{ℕ, _+_, _-_, _^_, _≤_, _<_}
+use Prim.Native.Nat.{ℕ, zero, suc, _+_, _-_, _^_, _≤_, _<_}
 use native.Mathlib.Omega.{arith}
 use native.Mathlib.Decide.{decLt}
 use lib.ListN.{length, getD, take, drop, length-take, List·getD-eq-default}
@@ -18,6 +18,16 @@ equal i n = go (decLt i n) (decLt n i)
     go (yes h) d = inr (λ e. omega arith)
     go (no g) (yes h) = inr (λ e. omega arith)
     go (no g) (no h) = inl (omega arith)
+
+-- where each number below n has a property or not, one of them has it, or none
+pub search-below : (P : ℕ → Type 0) (n : ℕ) → ((i : ℕ) → i < n → P i ⊎ (P i → ⊥)) → ((i : ℕ) × P i) ⊎ ((i : ℕ) → i < n → P i → ⊥)
+search-below P zero d = inr (λ i l p. omega arith)
+search-below P (suc n) d = go (search-below P n (λ i l. d i (omega arith))) (d n (omega arith))
+  where
+    go : ((i : ℕ) × P i) ⊎ ((i : ℕ) → i < n → P i → ⊥) → P n ⊎ (P n → ⊥) → ((i : ℕ) × P i) ⊎ ((i : ℕ) → i < suc n → P i → ⊥)
+    go (inl p) e = inl p
+    go (inr none) (inl p) = inl (n, p)
+    go (inr none) (inr out) = inr (λ i l p. ⊎-elim (λ (same : i ≡ n). out (subst P same p)) (λ other. none i (omega arith) p) (equal i n))
 
 -- ---- by parts
 

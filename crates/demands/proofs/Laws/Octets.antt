@@ -22,6 +22,7 @@ use Rattle.journal.specs.Journals.{oldAt, blank, entryBytes, count, held, sound
 use Rattle.journal.specs.Plans.{Piece, piece, Verdict, refused, plan, overwritten, spanOf}
 use Rattle.history.specs.Writes.{saving, saved, restoring, releasing, newest, heldBelow}
 use Rattle.history.specs.Calls.{Files, Outcome, installed, settle, install, rolledBack, rollback}
+use Rattle.history.proofs.Laws.Corollaries.{either}
 use Rattle.placing.specs.Placing.{hasBytes}
 use Rattle.spans.specs.Pieces.{pieces}
 use Rattle.types.specs.declared.Decision.{Decision}
@@ -153,26 +154,25 @@ bytes-rolled-back f b =
           (bytes-bytes 4 (count j - 1), (bytes-bytes 4 (heldBelow j), (bytes-entry blank, (bytes-zeros (newest j .size), tt)))),
     )
 
-either : (P : Files → Type 0) (c : Bool) (o p : Outcome Files) → P (o .after) → P (p .after) → P (cond c o p .after)
-either P true o p x y = x
-either P false o p x y = y
+abbrev LeavesBytes : Outcome Files → Type 0
+LeavesBytes o = OnBytes (o .after)
 
 install-bytes : (object order : List ℕ) (f : Files) → AreBytes object → OnBytes f → OnBytes (ours object order f .after)
 unfolding install settle
-install-bytes object order f bo b = either OnBytes (not (sound (f .journal) (length (f .image)))) _ _ b (go (judgement object order (length (f .image))) refl)
+install-bytes object order f bo b = either LeavesBytes (not (sound (f .journal) (length (f .image)))) _ _ b (go (judgement object order (length (f .image))) refl)
   where
     go : (v : Verdict) → judgement object order (length (f .image)) ≡ v → OnBytes (settle f v .after)
     go (refused n p) e = b
     go (plan ps) e =
         let same : planOf object order ≡ ps = plan-fits object order (length (f .image)) ps e .plan-is in
-        either OnBytes (noRoom (count (f .journal)) (held (f .journal)) (spanOf ps .size) (length (f .journal))) _ _ b
+        either LeavesBytes (noRoom (count (f .journal)) (held (f .journal)) (spanOf ps .size) (length (f .journal))) _ _ b
         (bytes-installed ps f (subst AllBytes same (bytes-plan object order bo)) b)
 
 rollback-bytes : (f : Files) → OnBytes f → OnBytes (ours-back f .after)
 unfolding rollback
 rollback-bytes f b =
-    either OnBytes (not (sound (f .journal) (length (f .image)))) _ _ b
-    (either OnBytes (not (lengthAllowed (length (f .image)))) _ _ b (either OnBytes (eqb (count (f .journal)) 0) _ _ b (bytes-rolled-back f b)))
+    either LeavesBytes (not (sound (f .journal) (length (f .image)))) _ _ b
+    (either LeavesBytes (not (lengthAllowed (length (f .image)))) _ _ b (either LeavesBytes (eqb (count (f .journal)) 0) _ _ b (bytes-rolled-back f b)))
 
 -- so that there is a fitter that meets the demands, and by `Only` no other
 pub ours-meets : Meets ours ours-back

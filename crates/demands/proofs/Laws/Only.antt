@@ -10,7 +10,7 @@ use lib.Seq.{ext-getD}
 use Rattle.journal.specs.declared.Span.{Span}
 use Rattle.journal.specs.Journals.{maxEntries, oldAt, count, held, entry, Sound}
 use Rattle.history.specs.Writes.{newest, heldBelow}
-use Rattle.history.specs.Calls.{Answer, done, Files, Outcome, InstallCall, RollbackCall}
+use Rattle.history.specs.Calls.{done, Files, Outcome, InstallCall, RollbackCall}
 use Rattle.history.specs.Records.{Appended, Released}
 use Rattle.history.proofs.Laws.Rollback.{undoable}
 use Rattle.demands.specs.First.{AllHold, FirstBroken, table}
@@ -20,16 +20,12 @@ use Rattle.demands.proofs.Laws.Told.{told}
 use Rattle.demands.proofs.Laws.Lists.{equal, part-same, drop-same}
 use Rattle.demands.proofs.Laws.Journals.{same-journal, one-span}
 use Rattle.demands.proofs.Laws.Same.{same-image}
-use Rattle.demands.proofs.Laws.Demands.{rules-hold, numbers-above, rollback-told, rollback-above, done-leaves, demand-2}
+use Rattle.demands.proofs.Laws.Demands.{rules-hold, numbers-above, rollback-told, rollback-above, wrong-number, done-leaves, demand-2}
 
 -- ---- outcomes
 
 same-outcome : (o p : Outcome Files) → o .answer ≡ p .answer → o .after .image ≡ p .after .image → o .after .journal ≡ p .after .journal → o ≡ p
 same-outcome o p e a b = λ i. record { answer = e i; after = record { image = a i; journal = b i } }
-
--- a number above 0 is no done call's
-not-done : (n p : ℕ) → 0 < n → _≡_ {A = Answer} (record { number = n; place = p }) done → ⊥
-not-done n p h e = omega (arith, ap (λ a. a .number) e)
 
 -- ---- the journal after a done install
 
@@ -116,8 +112,8 @@ module _ (i k : InstallCall) (r s : RollbackCall) (m : Meets i r) (w : Meets k s
         let ai = m .demand-2 .first-refused object order f n p broken in
         let ak = w .demand-2 .first-refused object order f n p broken in
         let some : 0 < n = above (table object order f) n p (numbers-above object order f) broken in
-        let ki = m .demand-1 .install-kept object order f (λ e. not-done n p some (sym ai ∙ e)) in
-        let kk = w .demand-1 .install-kept object order f (λ e. not-done n p some (sym ak ∙ e)) in
+        let ki = m .demand-1 .install-kept object order f (λ e. wrong-number n p some (sym ai ∙ e)) in
+        let kk = w .demand-1 .install-kept object order f (λ e. wrong-number n p some (sym ak ∙ e)) in
         same-outcome (i object order f) (k object order f) (ai ∙ sym ak) (ap (λ g. g .image) (ki ∙ sym kk)) (ap (λ g. g .journal) (ki ∙ sym kk))
 
     -- "No public call is left unstated": two fitters that meet the demands give the same answer and leave the same bytes
@@ -146,8 +142,8 @@ module _ (i k : InstallCall) (r s : RollbackCall) (m : Meets i r) (w : Meets k s
         let ar = m .demand-1 .rollback-first f n p broken in
         let az = w .demand-1 .rollback-first f n p broken in
         let some : 0 < n = above (rollbackTable f) n p (rollback-above f) broken in
-        let kr = m .demand-1 .rollback-kept f (λ e. not-done n p some (sym ar ∙ e)) in
-        let ks = w .demand-1 .rollback-kept f (λ e. not-done n p some (sym az ∙ e)) in
+        let kr = m .demand-1 .rollback-kept f (λ e. wrong-number n p some (sym ar ∙ e)) in
+        let ks = w .demand-1 .rollback-kept f (λ e. wrong-number n p some (sym az ∙ e)) in
         same-outcome (r f) (s f) (ar ∙ sym az) (ap (λ g. g .image) (kr ∙ sym ks)) (ap (λ g. g .journal) (kr ∙ sym ks))
 
     pub one-rollback : r f ≡ s f

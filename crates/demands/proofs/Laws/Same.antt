@@ -3,7 +3,7 @@ use mathlib.Core.Logic.{_⊎_, inl, inr, ⊎-elim}
 use mathlib.Core.Path.{_≡_, refl, sym, ap, subst, _∙_}
 use mathlib.Core.Bool.{Bool, true, false}
 use mathlib.Core.List.{List}
-use Prim.Native.Nat.{ℕ, zero, suc, _+_, _-_, _≤_, _<_}
+use Prim.Native.Nat.{ℕ, _+_, _-_, _≤_, _<_}
 use native.Mathlib.Omega.{arith}
 use native.Mathlib.Decide.{decLt}
 use lib.ListN.{length, getD}
@@ -31,33 +31,21 @@ use Rattle.judgement.specs.Facts.{Fitting}
 use Rattle.judgement.proofs.Laws.Laying.{bytes-inside}
 use Rattle.demands.specs.Laid.{start, sectionIn, Covers, siteOf, IsRelocation, Untouched, Laid}
 use Rattle.demands.proofs.Laws.Relocations.{shape-well}
-use Rattle.demands.proofs.Laws.Lists.{getD-part, bytes-part, same-number, spelt-lt}
+use Rattle.demands.proofs.Laws.Lists.{equal, search-below, getD-part, bytes-part, same-number, spelt-lt}
 use Rattle.demands.proofs.Laws.Laid.{is-checked}
 
 module _ (object order : List ℕ) where
   -- ---- whether a section covers a byte, and a relocation touches it
 
-  cover-below : (b n : ℕ) → n ≤ sectionCount object → ((t : ℕ) × Covers object order t b) ⊎ ((t : ℕ) → t < n → Covers object order t b → ⊥)
-  cover-below b zero h = inr (λ t l c. omega arith)
-  cover-below b (suc t) h =
-      go (cover-below b t (omega arith)) (hasBytes (sectionAt object t)) refl (decLt b (start object order t)) (decLt b (start object order t + sectionAt object t .size))
+  covers-or-not : (b t : ℕ) → t < sectionCount object → Covers object order t b ⊎ (Covers object order t b → ⊥)
+  covers-or-not b t there = go (hasBytes (sectionAt object t)) refl (decLt b (start object order t)) (decLt b (start object order t + sectionAt object t .size))
     where
-      -- a section of n or below it
-      last : ((u : ℕ) → u < t → Covers object order u b → ⊥) → (Covers object order t b → ⊥) → (u : ℕ) → u < suc t → Covers object order u b → ⊥
-      last none here u l c = at (decLt u t)
-        where
-          at : Dec (u < t) → ⊥
-          at (yes k) = none u k c
-          at (no k) = let same : u ≡ t = omega arith in let moved : Covers object order t b = rw (← same) c in here moved
-
-      go : ((u : ℕ) × Covers object order u b) ⊎ ((u : ℕ) → u < t → Covers object order u b → ⊥) → (d : Bool) → hasBytes (sectionAt object t) ≡ d
-          → Dec (b < start object order t) → Dec (b < start object order t + sectionAt object t .size)
-          → ((u : ℕ) × Covers object order u b) ⊎ ((u : ℕ) → u < suc t → Covers object order u b → ⊥)
-      go (inl c) d e x y = inl c
-      go (inr none) false e x y = inr (last none (λ c. clash (hasBytes (sectionAt object t)) e (c .loaded)))
-      go (inr none) true e (yes k) y = inr (last none (λ c. omega (arith, c .from)))
-      go (inr none) true e (no k) (yes l) = inl (t, record { there = h; loaded = e; from = omega arith; to = l })
-      go (inr none) true e (no k) (no l) = inr (last none (λ c. omega (arith, c .to)))
+      go : (d : Bool) → hasBytes (sectionAt object t) ≡ d → Dec (b < start object order t) → Dec (b < start object order t + sectionAt object t .size)
+          → Covers object order t b ⊎ (Covers object order t b → ⊥)
+      go false e x y = inr (λ c. clash (hasBytes (sectionAt object t)) e (c .loaded))
+      go true e (yes k) y = inr (λ c. omega (arith, c .from))
+      go true e (no k) (yes l) = inl (record { there = there; loaded = e; from = omega arith; to = l })
+      go true e (no k) (no l) = inr (λ c. omega (arith, c .to))
 
   -- relocation j of RELA section i, which relocates section t, touches byte b of it
   pub record Touches (t b i j : ℕ) : Type 0 where
@@ -66,48 +54,26 @@ module _ (object order : List ℕ) where
     pub low : offset object (siteOf object order i) j ≤ b
     pub high : b < end object (siteOf object order i) j
 
-  touch-in : (t b i : ℕ) → i < sectionCount object → countingRela object i ≡ true → sectionAt object i .info ≡ t → (m : ℕ) → m ≤ count (siteOf object order i)
-      → ((j : ℕ) × Touches t b i j) ⊎ ((j : ℕ) → j < m → Touches t b i j → ⊥)
-  touch-in t b i there counts relocates zero h = inr (λ j l c. omega arith)
-  touch-in t b i there counts relocates (suc m) h =
-      go (touch-in t b i there counts relocates m (omega arith)) (decLt b (offset object (siteOf object order i) m)) (decLt b (end object (siteOf object order i) m))
+  touches-or-not : (t b i : ℕ) → i < sectionCount object → countingRela object i ≡ true → sectionAt object i .info ≡ t → (j : ℕ) → j < count (siteOf object order i)
+      → Touches t b i j ⊎ (Touches t b i j → ⊥)
+  touches-or-not t b i there counts relocates j entry = go (decLt b (offset object (siteOf object order i) j)) (decLt b (end object (siteOf object order i) j))
     where
-      last : ((j : ℕ) → j < m → Touches t b i j → ⊥) → (Touches t b i m → ⊥) → (j : ℕ) → j < suc m → Touches t b i j → ⊥
-      last none here j l c = at (decLt j m)
-        where
-          at : Dec (j < m) → ⊥
-          at (yes k) = none j k c
-          at (no k) = let same : j ≡ m = omega arith in let moved : Touches t b i m = rw (← same) c in here moved
+      go : Dec (b < offset object (siteOf object order i) j) → Dec (b < end object (siteOf object order i) j) → Touches t b i j ⊎ (Touches t b i j → ⊥)
+      go (yes k) y = inr (λ c. omega (arith, c .low))
+      go (no k) (yes l) = inl (record { is = record { there = there; counts = counts; entry = entry }; relocates = relocates; low = omega arith; high = l })
+      go (no k) (no l) = inr (λ c. omega (arith, c .high))
 
-      go : ((j : ℕ) × Touches t b i j) ⊎ ((j : ℕ) → j < m → Touches t b i j → ⊥) → Dec (b < offset object (siteOf object order i) m) → Dec (b < end object (siteOf object order i) m)
-          → ((j : ℕ) × Touches t b i j) ⊎ ((j : ℕ) → j < suc m → Touches t b i j → ⊥)
-      go (inl c) x y = inl c
-      go (inr none) (yes k) y = inr (last none (λ c. omega (arith, c .low)))
-      go (inr none) (no k) (yes l) =
-          inl (m, record { is = record { there = there; counts = counts; entry = h }; relocates = relocates; low = omega arith; high = l })
-      go (inr none) (no k) (no l) = inr (last none (λ c. omega (arith, c .high)))
-
-  touch-below : (t b n : ℕ) → n ≤ sectionCount object → ((i : ℕ) × ((j : ℕ) × Touches t b i j)) ⊎ ((i j : ℕ) → i < n → Touches t b i j → ⊥)
-  touch-below t b zero h = inr (λ i j l c. omega arith)
-  touch-below t b (suc i) h = go (touch-below t b i (omega arith)) (countingRela object i) refl (decLt (sectionAt object i .info) t) (decLt t (sectionAt object i .info))
+  -- one of a RELA section does, or none
+  touched-or-not : (t b i : ℕ) → i < sectionCount object → ((j : ℕ) × Touches t b i j) ⊎ (((j : ℕ) × Touches t b i j) → ⊥)
+  touched-or-not t b i there = go (countingRela object i) refl (equal (sectionAt object i .info) t)
     where
-      last : ((k j : ℕ) → k < i → Touches t b k j → ⊥) → ((j : ℕ) → Touches t b i j → ⊥) → (k j : ℕ) → k < suc i → Touches t b k j → ⊥
-      last none here k j l c = at (decLt k i)
-        where
-          at : Dec (k < i) → ⊥
-          at (yes m) = none k j m c
-          at (no m) = let same : k ≡ i = omega arith in let moved : Touches t b i j = rw (← same) c in here j moved
-
-      go : ((k : ℕ) × ((j : ℕ) × Touches t b k j)) ⊎ ((k j : ℕ) → k < i → Touches t b k j → ⊥) → (d : Bool) → countingRela object i ≡ d
-          → Dec (sectionAt object i .info < t) → Dec (t < sectionAt object i .info)
-          → ((k : ℕ) × ((j : ℕ) × Touches t b k j)) ⊎ ((k j : ℕ) → k < suc i → Touches t b k j → ⊥)
-      go (inl c) d e x y = inl c
-      go (inr none) false e x y = inr (last none (λ j c. clash (countingRela object i) e (c .is .counts)))
-      go (inr none) true e (yes l) y = inr (last none (λ j c. omega (arith, c .relocates)))
-      go (inr none) true e (no l) (yes m) = inr (last none (λ j c. omega (arith, c .relocates)))
-      go (inr none) true e (no l) (no m) =
-          ⊎-elim (λ c. inl (i, c)) (λ out. inr (last none (λ j c. out j (c .is .entry) c)))
-          (touch-in t b i h e (omega arith) (count (siteOf object order i)) (omega arith))
+      go : (d : Bool) → countingRela object i ≡ d → (sectionAt object i .info ≡ t) ⊎ (sectionAt object i .info ≡ t → ⊥)
+          → ((j : ℕ) × Touches t b i j) ⊎ (((j : ℕ) × Touches t b i j) → ⊥)
+      go false e x = inr (λ c. clash (countingRela object i) e (c .1 .is .counts))
+      go true e (inr other) = inr (λ c. other (c .1 .relocates))
+      go true e (inl same) =
+          ⊎-elim (λ c. inl c) (λ none. inr (λ c. none (c .0) (c .1 .is .entry) (c .1)))
+          (search-below (Touches t b i) (count (siteOf object order i)) (touches-or-not t b i there e same))
 
   -- ---- two images of which demand 2 says the same
 
@@ -172,7 +138,7 @@ module _ (object order : List ℕ) where
 
     -- every byte
     byte-same : (b : ℕ) → getD g b 0 ≡ getD h b 0
-    byte-same b = ⊎-elim (λ c. covered (c .0) (c .1)) (λ none. free (λ t c. none t (c .there) c)) (cover-below b (sectionCount object) (omega arith))
+    byte-same b = ⊎-elim (λ c. covered (c .0) (c .1)) (λ none. free (λ t c. none t (c .there) c)) (search-below (λ t. Covers object order t b) (sectionCount object) (covers-or-not b))
       where
         free : ((t : ℕ) → Covers object order t b → ⊥) → getD g b 0 ≡ getD h b 0
         free none = lg .others-same b none ∙ sym (lh .others-same b none)
@@ -187,9 +153,9 @@ module _ (object order : List ℕ) where
             ⊎-elim
             (λ r. in-section t (b - start object order t) within (touched-same t (b - start object order t) (r .0) (r .1 .0) (c .there) (c .loaded) (r .1 .1)))
             (λ none.
-            let own : Untouched object order t (b - start object order t) = λ i j is relocates low high. none i j (is .there) (record { is = is; relocates = relocates; low = low; high = high }) in
+            let own : Untouched object order t (b - start object order t) = λ i j is relocates low high. none i (is .there) (j, record { is = is; relocates = relocates; low = low; high = high }) in
             lg .own t (b - start object order t) here own ∙ sym (lh .own t (b - start object order t) here own))
-            (touch-below t (b - start object order t) (sectionCount object) (omega arith)) in
+            (search-below (λ i. (j : ℕ) × Touches t (b - start object order t) i j) (sectionCount object) (touched-or-not t (b - start object order t))) in
             ap (λ i. getD g i 0) (sym there) ∙ same ∙ ap (λ i. getD h i 0) there
 
     pub same-image : g ≡ h

@@ -15,7 +15,7 @@ use Rattle.history.specs.Histories.{History, begin, countOf, heldOf, sta
 use Rattle.history.proofs.Laws.Agree.{Agrees, agrees}
 use Rattle.history.proofs.Laws.History.{run-append, kept, same-answers, alike, run-over, agrees-after}
 
-either : {A : Type 0} (P : A → Type 0) (b : Bool) (x y : A) → P x → P y → P (cond b x y)
+pub either : {A : Type 0} (P : A → Type 0) (b : Bool) (x y : A) → P x → P y → P (cond b x y)
 either P true x y p q = p
 either P false x y p q = q
 

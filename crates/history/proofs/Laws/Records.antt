@@ -1,11 +1,11 @@
 -- What the two calls leave where they are done, byte for byte: `Appended` and `Released`, over any judgement. Assumes nothing.
 use mathlib.Core.Logic.{_⊎_, inl, inr}
-use mathlib.Core.Path.{_≡_, refl, _∙_}
+use mathlib.Core.Path.{_≡_, _∙_}
 use Prim.Native.Nat.{ℕ, _+_, _-_, _^_, _≤_, _<_}
 use native.Mathlib.Omega.{arith}
 use native.Mathlib.Decide.{decLt}
 use mathlib.Core.List.{List, [], _∷_}
-use lib.ListN.{length, replicate, length-replicate, length-append}
+use lib.ListN.{length, replicate, length-replicate}
 use lib.Seq.{sets, length-sets}
 use Rattle.word.specs.Bytes.{bytes, part}
 use Rattle.word.proofs.Laws.Bytes.{length-bytes}
@@ -14,15 +14,13 @@ use Rattle.journal.specs.declared.Span.{Span}
 use Rattle.journal.specs.Plans.{Piece, piece, overwritten, spanOf}
 use Rattle.journal.specs.Journals.{maxEntries, countAt, entryAt, heldAt, oldAt, count, held, entry, blank, entryBytes}
 use Rattle.journal.proofs.Laws.Span.{length-overwritten}
+use Rattle.journal.proofs.Laws.Format.{length-entry}
 use Rattle.journal.proofs.Laws.Pieces.{part-clear, number-stored, entry-stored, entry-clear}
 use Rattle.history.specs.Writes.{newest, heldBelow, saving, saved, restoring, releasing}
 use Rattle.history.specs.Calls.{Files, installed, rolledBack}
 use Rattle.history.specs.Facts.{Savable, Undoable}
 use Rattle.history.specs.Records.{Appended, Released}
 use Rattle.history.proofs.Laws.Past.{past-saved, past-released}
-
-length-entry : (e : Span) → length (entryBytes e) ≡ 8
-length-entry e = simp (length-append, length-bytes) refl
 
 -- another entry lies before or behind
 other-entry : (i n : ℕ) → (i ≡ n → ⊥) → (entryAt i + 8 ≤ entryAt n) ⊎ (entryAt n + 8 ≤ entryAt i)

@@ -20,7 +20,7 @@ unfoldable pub table : List Span → List ℕ
 table [] = []
 table (s ∷ ss) = entryBytes s ++ table ss
 
-length-entry : (s : Span) → length (entryBytes s) ≡ 8
+pub length-entry : (s : Span) → length (entryBytes s) ≡ 8
 length-entry s = simp (length-append, length-bytes) refl
 
 length-table : (ss : List Span) → length (table ss) ≡ 8 * length ss
