@@ -141,7 +141,7 @@ fn long_names() {
 fn unprivileged(bench: &Bench, programs: &Bench, call: Call) -> Command {
     let copy = programs.path("program");
     if !copy.exists() {
-        fs::copy(bench.program.path(), &copy).expect("a copy of the program");
+        copy_program(&bench.program.path(), &copy);
     }
     let mut command = Command::new(copy);
     command.args(call).current_dir(bench.path(""));
@@ -150,6 +150,15 @@ fn unprivileged(bench: &Bench, programs: &Bench, call: Call) -> Command {
         command.uid(NOBODY).gid(NOBODY);
     }
     command
+}
+
+/// By a process of its own. A file that is open for writing cannot be run, and
+/// what this process has open, a child that another test starts has too until
+/// it runs its program.
+fn copy_program(program: &Path, copy: &Path) {
+    let mut command = Command::new("cp");
+    command.arg("-p").arg(program).arg(copy);
+    assert!(command.status().expect("cp starts").success());
 }
 
 fn is_superuser() -> bool {
