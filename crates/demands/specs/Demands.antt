@@ -8,9 +8,10 @@ use Rattle.elf.specs.Headers.{sectionCount}
 use Rattle.elf.specs.Sections.{sectionAt, allocated}
 use Rattle.order.specs.Orders.{placementCount}
 use Rattle.order.specs.Windows.{maxImage}
-use Rattle.journal.specs.declared.Span.{Span}
+use Rattle.plans.specs.declared.Span.{Span}
 use Rattle.journal.specs.Journals.{count, Sound}
-use Rattle.history.specs.Calls.{Files, done, install, rollback, Call, InstallCall, RollbackCall, calling}
+use Rattle.plans.specs.Answers.{Answer, done}
+use Rattle.history.specs.Calls.{Files, install, rollback, Call, InstallCall, RollbackCall, calling}
 use Rattle.history.specs.Histories.{Start, Holds}
 use Rattle.history.specs.Records.{Appended, Released}
 use Rattle.judgement.specs.Judgement.{judgement}
@@ -26,12 +27,12 @@ rollbackTable f = one 1 (Sound (f .journal) (length (f .image))) (one 3 (length 
 pub record Demand1 (installs : InstallCall) (rollsBack : RollbackCall) : Type 0 where
   -- "A refusal gives its number and place from document 01,"
   pub install-refused : (object order : List ℕ) (f : Files) → (installs object order f .answer ≡ done → ⊥)
-      → FirstBroken (table object order f) (installs object order f .answer .number) (installs object order f .answer .place)
-  pub rollback-refused : (f : Files) → (rollsBack f .answer ≡ done → ⊥) → FirstBroken (rollbackTable f) (rollsBack f .answer .number) (rollsBack f .answer .place)
+      → FirstBroken (table object order f) (installs object order f .answer)
+  pub rollback-refused : (f : Files) → (rollsBack f .answer ≡ done → ⊥) → FirstBroken (rollbackTable f) (rollsBack f .answer)
   -- of a taking-back, "given exactly when" (of a fit, demand 2 has it)
   pub rollback-holds : (f : Files) → rollsBack f .answer ≡ done → AllHold (rollbackTable f)
   pub rollback-done : (f : Files) → AllHold (rollbackTable f) → rollsBack f .answer ≡ done
-  pub rollback-first : (f : Files) (n p : ℕ) → FirstBroken (rollbackTable f) n p → rollsBack f .answer ≡ record { number = n; place = p }
+  pub rollback-first : (f : Files) (a : Answer) → FirstBroken (rollbackTable f) a → rollsBack f .answer ≡ a
   -- "and image and ledger then hold exactly the bytes they held."
   pub install-kept : (object order : List ℕ) (f : Files) → (installs object order f .answer ≡ done → ⊥) → installs object order f .after ≡ f
   pub rollback-kept : (f : Files) → (rollsBack f .answer ≡ done → ⊥) → rollsBack f .after ≡ f
@@ -42,8 +43,8 @@ pub record Demand2 (installs : InstallCall) : Type 0 where
   pub holds-done : (object order : List ℕ) (f : Files) → Rules object order f → installs object order f .answer ≡ done
   -- "otherwise the first broken rule is named."
   pub refused-first : (object order : List ℕ) (f : Files) → (installs object order f .answer ≡ done → ⊥)
-      → FirstBroken (table object order f) (installs object order f .answer .number) (installs object order f .answer .place)
-  pub first-refused : (object order : List ℕ) (f : Files) (n p : ℕ) → FirstBroken (table object order f) n p → installs object order f .answer ≡ record { number = n; place = p }
+      → FirstBroken (table object order f) (installs object order f .answer)
+  pub first-refused : (object order : List ℕ) (f : Files) (a : Answer) → FirstBroken (table object order f) a → installs object order f .answer ≡ a
   -- "Once done, each laid byte is the object's own or the field that the RISC-V ELF psABI 1.0 asks for. .. No other image byte changes."
   pub laid : (object order : List ℕ) (f : Files) → installs object order f .answer ≡ done → Laid object order (f .image) (installs object order f .after .image)
   -- "An order without placements fits only an object with nothing to place."

@@ -10,7 +10,7 @@ use Rattle.elf.specs.Sections.{sectionAt, countingRela}
 use Rattle.elf.specs.Entries.{bytesOf}
 use Rattle.order.specs.Orders.{base}
 use Rattle.lookup.specs.Addresses.{addresses}
-use Rattle.journal.specs.declared.Span.{Span}
+use Rattle.plans.specs.declared.Span.{Span}
 use Rattle.placing.specs.Placing.{hasBytes}
 use Rattle.fields.specs.declared.Field.{Field}
 use Rattle.fields.specs.declared.Field.the-variants.{U}

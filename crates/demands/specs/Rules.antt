@@ -28,7 +28,7 @@ use Rattle.order.specs.Windows.{maxImage}
 use Rattle.lookup.specs.Values.{isGiven, externalValue}
 use Rattle.lookup.specs.Addresses.{addresses, placedAt}
 use Rattle.journal.specs.Journals.{maxEntries, oldAt, count as countOf, held, Sound}
-use Rattle.journal.specs.Plans.{spanOf}
+use Rattle.plans.specs.Plans.{spanOf}
 use Rattle.history.specs.Calls.{Files}
 use Rattle.place.specs.Placements.{isAllocated}
 use Rattle.placing.specs.Placing.{endOf, unit, hasBytes}

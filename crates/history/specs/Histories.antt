@@ -8,10 +8,11 @@ use mathlib.Core.List.{List, [], _∷_, _++_}
 use lib.ListN.{length, take, replicate}
 use Rattle.word.specs.Bytes.{part}
 use Rattle.order.specs.Windows.{maxImage}
-use Rattle.journal.specs.declared.Span.{Span}
-use Rattle.journal.specs.Plans.{Piece, Verdict, refused, plan, Judge, overwritten, spanOf}
+use Rattle.plans.specs.declared.Span.{Span}
+use Rattle.plans.specs.Plans.{Piece, Verdict, refused, plan, Judge, overwritten, spanOf}
 use Rattle.journal.specs.Journals.{oldAt, count, entries, held, total, Sound, noRoom}
-use Rattle.history.specs.Calls.{done, journalFull, noneStands, Files, Outcome, refuse, succeed, Call, Install, Rollback, answers, run}
+use Rattle.plans.specs.Answers.{done}
+use Rattle.history.specs.Calls.{journalFull, noneStands, Files, Outcome, refuse, succeed, Call, Install, Rollback, answers, run}
 
 -- ---- the history
 
@@ -60,7 +61,7 @@ olds start (x ∷ older) = olds start older ++ part (laid start older) (spanOf (
 -- broken. If one is broken, the answer is its number and place and nothing changes. Otherwise the answer is 0, place 0, and the fit stands
 -- as the newest"
 unfoldable pub stand : History → List ℕ → List ℕ → Verdict → Outcome History
-stand h object order (refused n p) = refuse (record { number = n; place = p }) h
+stand h object order (refused a) = refuse a h
 stand h object order (plan ps) =
     cond (noRoom (countOf h) (heldOf h) (spanOf ps .size) (h .room))
     (refuse journalFull h)

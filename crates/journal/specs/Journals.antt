@@ -15,7 +15,7 @@ use lib.ListN.{length}
 use lib.Dec.{leb, ltb, eqb}
 use Rattle.word.specs.Bytes.{leAt, bytes}
 use Rattle.word.specs.First.{everywhere, tabulate}
-use Rattle.journal.specs.declared.Span.{Span}
+use Rattle.plans.specs.declared.Span.{Span}
 
 -- ---- the format
 

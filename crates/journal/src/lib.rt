@@ -4,6 +4,7 @@ ghost use Prim.Native.Nat.{_+_, _≤_, _<_};
 ghost use mathlib.Core.Bool.{not, _&&_, _||_};
 ghost use lib.ListN.{length};
 ghost use Rattle.journal.specs.Journals.{maxEntries, oldAt, count, held, entry, isBlank, endsWithin, sound, noRoom};
+use plans::Span;
 
 pub const MAX_ENTRIES: usize = 16;
 
@@ -15,12 +16,6 @@ pub const ENTRIES_AT: usize = 4;
 pub const HELD_AT: usize = 132;
 
 pub const OLD_AT: usize = 136;
-
-// A run of bytes of the image (document 01: start and length).
-pub struct Span {
-    pub start: u32,
-    pub size: u32,
-}
 
 // Entry i.
 pub fn read_entry(journal: &[u8], i: usize) -> Span

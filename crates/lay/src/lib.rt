@@ -7,7 +7,7 @@ ghost use lib.Seq.{sets};
 ghost use Rattle.lookup.specs.Addresses.{addresses as «the-addresses»};
 ghost use Rattle.elf.specs.Headers.{sectionCount};
 ghost use Rattle.elf.specs.Sections.{sectionAt, loaded};
-ghost use Rattle.journal.specs.Plans.{overwritten};
+ghost use Rattle.plans.specs.Plans.{overwritten};
 ghost use Rattle.stores.specs.Sections.{relocated};
 ghost use Rattle.judgement.specs.Judgement.{planOf};
 ghost use Rattle.judgement.specs.Facts.{Fitting, withSection};

@@ -7,8 +7,8 @@ ghost use Rattle.validate.specs.Facts.{SoundObject};
 ghost use Rattle.placing.specs.Placing.{hasBytes};
 ghost use Rattle.spans.specs.Spans.{highest, lowestByte, spanOf};
 use elf::Section;
-use journal::Span;
 use lookup::Addresses;
+use plans::Span;
 
 // Whether a section has bytes in the image.
 fn has_bytes(h: Section) -> bool

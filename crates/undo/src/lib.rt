@@ -13,7 +13,7 @@ use journal::COUNT_AT;
 use journal::ENTRIES_AT;
 use journal::HELD_AT;
 use journal::OLD_AT;
-use journal::Span;
+use plans::Span;
 
 // What a rollback answers.
 pub enum RolledBack {

@@ -16,8 +16,9 @@ use Rattle.validate.specs.declared.ObjectCheck.{ObjectCheck}
 use Rattle.validate.specs.declared.ObjectCheck.the-variants.{Passed, BadHeader, BadSection}
 use Rattle.validate.specs.Rules.{objectCheck}
 use Rattle.journal.specs.Journals.{count, held, Sound, sound, noRoom}
-use Rattle.journal.specs.Plans.{Piece, Verdict, refused, plan, spanOf}
-use Rattle.history.specs.Calls.{Answer, done, journalUnsound, windowBroken, noneStands, journalFull, Files, refuse, succeed, installed, settle, install, rolledBack, rollback, Install, Rollback, calling}
+use Rattle.plans.specs.Plans.{Piece, Verdict, refused, plan, spanOf}
+use Rattle.plans.specs.Answers.{Answer, says, done}
+use Rattle.history.specs.Calls.{journalUnsound, windowBroken, noneStands, journalFull, Files, refuse, succeed, installed, settle, install, rolledBack, rollback, Install, Rollback, calling}
 use Rattle.journal.proofs.Laws.Sound.{test-sound, sound-test}
 use Rattle.history.specs.Records.{Appended, Released}
 use Rattle.history.proofs.Laws.Install.{held-small, plan-savable}
@@ -150,45 +151,42 @@ numbers-above object order f = (
   ),
 )
 
-same-answer : (a : Answer) (n p : ℕ) → a .number ≡ n → a .place ≡ p → a ≡ record { number = n; place = p }
-same-answer a n p e d = λ i. record { number = e i; place = d i }
-
 -- by what is told, an answer that is not done has a number above 0
 not-zero : (c : Checks) (a : Answer) → AllAbove c → Told c a → (a ≡ done → ⊥) → a .number ≡ 0 → ⊥
 not-zero c a up (inl t) not-done e = not-done (t .0)
-not-zero c a up (inr b) not-done e = omega (arith, above c (a .number) (a .place) up b)
+not-zero c a up (inr b) not-done e = omega (arith, above c a up b)
 
-first-of : (c : Checks) (a : Answer) → Told c a → (a ≡ done → ⊥) → FirstBroken c (a .number) (a .place)
+first-of : (c : Checks) (a : Answer) → Told c a → (a ≡ done → ⊥) → FirstBroken c a
 first-of c a (inl t) not-done = absurd (not-done (t .0))
 first-of c a (inr b) not-done = b
 
 done-all : (c : Checks) (a : Answer) → AllAbove c → Told c a → a ≡ done → AllHold c
 done-all c a up (inl t) e = t .1
-done-all c a up (inr b) e = absurd (omega (arith, above c (a .number) (a .place) up b, ap (λ x. x .number) e))
+done-all c a up (inr b) e = absurd (omega (arith, above c a up b, ap (λ x. x .number) e))
 
 all-done : (c : Checks) (a : Answer) → Told c a → AllHold c → a ≡ done
 all-done c a (inl t) h = t .0
-all-done c a (inr b) h = absurd (none-broken c (a .number) (a .place) h b)
+all-done c a (inr b) h = absurd (none-broken c a h b)
 
-named : (c : Checks) (a : Answer) → Told c a → (n p : ℕ) → FirstBroken c n p → a ≡ record { number = n; place = p }
-named c a (inl t) n p b = absurd (none-broken c n p (t .1) b)
-named c a (inr d) n p b = let same = one-first c (a .number) n (a .place) p d b in same-answer a n p (same .0) (same .1)
+named : (c : Checks) (a : Answer) → Told c a → (b : Answer) → FirstBroken c b → a ≡ b
+named c a (inl t) b broken = absurd (none-broken c b (t .1) broken)
+named c a (inr first) b broken = one-first c a b first broken
 
 -- ---- what a done install leaves
 
 -- the judgement refuses with a number above 0
-refused-above : (object order : List ℕ) (len n p : ℕ) → judgement object order len ≡ refused n p → 0 < n
+refused-above : (object order : List ℕ) (len : ℕ) (a : Answer) → judgement object order len ≡ refused a → 0 < a .number
 unfolding judgement
-refused-above object order len n p h =
+refused-above object order len answer h =
     go (wellFormed order) (windowAllowed (base order) len) (objectCheck object) (placementCheck object order) (externalCheck object order)
     (placingCheck object (addresses order) (base order) len) (relocationCheck object order (addresses order)) refl h
   where
-    by : (m q : ℕ) → 0 < m → refused m q ≡ refused n p → 0 < n
-    by m q l e = let same : m ≡ n = cc in omega arith
+    by : (m q : ℕ) → 0 < m → refused (says m q) ≡ refused answer → 0 < answer .number
+    by m q l e = let same : says m q ≡ answer = cc in omega (arith, ap (λ x. x .number) same)
 
     go : (a b : Bool) (c : ObjectCheck) (d e f : Fault) (g : RelocationCheck) → relocationCheck object order (addresses order) ≡ g
-        → cond a (cond b (afterObject c (afterFault 6 d (afterFault 7 e (afterFault 8 f (afterRelocations g (plan (planOf object order))))))) (refused 3 0)) (refused 2 0) ≡ refused n p
-        → 0 < n
+        → cond a (cond b (afterObject c (afterFault 6 d (afterFault 7 e (afterFault 8 f (afterRelocations g (plan (planOf object order))))))) (refused (says 3 0))) (refused (says 2 0)) ≡ refused answer
+        → 0 < answer .number
     go false b c d e f g q h = by 2 0 (omega arith) h
     go true false c d e f g q h = by 3 0 (omega arith) h
     go true true BadHeader d e f g q h = by 4 0 (omega arith) h
@@ -209,8 +207,8 @@ pub record Done (object order : List ℕ) (f : Files) : Type 0 where
   pub room-is : noRoom (count (f .journal)) (held (f .journal)) (spanOf (planOf object order) .size) (length (f .journal)) ≡ false
   pub after-is : install judgement object order f .after ≡ installed (planOf object order) f
 
-pub wrong-number : {A : Type 0} (n p : ℕ) → 0 < n → _≡_ {A = Answer} (record { number = n; place = p }) done → A
-wrong-number n p l e = absurd (omega (arith, ap (λ x. x .number) e))
+pub wrong-number : {A : Type 0} (a : Answer) → 0 < a .number → a ≡ done → A
+wrong-number a l e = absurd (omega (arith, ap (λ x. x .number) e))
 
 pub done-leaves : (object order : List ℕ) (f : Files) → install judgement object order f .answer ≡ done → Done object order f
 unfolding install settle
@@ -235,12 +233,12 @@ done-leaves object order f e = go (sound (f .journal) (length (f .image))) refl 
 
     go : (b : Bool) → sound (f .journal) len ≡ b → (v : Verdict) → judgement object order len ≡ v
         → cond (not b) (refuse journalUnsound f) (settle f v) .answer ≡ done → Done object order f
-    go false s v q h = wrong-number 1 0 (omega arith) h
-    go true s (refused n p) q h = wrong-number n p (refused-above object order len n p q) h
+    go false s v q h = wrong-number journalUnsound (omega arith) h
+    go true s (refused a) q h = wrong-number a (refused-above object order len a q) h
     go true s (plan ps) q h = within (room ps) refl h
       where
         within : (r : Bool) → room ps ≡ r → cond r (refuse journalFull f) (succeed (installed ps f)) .answer ≡ done → Done object order f
-        within true r h = wrong-number 15 0 (omega arith) h
+        within true r h = wrong-number journalFull (omega arith) h
         within false r h = left ps (plan-fits object order len ps q) s q r
 
 -- ---- a rollback
@@ -287,7 +285,7 @@ demand-1 =
       rollback-refused = λ f r. first-of (rollbackTable f) (ours-back f .answer) (rollback-told f) r;
       rollback-holds = λ f e. done-all (rollbackTable f) (ours-back f .answer) (rollback-above f) (rollback-told f) e;
       rollback-done = λ f h. all-done (rollbackTable f) (ours-back f .answer) (rollback-told f) h;
-      rollback-first = λ f n p b. named (rollbackTable f) (ours-back f .answer) (rollback-told f) n p b;
+      rollback-first = λ f a b. named (rollbackTable f) (ours-back f .answer) (rollback-told f) a b;
       install-kept = λ object order f r.
           refusal-keeps judgement f (Install object order)
           (not-zero (table object order f) (ours object order f .answer) (numbers-above object order f) (told object order f) r);
@@ -310,7 +308,7 @@ demand-2 =
       done-holds = rules-of;
       holds-done = λ object order f r. all-done (table object order f) (ours object order f .answer) (told object order f) (hold-rules object order f r);
       refused-first = λ object order f r. first-of (table object order f) (ours object order f .answer) (told object order f) r;
-      first-refused = λ object order f n p b. named (table object order f) (ours object order f .answer) (told object order f) n p b;
+      first-refused = λ object order f a b. named (table object order f) (ours object order f .answer) (told object order f) a b;
       laid = λ object order f e. laid-of object order f (done-leaves object order f e);
       nothing-to-place = λ object order f e z t h.
           «none-placed» object order (done-leaves object order f e .fits .fitting .placeable .named .placements) z (omega (arith, rules-of object order f e .table-well .few)) t h;

@@ -16,7 +16,7 @@ use Rattle.elf.specs.Sections.{sectionAt, countingRela}
 use Rattle.elf.specs.Entries.{bytesOf}
 use Rattle.order.specs.declared.Counts.{Counts}
 use Rattle.lookup.specs.Addresses.{addresses}
-use Rattle.journal.specs.Plans.{overwritten}
+use Rattle.plans.specs.Plans.{overwritten}
 use Rattle.placing.specs.Placing.{hasBytes}
 use Rattle.types.specs.declared.Calculation.the-variants.{HighAbsolute, LowAbsolute}
 use Rattle.types.specs.declared.Decision.{Decision}

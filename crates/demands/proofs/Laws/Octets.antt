@@ -17,9 +17,9 @@ use Rattle.elf.specs.Entries.{bytesOf}
 use Rattle.order.specs.Orders.{base}
 use Rattle.order.specs.Windows.{lengthAllowed}
 use Rattle.lookup.specs.Addresses.{addresses}
-use Rattle.journal.specs.declared.Span.{Span}
+use Rattle.plans.specs.declared.Span.{Span}
 use Rattle.journal.specs.Journals.{oldAt, blank, entryBytes, count, held, sound, noRoom}
-use Rattle.journal.specs.Plans.{Piece, piece, Verdict, refused, plan, overwritten, spanOf}
+use Rattle.plans.specs.Plans.{Piece, piece, Verdict, refused, plan, overwritten, spanOf}
 use Rattle.history.specs.Writes.{saving, saved, restoring, releasing, newest, heldBelow}
 use Rattle.history.specs.Calls.{Files, Outcome, installed, settle, install, rolledBack, rollback}
 use Rattle.history.proofs.Laws.Corollaries.{either}
@@ -162,7 +162,7 @@ unfolding install settle
 install-bytes object order f bo b = either LeavesBytes (not (sound (f .journal) (length (f .image)))) _ _ b (go (judgement object order (length (f .image))) refl)
   where
     go : (v : Verdict) → judgement object order (length (f .image)) ≡ v → OnBytes (settle f v .after)
-    go (refused n p) e = b
+    go (refused a) e = b
     go (plan ps) e =
         let same : planOf object order ≡ ps = plan-fits object order (length (f .image)) ps e .plan-is in
         either LeavesBytes (noRoom (count (f .journal)) (held (f .journal)) (spanOf ps .size) (length (f .journal))) _ _ b

@@ -7,10 +7,11 @@ use native.Mathlib.Omega.{arith}
 use native.Mathlib.Decide.{decLt}
 use lib.ListN.{length, getD}
 use lib.Seq.{ext-getD}
-use Rattle.journal.specs.declared.Span.{Span}
+use Rattle.plans.specs.declared.Span.{Span}
 use Rattle.journal.specs.Journals.{maxEntries, oldAt, count, held, entry, Sound}
 use Rattle.history.specs.Writes.{newest, heldBelow}
-use Rattle.history.specs.Calls.{done, Files, Outcome, InstallCall, RollbackCall}
+use Rattle.plans.specs.Answers.{Answer, done}
+use Rattle.history.specs.Calls.{Files, Outcome, InstallCall, RollbackCall}
 use Rattle.history.specs.Records.{Appended, Released}
 use Rattle.history.proofs.Laws.Rollback.{undoable}
 use Rattle.demands.specs.First.{AllHold, FirstBroken, table}
@@ -107,18 +108,18 @@ module _ (i k : InstallCall) (r s : RollbackCall) (m : Meets i r) (w : Meets k s
         (m .demand-2 .laid object order f di) (w .demand-2 .laid object order f dk) (bi .0) (bk .0))
         (appended-same f (i object order f .after) (k object order f .after) (si .0) (si .2) (subst (Appended f (k object order f .after)) one (sk .2)) long bi bk)
 
-    refused-same : (n p : ℕ) → FirstBroken (table object order f) n p → i object order f ≡ k object order f
-    refused-same n p broken =
-        let ai = m .demand-2 .first-refused object order f n p broken in
-        let ak = w .demand-2 .first-refused object order f n p broken in
-        let some : 0 < n = above (table object order f) n p (numbers-above object order f) broken in
-        let ki = m .demand-1 .install-kept object order f (λ e. wrong-number n p some (sym ai ∙ e)) in
-        let kk = w .demand-1 .install-kept object order f (λ e. wrong-number n p some (sym ak ∙ e)) in
+    refused-same : (a : Answer) → FirstBroken (table object order f) a → i object order f ≡ k object order f
+    refused-same a broken =
+        let ai = m .demand-2 .first-refused object order f a broken in
+        let ak = w .demand-2 .first-refused object order f a broken in
+        let some : 0 < a .number = above (table object order f) a (numbers-above object order f) broken in
+        let ki = m .demand-1 .install-kept object order f (λ e. wrong-number a some (sym ai ∙ e)) in
+        let kk = w .demand-1 .install-kept object order f (λ e. wrong-number a some (sym ak ∙ e)) in
         same-outcome (i object order f) (k object order f) (ai ∙ sym ak) (ap (λ g. g .image) (ki ∙ sym kk)) (ap (λ g. g .journal) (ki ∙ sym kk))
 
     -- "No public call is left unstated": two fitters that meet the demands give the same answer and leave the same bytes
     pub one-install : i object order f ≡ k object order f
-    one-install = ⊎-elim (λ t. done-same (t .1)) (λ b. refused-same _ _ b) (told object order f)
+    one-install = ⊎-elim (λ t. done-same (t .1)) (λ b. refused-same _ b) (told object order f)
 
   -- a rollback
   module _ (f : Files) (bytes : OnBytes f) where
@@ -137,14 +138,14 @@ module _ (i k : InstallCall) (r s : RollbackCall) (m : Meets i r) (w : Meets k s
         let bs = w .rollback-bytes f bytes in
         same-outcome (r f) (s f) (dr ∙ sym ds) (released-image f (r f .after) (s f .after) a b long within br bs) (released-journal f (r f .after) (s f .after) a b long within br bs)
 
-    kept-same : (n p : ℕ) → FirstBroken (rollbackTable f) n p → r f ≡ s f
-    kept-same n p broken =
-        let ar = m .demand-1 .rollback-first f n p broken in
-        let az = w .demand-1 .rollback-first f n p broken in
-        let some : 0 < n = above (rollbackTable f) n p (rollback-above f) broken in
-        let kr = m .demand-1 .rollback-kept f (λ e. wrong-number n p some (sym ar ∙ e)) in
-        let ks = w .demand-1 .rollback-kept f (λ e. wrong-number n p some (sym az ∙ e)) in
+    kept-same : (a : Answer) → FirstBroken (rollbackTable f) a → r f ≡ s f
+    kept-same a broken =
+        let ar = m .demand-1 .rollback-first f a broken in
+        let az = w .demand-1 .rollback-first f a broken in
+        let some : 0 < a .number = above (rollbackTable f) a (rollback-above f) broken in
+        let kr = m .demand-1 .rollback-kept f (λ e. wrong-number a some (sym ar ∙ e)) in
+        let ks = w .demand-1 .rollback-kept f (λ e. wrong-number a some (sym az ∙ e)) in
         same-outcome (r f) (s f) (ar ∙ sym az) (ap (λ g. g .image) (kr ∙ sym ks)) (ap (λ g. g .journal) (kr ∙ sym ks))
 
     pub one-rollback : r f ≡ s f
-    one-rollback = ⊎-elim (λ t. back-same (t .1)) (λ b. kept-same _ _ b) (rollback-told f)
+    one-rollback = ⊎-elim (λ t. back-same (t .1)) (λ b. kept-same _ b) (rollback-told f)

@@ -19,7 +19,7 @@ use Rattle.order.specs.Windows.{lengthAllowed, windowAllowed}
 use Rattle.lookup.specs.Addresses.{placedAt}
 use Rattle.order.proofs.Laws.Sound.{wellFormed-sound, sound-wellFormed}
 use Rattle.journal.specs.Journals.{count, held, noRoom}
-use Rattle.journal.specs.Plans.{spanOf}
+use Rattle.plans.specs.Plans.{spanOf}
 use Rattle.place.specs.declared.Fault.the-variants.{Nowhere, At}
 use Rattle.place.specs.Placements.{lowest, isAllocated, differs}
 use Rattle.place.specs.Externals.{isUndefined}

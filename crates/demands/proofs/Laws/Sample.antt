@@ -22,7 +22,7 @@ use Rattle.lookup.specs.Values.{valueIn, externalValue}
 use Rattle.order.specs.Windows.{lengthAllowed, windowAllowed}
 use Rattle.lookup.specs.Addresses.{placedAt, addresses}
 use Rattle.journal.specs.Journals.{entry, entries, total, isBlank, endsWithin, sound, Sound, noRoom}
-use Rattle.journal.specs.Plans.{end, lowest, spanOf}
+use Rattle.plans.specs.Plans.{end, lowest, spanOf}
 use Rattle.history.specs.Calls.{Files}
 use Rattle.journal.proofs.Laws.Sound.{test-sound}
 use Rattle.place.specs.Placements.{isAllocated}

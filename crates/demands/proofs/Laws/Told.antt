@@ -25,8 +25,9 @@ use Rattle.lookup.specs.Values.{isGiven, externalValue}
 use Rattle.order.specs.Windows.{windowAllowed}
 use Rattle.lookup.specs.Addresses.{addresses}
 use Rattle.journal.specs.Journals.{count, held, Sound, sound, noRoom}
-use Rattle.journal.specs.Plans.{Verdict, refused, plan, spanOf}
-use Rattle.history.specs.Calls.{Answer, journalUnsound, journalFull, Files, refuse, succeed, installed, settle, install}
+use Rattle.plans.specs.Plans.{Verdict, refused, plan, spanOf}
+use Rattle.plans.specs.Answers.{Answer, says}
+use Rattle.history.specs.Calls.{journalUnsound, journalFull, Files, refuse, succeed, installed, settle, install}
 use Rattle.journal.proofs.Laws.Sound.{test-sound, sound-test}
 use Rattle.place.specs.declared.Fault.{Fault}
 use Rattle.place.specs.declared.Fault.the-variants.{Nowhere, At}
@@ -67,12 +68,12 @@ module _ (object order : List ℕ) where
   -- what a finding says of relocation k
   abbrev Means : ℕ → Finding → Type 0
   Means k Kept = HoldAt line k
-  Means k BadShape = BrokenAt line 9 k
-  Means k BadSymbol = BrokenAt line 10 k
-  Means k BadForm = BrokenAt line 11 k
-  Means k NoPair = BrokenAt line 12 k
-  Means k OutOfReach = BrokenAt line 13 k
-  Means k OffBoundary = BrokenAt line 14 k
+  Means k BadShape = BrokenAt line (says 9 k)
+  Means k BadSymbol = BrokenAt line (says 10 k)
+  Means k BadForm = BrokenAt line (says 11 k)
+  Means k NoPair = BrokenAt line (says 12 k)
+  Means k OutOfReach = BrokenAt line (says 13 k)
+  Means k OffBoundary = BrokenAt line (says 14 k)
 
   means : (k : ℕ) → Means k (findingOf object order (addresses order) k)
   unfolding findingOf finding
@@ -120,7 +121,7 @@ module _ (object order : List ℕ) where
   kept-holds k OutOfReach e m = never (sym e)
   kept-holds k OffBoundary e m = never (sym e)
 
-  broken-breaks : (k : ℕ) (f : Finding) → isBroken f ≡ true → Means k f → BrokenAt line (number f) k
+  broken-breaks : (k : ℕ) (f : Finding) → isBroken f ≡ true → Means k f → BrokenAt line (says (number f) k)
   broken-breaks k Kept e m = never e
   broken-breaks k BadShape e m = m
   broken-breaks k BadSymbol e m = m
@@ -137,7 +138,7 @@ module _ (object order : List ℕ) where
   kept-at : (k : ℕ) → broken k ≡ false → HoldAt line k
   kept-at k e = kept-holds k (findingOf object order (addresses order) k) e (means k)
 
-  broken-here : (k : ℕ) → broken k ≡ true → BrokenAt line (number (findingOf object order (addresses order) k)) k
+  broken-here : (k : ℕ) → broken k ≡ true → BrokenAt line (says (number (findingOf object order (addresses order) k)) k)
   broken-here k e = broken-breaks k (findingOf object order (addresses order) k) e (means k)
 
   relocations : (f : Files) (tail : Checks) (next : Verdict) → Told tail (settle f next .answer)
@@ -159,7 +160,7 @@ module _ (object order : List ℕ) where
 
 module _ (f : Files) (tail : Checks) (next : Verdict) (t : Told tail (settle f next .answer)) where
   -- with place 0 alone
-  alone : (n : ℕ) (R : Type 0) (b : Bool) → (b ≡ true → R) → (b ≡ false → R → ⊥) → Told (one n R tail) (settle f (cond b next (refused n 0)) .answer)
+  alone : (n : ℕ) (R : Type 0) (b : Bool) → (b ≡ true → R) → (b ≡ false → R → ⊥) → Told (one n R tail) (settle f (cond b next (refused (says n 0))) .answer)
   unfolding settle
   alone n R true holds breaks = later 1 (rule n (λ _. R) nil) tail (settle f next .answer) (at-once n (holds refl)) t
   alone n R false holds breaks = broken-once n tail (breaks refl)
@@ -220,13 +221,13 @@ module _ (object : List ℕ) where
         go false e₁ b e₂ c e₃ = by BadHeader (rw e₁) (broken-once 4 sectionTable (λ h. clash (headerAllowed object) e₁ (well-header object h)))
         go true e₁ false e₂ c e₃ =
             by (BadSection 0) (rw (e₁, check-table-broken object e₂))
-            (past-header (record { number = 5; place = 0 }) e₁ (broken-once 5 sections (λ h. clash (tableAllowed object) e₂ (well-table object h))))
+            (past-header (says 5 0) e₁ (broken-once 5 sections (λ h. clash (tableAllowed object) e₂ (well-table object h))))
         go true e₁ true e₂ true e₃ =
             let there : k < n = ltb-true k n e₃ in
             let here : wrong k ≡ true = first-at wrong n there in
             by (BadSection k) (rw (e₁, check-broken object k e₂ there (first-below wrong n) (not-true (sectionWell object k) here)))
-            (past-header (record { number = 5; place = k }) e₁
-            (past-table (record { number = 5; place = k }) e₂ (broken-at n 5 k tail there (λ j l. fine j (first-below wrong n j l)) (not-fine k here))))
+            (past-header (says 5 k) e₁
+            (past-table (says 5 k) e₂ (broken-at n 5 k tail there (λ j l. fine j (first-below wrong n j l)) (not-fine k here))))
         go true e₁ true e₂ false e₃ =
             let all : (j : ℕ) → j < n → wrong j ≡ false = λ j l. first-below wrong n j (omega (arith, ltb-false k n e₃)) in
             by Passed (rw (e₁, check-sound object e₂ all))
@@ -278,7 +279,7 @@ module _ (object order : List ℕ) (f : Files) where
   checks3 = one 3 (WindowWell (base order) len) checks4
 
   abbrev verdict3 : Verdict
-  verdict3 = cond (windowAllowed (base order) len) verdict4 (refused 3 0)
+  verdict3 = cond (windowAllowed (base order) len) verdict4 (refused (says 3 0))
 
   told15 : Told checks15 (settle f (plan (planOf object order)) .answer)
   unfolding settle

@@ -23,8 +23,9 @@ use Rattle.order.specs.Windows.{lengthAllowed, windowAllowed}
 use Rattle.lookup.specs.Addresses.{placedAt, addresses}
 use Rattle.journal.specs.Journals.{oldAt, count, entry, entries, total, isBlank, endsWithin, sound, Sound}
 use Rattle.journal.proofs.Laws.Sound.{test-sound}
-use Rattle.journal.specs.Plans.{overwritten}
-use Rattle.history.specs.Calls.{Answer, done, Files, succeed, Install, Rollback, InstallCall, RollbackCall, calling, run}
+use Rattle.plans.specs.Plans.{overwritten}
+use Rattle.plans.specs.Answers.{Answer, says, done}
+use Rattle.history.specs.Calls.{Files, succeed, Install, Rollback, InstallCall, RollbackCall, calling, run}
 use Rattle.history.specs.Records.{Released}
 use Rattle.history.specs.Histories.{Standing, begin, spans, laid, stand, fall, told, Start}
 use Rattle.place.specs.Placements.{isAllocated}
@@ -90,7 +91,7 @@ unfoldable pub bare : List ℕ
 bare = words (1 ∷ 0x20000000 ∷ 0 ∷ 0 ∷ [])
 
 -- section 1 has no address: check 6 at place 1, and never an address of 0
-missing : FirstBroken (table-of object bare files) 6 1
+missing : FirstBroken (table-of object bare files) (says 6 1)
 unfolding table-of object bare files words bytes leAt le wellFormed ascending everywhere windowAllowed lengthAllowed sectionAt allocated isAllocated placedAt valueIn entryAt first
 missing =
     inr (
@@ -115,8 +116,8 @@ missing =
     first-match (suc i) h = absurd (omega arith)
 
 -- one that takes a missing address as zero, or gives no place: "otherwise the first broken rule is named"
-pub names-the-section : (installs : InstallCall) → Demand2 installs → installs object bare files .answer ≡ record { number = 6; place = 1 }
-names-the-section installs d = d .first-refused object bare files 6 1 missing
+pub names-the-section : (installs : InstallCall) → Demand2 installs → installs object bare files .answer ≡ says 6 1
+names-the-section installs d = d .first-refused object bare files (says 6 1) missing
 
 -- one that gives the number alone: the same sentence
 pub gives-no-place : (installs : InstallCall) → Demand2 installs → ((o r : List ℕ) (f : Files) → installs o r f .answer .place ≡ 0) → ⊥

@@ -8,7 +8,7 @@ use Rattle.order.specs.Orders.{base}
 use Rattle.lookup.specs.Addresses.{addresses}
 use Rattle.order.proofs.Laws.Sound.{reading-sound}
 use Rattle.elf.specs.Headers.{sectionCount}
-use Rattle.journal.specs.Plans.{spanOf as spanOfPieces}
+use Rattle.plans.specs.Plans.{spanOf as spanOfPieces}
 use Rattle.journal.specs.Journals.{count, held, noRoom}
 use Rattle.history.specs.Writes.{saved}
 use Rattle.history.specs.Calls.{Files}

@@ -29,7 +29,7 @@ returns-2 c =
     let o = a .order .now in
     let files : Files = record { image = a .image .now; journal = a .journal .now } in
     let ok : sound (a .journal .now) (length (a .image .now)) ≡ true = sym (c .before .before .before .before .is-sound .ensures) ∙ not-false _ (c .before .before .before .if1 .left) in
-    refused-by judgement s o files ok _ _ (sym (c .before .before .judge .ensures) ∙ verdict-refused s o (c .before .before .judge .result) (sym (c .before .is-done .ensures) ∙ not-true _ (c .if2 .taken)))
+    refused-by judgement s o files ok _ (sym (c .before .before .judge .ensures) ∙ verdict-refused s o (c .before .before .judge .result) (sym (c .before .is-done .ensures) ∙ not-true _ (c .if2 .taken)))
 
 fit-requires : tie.Need-fit-requires
 fit-requires c κs =

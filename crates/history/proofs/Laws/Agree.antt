@@ -11,13 +11,13 @@ use borrow.Author.Tests.{le-leb}
 use Rattle.word.specs.Bytes.{part}
 use Rattle.word.proofs.Laws.Lists.{length-part}
 use Rattle.order.specs.Windows.{lengthAllowed}
-use Rattle.journal.specs.Plans.{Piece, Verdict, refused, plan, Judge, LaysInside, Inside, spanOf}
+use Rattle.plans.specs.Plans.{Piece, Verdict, refused, plan, Judge, LaysInside, Inside, spanOf}
 use Rattle.journal.specs.Journals.{oldAt, count, entries, held, blank, total, Sound, sound, noRoom}
 use Rattle.history.specs.Calls.{journalFull, Files, Outcome, refuse, succeed, installed, settle, install, rolledBack, rollback, Call, Install, Rollback, calling, call}
 use Rattle.history.specs.Histories.{Standing, History, spans, laid, olds, stand, fall, told, AsTold}
 use Rattle.journal.proofs.Laws.Sound.{total-append, sound-test}
 use Rattle.history.proofs.Laws.Install.{room-left}
-use Rattle.journal.proofs.Laws.Span.{length-overwritten, span-inside, undone}
+use Rattle.plans.proofs.Laws.Span.{length-overwritten, span-inside, undone}
 use Rattle.history.proofs.Laws.Stack.{AllIn, all-in-append, journalOf, length-journal, count-journal, held-journal, entries-journal, sound-journal}
 use Rattle.history.proofs.Laws.Moves.{old-bytes, pushed, popped}
 
@@ -198,7 +198,7 @@ module _ (judge : Judge) (lays : LaysInside judge) (base : List ℕ) (room : ℕ
       settled : (v : Verdict) → judge object order (length base) ≡ v
           → Agreed judge (stand (over xs) object order v) (settle (filesOf base xs free rest) v)
       unfolding settle stand
-      settled (refused n p) e = (refl, here)
+      settled (refused a) e = (refl, here)
       settled (plan ps) e =
           rw (count-files, held-files, length-files) (roomed ps e (noRoom (length xs) (total (spans xs)) (spanOf ps .size) room) refl)
 

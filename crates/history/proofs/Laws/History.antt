@@ -7,9 +7,10 @@ use mathlib.Core.Bool.{Bool, true, false, cond}
 use mathlib.Core.List.{List, [], _∷_, _++_}
 use lib.ListN.{length, drop, length-drop, replicate, replicate-append-replicate}
 use Rattle.word.specs.Bytes.{part}
-use Rattle.journal.specs.Plans.{Verdict, refused, plan, Judge, LaysInside, spanOf}
+use Rattle.plans.specs.Plans.{Verdict, refused, plan, Judge, LaysInside, spanOf}
 use Rattle.journal.specs.Journals.{oldAt, total, noRoom}
-use Rattle.history.specs.Calls.{Answer, done, journalFull, noneStands, Files, Outcome, refuse, succeed, Call, Install, Rollback, calling, call, answers, run}
+use Rattle.plans.specs.Answers.{Answer, done}
+use Rattle.history.specs.Calls.{journalFull, noneStands, Files, Outcome, refuse, succeed, Call, Install, Rollback, calling, call, answers, run}
 use Rattle.history.specs.Histories.{Standing, History, begin, countOf, heldOf, spans, laid, olds, stand, fall, told, Start, filesAfter, historyOf, Alike, alone, standingAlone, Holds}
 use Rattle.history.proofs.Laws.Stack.{empty}
 use Rattle.history.proofs.Laws.Agree.{Stands, Agrees, agrees, agrees-told}
@@ -93,7 +94,7 @@ Over h h′ = (h′ .start ≡ h .start) × (h′ .room ≡ h .room)
 module _ (judge : Judge) where
   stand-over : (h : History) (object order : List ℕ) (v : Verdict) → Over h (stand h object order v .after)
   unfolding stand
-  stand-over h object order (refused n p) = (refl, refl)
+  stand-over h object order (refused a) = (refl, refl)
   stand-over h object order (plan ps) = go (noRoom (countOf h) (heldOf h) (spanOf ps .size) (h .room))
     where
       go : (b : Bool)

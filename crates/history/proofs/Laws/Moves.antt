@@ -7,8 +7,8 @@ use lib.ListN.{length, length-append, replicate, length-replicate}
 use lib.Seq.{sets, take-at, drop-at}
 use Rattle.word.specs.Bytes.{part}
 use Rattle.word.proofs.Laws.Lists.{length-part}
-use Rattle.journal.specs.declared.Span.{Span}
-use Rattle.journal.specs.Plans.{Piece, overwritten, spanOf}
+use Rattle.plans.specs.declared.Span.{Span}
+use Rattle.plans.specs.Plans.{Piece, overwritten, spanOf}
 use Rattle.journal.specs.Journals.{oldAt, count, held, entry, total}
 use Rattle.history.specs.Writes.{saving, saved, restoring, releasing}
 use Rattle.history.specs.Calls.{installed, rolledBack}

@@ -10,10 +10,10 @@ use lib.Seq.{sets, length-sets}
 use Rattle.word.specs.Bytes.{bytes, part}
 use Rattle.word.proofs.Laws.Bytes.{length-bytes}
 use Rattle.word.proofs.Laws.Lists.{length-part, part-stored, getD-sets-other}
-use Rattle.journal.specs.declared.Span.{Span}
-use Rattle.journal.specs.Plans.{Piece, piece, overwritten, spanOf}
+use Rattle.plans.specs.declared.Span.{Span}
+use Rattle.plans.specs.Plans.{Piece, piece, overwritten, spanOf}
 use Rattle.journal.specs.Journals.{maxEntries, countAt, entryAt, heldAt, oldAt, count, held, entry, blank, entryBytes}
-use Rattle.journal.proofs.Laws.Span.{length-overwritten}
+use Rattle.plans.proofs.Laws.Span.{length-overwritten}
 use Rattle.journal.proofs.Laws.Format.{length-entry}
 use Rattle.journal.proofs.Laws.Pieces.{part-clear, number-stored, entry-stored, entry-clear}
 use Rattle.history.specs.Writes.{newest, heldBelow, saving, saved, restoring, releasing}

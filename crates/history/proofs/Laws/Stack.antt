@@ -10,8 +10,8 @@ use Rattle.word.specs.Bytes.{leAt, bytes}
 use Rattle.word.specs.First.{tabulate}
 use Rattle.word.proofs.Laws.Bytes.{le-zero}
 use Rattle.word.proofs.Laws.First.{tabulate-same}
-use Rattle.journal.specs.declared.Span.{Span}
-use Rattle.journal.specs.Plans.{piece, overwritten}
+use Rattle.plans.specs.declared.Span.{Span}
+use Rattle.plans.specs.Plans.{piece, overwritten}
 use Rattle.journal.specs.Journals.{countAt, entryAt, heldAt, oldAt, count, held, entry, entries, blank, entryBytes, total, Sound}
 use Rattle.journal.proofs.Laws.Sound.{total-append, entries-at}
 use Rattle.journal.proofs.Laws.Format.{table, spelt, Small, entryFrom, entryFrom-drop, entryFrom-shift, length-spelt, count-spelt, held-spelt, entries-spelt, spelt-saving, spelt-releasing}

@@ -10,8 +10,8 @@ use Rattle.word.specs.First.{tabulate}
 use Rattle.word.proofs.Laws.Lists.{splice}
 use Rattle.word.proofs.Laws.Bytes.{length-bytes, leAt-bytes, leAt-drop}
 use Rattle.word.proofs.Laws.First.{tabulate-same}
-use Rattle.journal.specs.declared.Span.{Span}
-use Rattle.journal.specs.Plans.{piece, overwritten}
+use Rattle.plans.specs.declared.Span.{Span}
+use Rattle.plans.specs.Plans.{piece, overwritten}
 use Rattle.journal.specs.Journals.{countAt, entryAt, heldAt, oldAt, count, held, entry, entries, entryBytes}
 
 -- ---- the entries as bytes

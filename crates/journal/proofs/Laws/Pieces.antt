@@ -10,8 +10,8 @@ use lib.Seq.{sets, length-sets}
 use Rattle.word.specs.Bytes.{leAt, bytes, part}
 use Rattle.word.proofs.Laws.Bytes.{length-bytes, leAt-sets, leAt-sets-other}
 use Rattle.word.proofs.Laws.Lists.{sets-append, part-other}
-use Rattle.journal.specs.declared.Span.{Span}
-use Rattle.journal.specs.Plans.{Piece, piece, Inside, overwritten}
+use Rattle.plans.specs.declared.Span.{Span}
+use Rattle.plans.specs.Plans.{Piece, piece, Inside, overwritten}
 use Rattle.journal.specs.Journals.{entryAt, entry, entryBytes}
 
 -- ---- places that no piece touches

@@ -10,7 +10,7 @@ use borrow.Author.Tests.{le-leb, leb-true, le-ltb, ltb-false, eqb-true, eq-eqb}
 use Rattle.word.specs.First.{everywhere, tabulate}
 use Rattle.word.proofs.Laws.Tests.{and-left, and-right, and-true, or-right}
 use Rattle.word.proofs.Laws.First.{everywhere-at, everywhere-is, tabulate-snoc, length-tabulate, getD-tabulate}
-use Rattle.journal.specs.declared.Span.{Span}
+use Rattle.plans.specs.declared.Span.{Span}
 use Rattle.journal.specs.Journals.{maxEntries, count, entry, entries, held, blank, total, Sound, isBlank, endsWithin, sound}
 
 -- ---- sums of lengths

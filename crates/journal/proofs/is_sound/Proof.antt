@@ -9,7 +9,7 @@ use borrow.Author.Count.{below-more}
 use borrow.Author.Tests.{not-false}
 use Rattle.word.specs.First.{tabulate}
 use Rattle.word.proofs.Laws.Tests.{not-both}
-use Rattle.journal.specs.declared.Span.{Span}
+use Rattle.plans.specs.declared.Span.{Span}
 use Rattle.journal.specs.Journals.{entry, entries, total}
 use Rattle.journal.proofs.Laws.Sound.{allowed, allowed-is, unsound-test, sound-entry, sound-by-held, total-snoc}
 use borrow.Author.Needs.{needs}

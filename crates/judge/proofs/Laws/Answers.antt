@@ -4,14 +4,14 @@ use mathlib.Core.Bool.{true, false, cond}
 use mathlib.Core.List.{List}
 use Prim.Native.Nat.{ℕ, _/_, _%_, _<_}
 use native.Mathlib.Omega.{arith}
-use Rattle.history.specs.Calls.{Answer as Numbered}
+use Rattle.plans.specs.Answers.{says, Answer as Numbered, packed}
 use lib.Dec.{eqb}
-use Rattle.journal.specs.Plans.{refused, plan}
+use Rattle.plans.specs.Plans.{refused, plan}
 use Rattle.rules.specs.declared.Finding.{Finding}
 use Rattle.rules.specs.Search.{number, isBroken}
 use Rattle.judgement.specs.Judgement.{planOf}
 use Rattle.judgement.proofs.Laws.Judgement.{some-number}
-use Rattle.judge.specs.Answers.{answerOf, verdictOf, packed}
+use Rattle.judge.specs.Answers.{answerOf, verdictOf}
 use Rattle.judge.specs.declared.Answer.{Answer}
 use Rattle.judge.specs.declared.Answer.the-variants.{Done, JournalUnsound, OrderMalformed, WindowBroken, BadHeader, BadSection, PlacementsDiffer, WrongExternal, Misplaced, RelocationShape, SymbolUnresolved, WrongInstruction, NotOnePair, OutOfReach, PaddingOffBoundary, JournalFull, NothingStands}
 
@@ -49,12 +49,12 @@ unpacked a code e = λ i. record {
 -- ---- the verdict that an answer stands for
 
 -- the answer for a relocation stands for its refusal
-pub verdict-broken : (object order : List ℕ) (r : Answer) (f : Finding) (k : ℕ) → isBroken f ≡ true → answerOf r ≡ record { number = number f; place = k }
-    → verdictOf object order r ≡ refused (number f) k
+pub verdict-broken : (object order : List ℕ) (r : Answer) (f : Finding) (k : ℕ) → isBroken f ≡ true → answerOf r ≡ says (number f) k
+    → verdictOf object order r ≡ refused (says (number f) k)
 verdict-broken object order r f k b e =
-    ap (λ a. cond (eqb (a .number) 0) (plan (planOf object order)) (refused (a .number) (a .place))) e ∙ rw (some-number f b)
+    ap (λ a. cond (eqb (a .number) 0) (plan (planOf object order)) (refused a)) e ∙ rw (some-number f b)
 
-pub verdict-refused : (object order : List ℕ) (r : Answer) → eqb (answerOf r .number) 0 ≡ false → verdictOf object order r ≡ refused (answerOf r .number) (answerOf r .place)
+pub verdict-refused : (object order : List ℕ) (r : Answer) → eqb (answerOf r .number) 0 ≡ false → verdictOf object order r ≡ refused (answerOf r)
 verdict-refused object order r e = rw e
 
 pub verdict-done : (object order : List ℕ) (r : Answer) → eqb (answerOf r .number) 0 ≡ true → verdictOf object order r ≡ plan (planOf object order)

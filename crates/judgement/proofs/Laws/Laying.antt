@@ -22,7 +22,7 @@ use Rattle.elf.specs.Entries.{bytesOf}
 use Rattle.validate.specs.Facts.{SoundObject}
 use Rattle.validate.proofs.Laws.Bounds.{loaded-inside}
 use Rattle.validate.proofs.Laws.Objects.{sound-object}
-use Rattle.journal.specs.Plans.{Piece, piece, Inside, LaysInside, overwritten, spanOf as spanOfPieces}
+use Rattle.plans.specs.Plans.{Piece, piece, Inside, LaysInside, overwritten, spanOf as spanOfPieces}
 use Rattle.placing.specs.Placing.{hasBytes}
 use Rattle.placing.proofs.Laws.Theorems.{inside-image}
 use Rattle.spans.specs.Spans.{highest, spanOf}

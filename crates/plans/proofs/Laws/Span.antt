@@ -11,8 +11,8 @@ use lib.ListN.{length, take, drop, take-append-drop}
 use lib.Seq.{sets, sets-eq, length-sets, take-add}
 use Rattle.word.specs.Bytes.{part}
 use Rattle.word.proofs.Laws.Lists.{take-sets, drop-sets, length-part}
-use Rattle.journal.specs.declared.Span.{Span}
-use Rattle.journal.specs.Plans.{Piece, piece, Inside, overwritten, end, lowest, spanOf}
+use Rattle.plans.specs.declared.Span.{Span}
+use Rattle.plans.specs.Plans.{Piece, piece, Inside, overwritten, end, lowest, spanOf}
 
 -- laying keeps the image's length
 pub length-overwritten : (image : List ℕ) (ps : List Piece) → length (overwritten image ps) ≡ length image

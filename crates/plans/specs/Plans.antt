@@ -5,7 +5,8 @@ use Prim.Native.Nat.{ℕ, _+_, _-_, _≤_, min, max}
 use mathlib.Core.List.{List, [], _∷_}
 use lib.ListN.{length}
 use lib.Seq.{sets}
-use Rattle.journal.specs.declared.Span.{Span}
+use Rattle.plans.specs.declared.Span.{Span}
+use Rattle.plans.specs.Answers.{Answer}
 
 -- ---- the judgement
 
@@ -13,10 +14,10 @@ use Rattle.journal.specs.declared.Span.{Span}
 pub data Piece : Type 0 where
   piece : ℕ → List ℕ → Piece
 
--- a refusal, with document 01's number and place, or a plan: the pieces to lay (document 01: the laid bytes, "each at its address less
+-- a refusal, or a plan: the pieces to lay (document 01: the laid bytes, "each at its address less
 -- that order's base")
 pub data Verdict : Type 0 where
-  refused : ℕ → ℕ → Verdict
+  refused : Answer → Verdict
   plan : List Piece → Verdict
 
 -- checks 2 to 14: "judged in their order from object, order and image length"
