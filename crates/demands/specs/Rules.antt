@@ -28,7 +28,7 @@ use Rattle.order.specs.Windows.{maxImage}
 use Rattle.lookup.specs.Values.{isGiven, externalValue}
 use Rattle.lookup.specs.Addresses.{addresses, placedAt}
 use Rattle.journal.specs.Journals.{maxEntries, oldAt, count as countOf, held, Sound}
-use Rattle.plans.specs.Plans.{spanOf}
+use Rattle.plans.specs.declared.Span.{Span}
 use Rattle.history.specs.Calls.{Files}
 use Rattle.place.specs.Placements.{isAllocated}
 use Rattle.placing.specs.Placing.{endOf, unit, hasBytes}
@@ -41,7 +41,7 @@ use Rattle.rela.specs.Shape.{end, previous}
 use Rattle.values.specs.Values.{valueAt, S, T}
 use Rattle.values.specs.Pairs.{isPair, howMany}
 use Rattle.rules.specs.Rules.{isResolved, symbol, isData}
-use Rattle.judgement.specs.Judgement.{planOf}
+use Rattle.demands.specs.Laid.{IsSpan}
 
 -- ---- 1 "ledger unsound": `Sound` of the journal
 
@@ -248,7 +248,7 @@ module _ (object order : List ℕ) where
 
 pub record Room (object order journal : List ℕ) : Type 0 where
   pub entry-free : countOf journal ≡ maxEntries → ⊥
-  pub bytes-free : oldAt + held journal + spanOf (planOf object order) .size ≤ length journal
+  pub bytes-free : (s : Span) → IsSpan object order s → oldAt + held journal + s .size ≤ length journal
 
 -- ---- all of them
 

@@ -1,7 +1,7 @@
 -- There is one first broken rule at most, and none where every rule holds. Assumes nothing.
 use mathlib.Core.Logic.{_⊎_, inl, inr}
 use mathlib.Core.Path.{_≡_, refl, sym, ap, _∙_, subst}
-use Prim.Native.Nat.{ℕ, _<_}
+use Prim.Native.Nat.{ℕ, _≤_, _<_}
 use native.Mathlib.Omega.{arith}
 use native.Mathlib.Decide.{decLt}
 use Rattle.plans.specs.Answers.{Answer, says, done}
@@ -43,25 +43,36 @@ one-first (check m l c) a b (inl p) (inr q) = absurd (not-broken-at l a (q .0 (a
 one-first (check m l c) a b (inr p) (inl q) = absurd (not-broken-at l b (p .0 (b .place) (q .0)) (q .2))
 one-first (check m l c) a b (inr p) (inr q) = one-first c a b (p .1) (q .1)
 
--- ---- numbers above 0
+-- ---- what holds of the number of every rule holds of the one that is named
 
-abbrev Above : Line → Type 0
-Above nil = Unit {0}
-Above (rule n R l) = (0 < n) × Above l
+abbrev NumbersAt : (ℕ → Type 0) → Line → Type 0
+NumbersAt N nil = Unit {0}
+NumbersAt N (rule n R l) = N n × NumbersAt N l
 
-abbrev pub AllAbove : Checks → Type 0
-AllAbove none = Unit {0}
-AllAbove (check m l c) = Above l × AllAbove c
+abbrev pub Numbers : (ℕ → Type 0) → Checks → Type 0
+Numbers N none = Unit {0}
+Numbers N (check m l c) = NumbersAt N l × Numbers N c
 
-above-at : (l : Line) (a : Answer) → Above l → BrokenAt l a → 0 < a .number
-above-at nil a h b = absurd b
-above-at (rule n R l) a h (inl b) = omega (arith, h .0, ap (λ x. x .number) (b .0))
-above-at (rule n R l) a h (inr b) = above-at l a (h .1) (b .1)
+named-at : (N : ℕ → Type 0) (l : Line) (a : Answer) → NumbersAt N l → BrokenAt l a → N (a .number)
+named-at N nil a h b = absurd b
+named-at N (rule n R l) a h (inl b) = subst N (sym (ap (λ x. x .number) (b .0))) (h .0)
+named-at N (rule n R l) a h (inr b) = named-at N l a (h .1) (b .1)
 
-pub above : (c : Checks) (a : Answer) → AllAbove c → FirstBroken c a → 0 < a .number
-above none a h b = absurd b
-above (check m l c) a h (inl b) = above-at l a (h .0) (b .2)
-above (check m l c) a h (inr b) = above c a (h .1) (b .1)
+pub named-number : (N : ℕ → Type 0) (c : Checks) (a : Answer) → Numbers N c → FirstBroken c a → N (a .number)
+named-number N none a h b = absurd b
+named-number N (check m l c) a h (inl b) = named-at N l a (h .0) (b .2)
+named-number N (check m l c) a h (inr b) = named-number N c a (h .1) (b .1)
+
+-- ---- and its place is below a bound of the places of every check; a check's bound may count on those before it
+
+abbrev pub PlacesBelow : ℕ → Checks → Type 0
+PlacesBelow top none = Unit {0}
+PlacesBelow top (check m l c) = (m ≤ top) × (HoldBelow l m → PlacesBelow top c)
+
+pub named-place : (top : ℕ) (c : Checks) (a : Answer) → PlacesBelow top c → FirstBroken c a → a .place < top
+named-place top none a h b = absurd b
+named-place top (check m l c) a h (inl b) = omega (arith, h .0, b .0)
+named-place top (check m l c) a h (inr b) = named-place top c a (h .1 (b .0)) (b .1)
 
 -- ---- what an answer says of checks
 

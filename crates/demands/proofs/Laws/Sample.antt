@@ -1,8 +1,9 @@
 -- A small install that keeps every rule of document 01, so that the demands are not empty. Assumes nothing.
 use mathlib.Core.Path.{_≡_, refl, sym, subst}
 use mathlib.Core.List.{List, [], _∷_, _++_}
-use Prim.Native.Nat.{ℕ, zero, suc, _+_, _-_, _<_}
+use Prim.Native.Nat.{ℕ, zero, suc, _+_, _-_, _≤_, _<_}
 use native.Mathlib.Omega.{arith}
+use native.Mathlib.Decide.{decLt}
 use lib.ListN.{length, replicate}
 use borrow.Author.Tests.{ne-eqb, le-ltb}
 use Rattle.word.proofs.Laws.Tests.{never}
@@ -37,7 +38,9 @@ use Rattle.stores.specs.Sections.{relaOf, relocated, applied, after}
 use Rattle.spans.specs.Pieces.{pieces}
 use Rattle.judgement.specs.Judgement.{planOf}
 use Rattle.demands.specs.Rules.{Rules, OrderWell, WindowWell, HeaderWell, TableWell, PlacedAsAllocated, ValuedIfUndefined, PlacedIfAllocated, site, entryOf, valueOf, Shape, SymbolResolves, FormIs, OnePair, Reaches, OnBoundary, Room}
-use Rattle.demands.proofs.Laws.Rules.{order-well, window-well, header-well, table-well, placed-well, has-room}
+use Rattle.plans.specs.declared.Span.{Span}
+use Rattle.demands.specs.Laid.{Covers, IsSpan}
+use Rattle.demands.proofs.Laws.Rules.{order-well, window-well, header-well, table-well, placed-well}
 use Rattle.demands.proofs.Laws.Relocations.{shape-well, symbol-well, form-well, pair-well, reach-well, boundary-well}
 
 -- ---- an install that can be done: a section of four bytes with one relocation of type 1, whose T is 0x12345678
@@ -150,9 +153,22 @@ boundary-is : OnBoundary object order 0
 unfolding object order words bytes leAt le sum relocationsIn locationOf countingRela targets sectionAt allocated siteAt relocationAt decision table lookup among first addresses tabulate placedAt valueIn entryAt
 boundary-is = boundary-well object (site object order 0) (entryOf object order 0) refl
 
+-- its four bytes are all that is laid
+only-laid : (t b : ℕ) → Covers object order t b → b < 4
+unfolding object order words bytes leAt le sectionAt allocated loaded hasBytes addresses tabulate placedAt valueIn entryAt first
+only-laid zero b c = never (c .loaded)
+only-laid (suc zero) b c = omega (arith, c .to)
+only-laid (suc (suc zero)) b c = never (c .loaded)
+only-laid (suc (suc (suc zero))) b c = never (c .loaded)
+only-laid (suc (suc (suc (suc t)))) b c = absurd (omega (arith, c .there, count-is))
+
 room-is : Room object order (files .journal)
-unfolding object order files words bytes leAt le noRoom spanOf end lowest planOf pieces hasBytes loaded sectionAt allocated relocated relaOf first countingRela targets siteAt after applied relocationAt decision table lookup among addresses tabulate placedAt valueIn entryAt part bytesOf patched
-room-is = has-room object order (files .journal) refl
+unfolding files leAt le
+room-is = record { entry-free = λ e. omega (arith, e); bytes-free = λ s is. go s is (decLt 0 (s .size)) }
+  where
+    go : (s : Span) → IsSpan object order s → Dec (0 < s .size) → 136 + 0 + s .size ≤ 140
+    go s is (yes some) = omega (arith, only-laid (is .last-laid some .0) (s .start + s .size - 1) (is .last-laid some .1))
+    go s is (no none) = omega arith
 
 only-one : (P : ℕ → Type 0) → P 0 → (k : ℕ) → k < relocationCount object → P k
 only-one P p k h = let zero-th : k ≡ 0 = omega (arith, relocations-are) in subst P (sym zero-th) p

@@ -42,7 +42,7 @@ use Rattle.demands.specs.Rules.{PlacedAsAllocated}
 use Rattle.demands.specs.First.{AllHold, FirstBroken, table as table-of}
 use Rattle.demands.specs.Laid.{sectionIn}
 use Rattle.demands.proofs.Laws.First.{at-once, at-each}
-use Rattle.demands.specs.Demands.{rollbackTable, Demand1, Demand2, Demand3, Journalled}
+use Rattle.demands.specs.Demands.{rollbackTable, Demand1, Demand2, Demand3, Journalled, AnyList}
 use Rattle.demands.proofs.Laws.Sample.{words, object, order, files, journal-is, header-is, table-is, sections-are, keeps-all}
 use Rattle.demands.proofs.Laws.Demands.{Done, done-leaves, demand-2}
 use Rattle.demands.proofs.Laws.Rules.{order-well, window-well, header-well}
@@ -161,7 +161,7 @@ differs (suc (suc zero)) h e = let z : _≡_ {A = ℕ} 0xA5 0x34 = e in omega ar
 differs (suc (suc (suc zero))) h e = let z : _≡_ {A = ℕ} 0xA5 0x12 = e in omega arith
 differs (suc (suc (suc (suc b)))) h e = omega arith
 
-module _ (installs : InstallCall) (rollsBack : RollbackCall) (d : Demand3 installs rollsBack) where
+module _ (installs : InstallCall) (rollsBack : RollbackCall) (d : Demand3 AnyList installs rollsBack) where
   -- what the two calls leave
   after-fit : Files
   after-fit = installs object order files .after
@@ -172,23 +172,23 @@ module _ (installs : InstallCall) (rollsBack : RollbackCall) (d : Demand3 instal
   -- after the install: its bytes, and one that stands
   laid-over : after-fit .image ≡ overwritten (files .image) (planOf object order)
   unfolding after-fit run calling told laid stands
-  laid-over = d files start-is (Install object order ∷ []) .as-told .image-is ∙ ap (λ o. laid (o .after .start) (o .after .standing)) stood
+  laid-over = d files (tt, tt) start-is (Install object order ∷ []) ((tt, tt), tt) .holds .as-told .image-is ∙ ap (λ o. laid (o .after .start) (o .after .standing)) stood
 
   one-stands : count (after-fit .journal) ≡ 1
   unfolding after-fit run calling told
-  one-stands = d files start-is (Install object order ∷ []) .as-told .count-is ∙ ap (λ o. length (o .after .standing)) stood
+  one-stands = d files (tt, tt) start-is (Install object order ∷ []) ((tt, tt), tt) .holds .as-told .count-is ∙ ap (λ o. length (o .after .standing)) stood
 
   -- after the rollback: the starting image, and none that stands
   as-before : after-both .image ≡ files .image
   unfolding after-fit after-both run calling told fall laid
   as-before =
-      d files start-is (Install object order ∷ Rollback ∷ []) .as-told .image-is
+      d files (tt, tt) start-is (Install object order ∷ Rollback ∷ []) ((tt, tt), (tt, tt)) .holds .as-told .image-is
       ∙ ap (λ o. laid (fall (o .after) (o .after .standing) .after .start) (fall (o .after) (o .after .standing) .after .standing)) stood
 
   none-stands : count (after-both .journal) ≡ 0
   unfolding after-fit after-both run calling told fall
   none-stands =
-      d files start-is (Install object order ∷ Rollback ∷ []) .as-told .count-is
+      d files (tt, tt) start-is (Install object order ∷ Rollback ∷ []) ((tt, tt), (tt, tt)) .holds .as-told .count-is
       ∙ ap (λ o. length (fall (o .after) (o .after .standing) .after .standing)) stood
 
   -- a taking-back that leaves one of the laid bytes: "The image is, byte for byte, the starting image"
@@ -213,7 +213,7 @@ module _ (installs : InstallCall) (rollsBack : RollbackCall) (d : Demand3 instal
   unfolding after-fit run calling told
   never-done wrong =
       wrong after-fit
-      (d files start-is (Install object order ∷ []) .done-if-some
+      (d files (tt, tt) start-is (Install object order ∷ []) ((tt, tt), tt) .holds .done-if-some
       (λ none. omega (arith, ap (λ xs. length xs) (sym (ap (λ o. o .after .standing) stood) ∙ none))))
 
   -- a fit that records nothing: "The ledger counts the standing fits"

@@ -55,7 +55,7 @@ Agreed judge t o = (o .answer ≡ t .answer) × Agrees judge (t .after) (o .afte
 
 -- ---- lengths
 
-length-laid : (base : List ℕ) (xs : List Standing) → length (laid base xs) ≡ length base
+pub length-laid : (base : List ℕ) (xs : List Standing) → length (laid base xs) ≡ length base
 unfolding laid
 length-laid base [] = refl
 length-laid base (x ∷ xs) = length-overwritten (laid base xs) (x .pieces) ∙ length-laid base xs

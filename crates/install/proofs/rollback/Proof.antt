@@ -1,7 +1,7 @@
--- `fitter::rollback` meets its contract. Assumes nothing.
+-- `install::rollback` meets its contract. Assumes nothing.
 use borrow.Author.Needs.{needs}
-use Rattle.fitter.proofs.rollback.Statement.{statement}
-use Rattle.fitter.proofs.rollback.Tie as tie
+use Rattle.install.proofs.rollback.Statement.{statement}
+use Rattle.install.proofs.rollback.Tie as tie
 
 returns : tie.Need-returns
 returns c = rw (c .enum-told .given .1) at (c .before .before .before .before .before .before .rollback .ensures)

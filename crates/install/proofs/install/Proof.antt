@@ -1,4 +1,4 @@
--- `fitter::install` meets its contract. Assumes nothing.
+-- `install::install` meets its contract. Assumes nothing.
 use mathlib.Core.Path.{_≡_, sym, _∙_}
 use mathlib.Core.Bool.{true, false}
 use lib.ListN.{length}
@@ -10,8 +10,8 @@ use Rattle.judgement.specs.Judgement.{judgement}
 use Rattle.judgement.proofs.Laws.Judgement.{done-fits, done-formed}
 use Rattle.judge.proofs.Laws.Answers.{verdict-refused, verdict-done}
 use borrow.Author.Needs.{needs}
-use Rattle.fitter.proofs.install.Statement.{statement}
-use Rattle.fitter.proofs.install.Tie as tie
+use Rattle.install.proofs.install.Statement.{statement}
+use Rattle.install.proofs.install.Tie as tie
 
 returns : tie.Need-returns
 returns c =

@@ -1,4 +1,4 @@
--- `fitter::fit` meets its contract. Assumes nothing.
+-- `install::fit` meets its contract. Assumes nothing.
 use mathlib.Core.Path.{_≡_, sym, ap, _∙_, subst}
 use mathlib.Core.Bool.{true, false}
 use Prim.Native.Nat.{_<_}
@@ -19,8 +19,8 @@ use Rattle.judgement.specs.Judgement.{planOf, judgement}
 use Rattle.judgement.proofs.Laws.Judgement.{gives-plan}
 use Rattle.judgement.proofs.Laws.Laying.{is-sound, length-fits, plan-inside, span-is, ends-low}
 use borrow.Author.Needs.{needs}
-use Rattle.fitter.proofs.fit.Statement.{statement}
-use Rattle.fitter.proofs.fit.Tie as tie
+use Rattle.install.proofs.fit.Statement.{statement}
+use Rattle.install.proofs.fit.Tie as tie
 
 address-array-requires : tie.Need-address-array-requires
 address-array-requires c κs = c .before .before .before .before .pre .0 .placeable .named .readable .reading-is
