@@ -50,11 +50,15 @@ pub enum Answer {
 }
 
 impl Answer {
-    /// The answer behind what an exported function returns: the number in the
-    /// low eight bits, the place in the upper 32. The functions' contracts
-    /// allow no other codes than those of the cases, so that another one means
-    /// a library that is not this one, and panics.
-    pub(crate) fn from_code(code: u64) -> Answer {
+    /// The answer behind a code, as the exported functions return it and as
+    /// [`replay_bytes`](crate::replay_bytes) stores it: the number in the low
+    /// eight bits, the place in the upper 32.
+    ///
+    /// # Panics
+    ///
+    /// Where it is the code of no answer. The functions' contracts rule that
+    /// out, so that such a code is not from this library.
+    pub fn from_code(code: u64) -> Answer {
         let place = (code >> 32) as u32;
         let answer = match code as u32 {
             0 => Answer::Done,
@@ -74,7 +78,7 @@ impl Answer {
             14 => Answer::PaddingOffBoundary(place),
             15 => Answer::JournalFull,
             16 => Answer::NothingStands,
-            _ => panic!("the library answered {code:#x}, which its contract rules out"),
+            _ => panic!("{code:#x} is the code of no answer"),
         };
         assert_eq!(answer.place(), place, "{answer:?} has no place");
         answer
@@ -224,13 +228,13 @@ mod tests {
     }
 
     #[test]
-    #[should_panic(expected = "which its contract rules out")]
+    #[should_panic(expected = "is the code of no answer")]
     fn a_number_that_is_none() {
         Answer::from_code(17);
     }
 
     #[test]
-    #[should_panic(expected = "which its contract rules out")]
+    #[should_panic(expected = "is the code of no answer")]
     fn bits_between_number_and_place() {
         Answer::from_code(0x100);
     }
