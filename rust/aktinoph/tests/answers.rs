@@ -1,7 +1,7 @@
 //! Document 01's answers: their numbers and places, what the C header calls
 //! them, and in which words they are written.
 
-use aktinoph::{Answer, LEDGER_HEAD};
+use aktinoph::{Answer, Calls, LEDGER_HEAD};
 
 /// The header's name, the answer, its number and place, and its words.
 type Row = (&'static str, Answer, u32, u32, &'static str);
@@ -98,10 +98,33 @@ fn header_names_and_numbers() {
     }
 }
 
+/// The number that the header defines by this name, once.
+fn defined(name: &str) -> usize {
+    let lines = HEADER
+        .lines()
+        .filter_map(|line| line.strip_prefix("#define "));
+    let numbers = lines.filter_map(|line| line.strip_prefix(name)?.strip_prefix(' '));
+    let numbers: Vec<&str> = numbers.collect();
+    assert_eq!(numbers.len(), 1, "{name}");
+    numbers[0].parse().expect("a number")
+}
+
 /// "count n ...; 16 entries of start u32 and length u32 ...; count k"
 #[test]
 fn bytes_before_the_old_bytes() {
     assert_eq!(LEDGER_HEAD, 136);
-    let defined = |line: &&str| **line == *"#define AKTINOPH_LEDGER_HEAD 136";
-    assert_eq!(HEADER.lines().filter(defined).count(), 1);
+    assert_eq!(defined("AKTINOPH_LEDGER_HEAD"), LEDGER_HEAD);
+}
+
+/// The header's kinds of calls are those that a list has.
+#[test]
+fn kinds_of_calls() {
+    let mut calls = Calls::new();
+    calls.fit(&[], &[]);
+    assert_eq!(calls.as_bytes()[4..8], [1, 0, 0, 0]);
+    assert_eq!(defined("AKTINOPH_CALL_FIT"), 1);
+    let mut calls = Calls::new();
+    calls.take_back();
+    assert_eq!(calls.as_bytes()[4..8], [2, 0, 0, 0]);
+    assert_eq!(defined("AKTINOPH_CALL_TAKE_BACK"), 2);
 }
