@@ -36,7 +36,7 @@ extern "C" {
  */
 enum aktinoph_answer {
     AKTINOPH_DONE = 0,                   /* done */
-    AKTINOPH_JOURNAL_UNSOUND = 1,        /* the ledger is not sound */
+    AKTINOPH_LEDGER_UNSOUND = 1,         /* the ledger is not sound */
     AKTINOPH_ORDER_MALFORMED = 2,        /* the order's bytes are malformed */
     AKTINOPH_WINDOW_BROKEN = 3,          /* the image is too long, or (fit) the window ends above 2^32 */
     AKTINOPH_BAD_HEADER = 4,             /* the ELF header or the object's length is not allowed */
@@ -50,7 +50,7 @@ enum aktinoph_answer {
     AKTINOPH_NOT_ONE_PAIR = 12,          /* a PCREL_LO12 without exactly one PCREL_HI20; place: relocation */
     AKTINOPH_OUT_OF_REACH = 13,          /* the distance is odd or too far; place: relocation */
     AKTINOPH_PADDING_OFF_BOUNDARY = 14,  /* ALIGN's padding does not end on its boundary; place: relocation */
-    AKTINOPH_JOURNAL_FULL = 15,          /* the ledger has 16 fits, or no room for the old bytes */
+    AKTINOPH_LEDGER_FULL = 15,           /* the ledger has 16 fits, or no room for the old bytes */
     AKTINOPH_NOTHING_STANDS = 16         /* no fit stands (take-back only) */
 };
 

@@ -52,7 +52,7 @@ pub fn fit(object: &[u8], order: &[u8], image: &mut [u8], ledger: &mut [u8]) -> 
 }
 
 /// Takes the newest standing fit back: writes its old bytes into the image.
-/// It answers [`Answer::Done`], [`Answer::JournalUnsound`],
+/// It answers [`Answer::Done`], [`Answer::LedgerUnsound`],
 /// [`Answer::WindowBroken`] for an image that is too long, or
 /// [`Answer::NothingStands`].
 #[must_use = "a refused taking-back changes nothing"]

@@ -9,7 +9,7 @@ type Row = (&'static str, Answer, u32, u32, &'static str);
 #[rustfmt::skip]
 const ANSWERS: [Row; 17] = [
     ("AKTINOPH_DONE", Answer::Done, 0, 0, "done"),
-    ("AKTINOPH_JOURNAL_UNSOUND", Answer::JournalUnsound, 1, 0,
+    ("AKTINOPH_LEDGER_UNSOUND", Answer::LedgerUnsound, 1, 0,
      "the ledger is not sound"),
     ("AKTINOPH_ORDER_MALFORMED", Answer::OrderMalformed, 2, 0,
      "the order's bytes are malformed"),
@@ -37,7 +37,7 @@ const ANSWERS: [Row; 17] = [
      "relocation 7: the distance is odd or too far"),
     ("AKTINOPH_PADDING_OFF_BOUNDARY", Answer::PaddingOffBoundary(8), 14, 8,
      "relocation 8: the padding does not end on its boundary"),
-    ("AKTINOPH_JOURNAL_FULL", Answer::JournalFull, 15, 0,
+    ("AKTINOPH_LEDGER_FULL", Answer::LedgerFull, 15, 0,
      "the ledger has 16 fits, or no room for the old bytes"),
     ("AKTINOPH_NOTHING_STANDS", Answer::NothingStands, 16, 0,
      "no fit stands"),
