@@ -6,6 +6,7 @@ use lib.ListN.{length, getD, length-set}
 use lib.Seq.{sets}
 use Rattle.word.specs.Bytes.{part}
 use Rattle.word.proofs.Laws.Lists.{sets-snoc, part-snoc, length-part}
+use borrow.Author.Needs.{needs}
 use Rattle.undo.proofs.copy.Statement.{statement}
 use Rattle.undo.proofs.copy.Tie as tie
 
@@ -19,34 +20,16 @@ loop-holds : tie.Need-loop-holds Inv-loop μ-loop
 unfolding part
 loop-holds c = (omega arith, refl, refl)
 
-add-dst : tie.Need-add-dst Inv-loop μ-loop
-add-dst c = omega arith
-
-shared-slice-read-dst : tie.Need-shared-slice-read-dst Inv-loop μ-loop
-shared-slice-read-dst c = omega arith
-
-add-dst-2 : tie.Need-add-dst-2 Inv-loop μ-loop
-add-dst-2 c = omega arith
-
-slice-write-dst : tie.Need-slice-write-dst Inv-loop μ-loop
-slice-write-dst c = omega arith
-
-add-i : tie.Need-add-i Inv-loop μ-loop
-add-i c = omega arith
-
-loop-less : tie.Need-loop-less Inv-loop μ-loop
-loop-less c = omega arith
-
 loop-again : tie.Need-loop-again Inv-loop μ-loop
 loop-again c =
-    let at-loop = c .before .before .loop in
-    let i = at-loop .i in
-    let args = c .before .before .before .args in
-    let src = args .src .now in
-    let from = args .from in (
+    let l : tie.At-loop Inv-loop μ-loop = search in
+    let s : tie.Start Inv-loop μ-loop = search in
+    let i = l .loop .i in
+    let src = s .args .src .now in
+    let from = s .args .from in (
       omega arith,
-      simp length-set (at-loop .inv .1),
-      rw (at-loop .inv .2, part-snoc src from i (omega arith)) (sets-snoc (args .dst .now) (args .at) (part src from i) (getD src (from + i) 0) i (length-part src from i (omega arith))),
+      simp length-set (l .loop .inv .1),
+      rw (l .loop .inv .2, part-snoc src from i (omega arith)) (sets-snoc (s .args .dst .now) (s .args .at) (part src from i) (getD src (from + i) 0) i (length-part src from i (omega arith))),
     )
 
 same-length : tie.Need-same-length Inv-loop μ-loop
@@ -54,8 +37,10 @@ same-length c = omega arith
 
 returns : tie.Need-returns Inv-loop μ-loop
 returns c =
-    let e : c .before .loop .i ≡ c .before .before .args .n = omega arith in
-    rw e at (c .before .loop .inv .2)
+    let l : tie.At-loop Inv-loop μ-loop = search in
+    let s : tie.Start Inv-loop μ-loop = search in
+    let e : l .loop .i ≡ s .args .n = omega arith in
+    rw e at (l .loop .inv .2)
 
 pub copy-spec : {M : Type 1} → statement M
 copy-spec =
@@ -64,12 +49,12 @@ copy-spec =
     Inv-loop
     μ-loop
     loop-holds
-    add-dst
-    shared-slice-read-dst
-    add-dst-2
-    slice-write-dst
-    add-i
-    loop-less
+    (λ c. search needs)
+    (λ c. search needs)
+    (λ c. search needs)
+    (λ c. search needs)
+    (λ c. search needs)
+    (λ c. search needs)
     loop-again
     same-length
     returns)
