@@ -28,9 +28,6 @@ loop-again c =
       rw (l .loop .inv .2, replicate-snoc i 0) (sets-snoc (s .args .dst .now) (s .args .at) (replicate i 0) 0 i (length-replicate i 0)),
     )
 
-same-length : tie.Need-same-length Inv-loop μ-loop
-same-length c = omega arith
-
 returns : tie.Need-returns Inv-loop μ-loop
 returns c =
     let l : tie.At-loop Inv-loop μ-loop = search in
@@ -50,5 +47,5 @@ clear-spec =
     (λ c. search needs)
     (λ c. search needs)
     loop-again
-    same-length
+    (λ c. search needs)
     returns)

@@ -6,23 +6,26 @@ use lib.Seq.{sets}
 use Rattle.word.specs.Bytes.{bytes}
 use Rattle.word.proofs.Laws.Lists.{sets-append}
 use Rattle.word.proofs.Laws.Bytes.{length-bytes}
-use Rattle.journal.specs.Journals.{entryAt}
+use Rattle.journal.specs.Journals.{numberSize, entryBytes}
 use borrow.Author.Needs.{needs}
 use Rattle.undo.proofs.write_entry.Statement.{statement}
 use Rattle.undo.proofs.write_entry.Tie as tie
 
 returns : tie.Need-returns
 returns c =
-    let s : tie.Start = search in
-    let a : tie.After-write32 = search in
     let b : tie.After-write322 = search in
-    let at = entryAt (s .args .i) in
+    let a : tie.After-write32 = search in
+    let e : tie.After-entry-at = search in
+    let s : tie.Start = search in
+    let at = e .entry-at .result in
     let span = s .args .span in
+    let j = s .args .journal .now in
     b .write322 .ensures
-    ∙ ap (λ (l : List ℕ). sets l (at + 4) (bytes 4 (span .size))) (a .write32 .ensures)
-    ∙ sym (sets-append (s .args .journal .now) at (bytes 4 (span .start)) (bytes 4 (span .size)) (at + 4) (rw length-bytes refl))
+    ∙ ap (λ (l : List ℕ). sets l (at + numberSize) (bytes numberSize (span .size))) (a .write32 .ensures)
+    ∙ sym (sets-append j at (bytes numberSize (span .start)) (bytes numberSize (span .size)) (at + numberSize) (rw length-bytes refl))
+    ∙ ap (λ (x : ℕ). sets j x (entryBytes span)) (e .entry-at .ensures)
 
 pub write-entry-spec : {M : Type 1} → statement M
 write-entry-spec =
     tie.close
-    (tie.spec (λ c. search needs) (λ c. search needs) (λ c κs. search needs) (λ c. search needs) (λ c κs. search needs) (λ c. search needs) returns)
+    (tie.spec (λ c κs. search needs) (λ c κs. search needs) (λ c. search needs) (λ c κs. search needs) (λ c. search needs) returns)

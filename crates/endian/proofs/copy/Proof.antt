@@ -1,4 +1,4 @@
--- `undo::copy` meets its contract. The invariant: the first i bytes are stored. Assumes nothing.
+-- `endian::copy` meets its contract. The invariant: the first i bytes are stored. Assumes nothing.
 use mathlib.Core.Path.{_≡_, refl}
 use Prim.Native.Nat.{_+_, _-_, _≤_}
 use native.Mathlib.Omega.{arith}
@@ -7,8 +7,8 @@ use lib.Seq.{sets}
 use Rattle.word.specs.Bytes.{part}
 use Rattle.word.proofs.Laws.Lists.{sets-snoc, part-snoc, length-part}
 use borrow.Author.Needs.{needs}
-use Rattle.undo.proofs.copy.Statement.{statement}
-use Rattle.undo.proofs.copy.Tie as tie
+use Rattle.endian.proofs.copy.Statement.{statement}
+use Rattle.endian.proofs.copy.Tie as tie
 
 abbrev Inv-loop : tie.InvT-loop
 Inv-loop dst₀ at src from n i₀ dst i = (i ≤ n) × (length dst ≡ length dst₀) × (dst ≡ sets dst₀ at (part src from i))
@@ -32,9 +32,6 @@ loop-again c =
       rw (l .loop .inv .2, part-snoc src from i (omega arith)) (sets-snoc (s .args .dst .now) (s .args .at) (part src from i) (getD src (from + i) 0) i (length-part src from i (omega arith))),
     )
 
-same-length : tie.Need-same-length Inv-loop μ-loop
-same-length c = omega arith
-
 returns : tie.Need-returns Inv-loop μ-loop
 returns c =
     let l : tie.At-loop Inv-loop μ-loop = search in
@@ -56,5 +53,5 @@ copy-spec =
     (λ c. search needs)
     (λ c. search needs)
     loop-again
-    same-length
+    (λ c. search needs)
     returns)
