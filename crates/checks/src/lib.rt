@@ -11,9 +11,10 @@ ghost use Rattle.rela.specs.Sites.{entry, effect, offset};
 ghost use Rattle.effects.specs.Effects.{touched, needsPair};
 ghost use Rattle.rules.specs.Rules.{isResolved, inTarget, symbolWell, isData, standsWell, formWell, isOne, pairWell, reachesWell, distanceWell, boundaryWell};
 ghost use Rattle.rela.specs.Facts.{There, InTable};
-ghost use Rattle.effects.specs.Widths.{isWidth};
+ghost use Rattle.endian.specs.Widths.{isWidth};
 use effects::is_store;
 use effects::needs_pair;
+use endian::read_bytes;
 use fields::Field;
 use rela::sites::Site;
 use riscv::forms::Form;
@@ -27,7 +28,6 @@ use types::Decision;
 use types::decide;
 use values::pairs::Pair;
 use values::pairs::hi20_pair;
-use values::read_bytes;
 use word::Address;
 
 fn is_resolved(value: SymbolValue) -> bool

@@ -17,12 +17,14 @@ ghost use Rattle.values.specs.Values.{S};
 ghost use Rattle.effects.specs.Effects.{takesPair};
 ghost use Rattle.rules.specs.Search.{relocationCheck};
 ghost use Rattle.rela.specs.Facts.{There, InTable, Placed};
-ghost use Rattle.effects.specs.Widths.{isWidth, isDataField, onData};
+ghost use Rattle.effects.specs.Widths.{isDataField, onData};
 ghost use Rattle.stores.specs.Patches.{highPart, lowPart, patched};
 ghost use Rattle.stores.specs.Sections.{sumAt, distanceAt, pairDistance, applied, after, relaOf, relocated};
 ghost use Rattle.stores.specs.Facts.{Checked};
 use effects::takes_pair;
 use encode::put_field;
+use endian::read_bytes;
+use endian::write_bytes;
 use fields::Field;
 use fields::Width;
 use lookup::Addresses;
@@ -44,7 +46,6 @@ use types::decide;
 use values::pairs::Pair;
 use values::pairs::hi20_pair;
 use values::place_of;
-use values::read_bytes;
 use values::target_of;
 use word::Address;
 
@@ -105,26 +106,6 @@ fn patch(calculation: Calculation, field: Field, w: u64, x: u64, p: Address, d: 
         Calculation::Sub => sub(data_width(field), w, x),
         Calculation::Set => set(data_width(field), w, x),
     }
-}
-
-// Writes a number as n bytes, the lowest first.
-fn write_bytes(s: &mut [u8], at: usize, n: usize, x: u64)
-    requires { ⌜ (at + n ≤ length (now s)) × (isWidth n ≡ true) ⌝ }
-    ensures { λ _. ⌜ now (s .exit) ≡ sets (now (s .entry)) at (bytes n x) ⌝ }
-{
-    if n == 1 {
-        endian::write8(s, at, (x % 0x100) as u8);
-        return;
-    }
-    if n == 2 {
-        endian::write16(s, at, (x % 0x1_0000) as u16);
-        return;
-    }
-    if n == 4 {
-        endian::write32(s, at, (x % 0x1_0000_0000) as u32);
-        return;
-    }
-    endian::write64(s, at, x);
 }
 
 // S + A in two's complement.
@@ -262,11 +243,7 @@ fn copy(from: &[u8], part: &mut [u8])
     ensures { λ _. ⌜ now (part .exit) ≡ now (from .entry) ⌝ }
 {
     let n = from.len();
-    let mut i: usize = 0;
-    while i < n {
-        part[i] = from[i];
-        i += 1;
-    }
+    endian::copy(part, 0, from, 0, n);
 }
 
 // Applies the relocations of a site in file order.

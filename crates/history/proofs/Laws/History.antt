@@ -8,7 +8,7 @@ use mathlib.Core.List.{List, [], _∷_, _++_}
 use lib.ListN.{length, drop, length-drop, replicate, replicate-append-replicate}
 use Rattle.word.specs.Bytes.{part}
 use Rattle.plans.specs.Plans.{Verdict, refused, plan, Judge, LaysInside, spanOf}
-use Rattle.journal.specs.Journals.{oldAt, total, noRoom}
+use Rattle.journal.specs.Journals.{maxEntries, oldAt, total, noRoom}
 use Rattle.plans.specs.Answers.{Answer, done}
 use Rattle.history.specs.Calls.{journalFull, noneStands, Files, Outcome, refuse, succeed, Call, Install, Rollback, calling, call, answers, run}
 use Rattle.history.specs.Histories.{Standing, History, begin, countOf, heldOf, spans, laid, olds, stand, fall, told, Start, filesAfter, historyOf, Alike, alone, standingAlone, Kind, Holds}
@@ -128,8 +128,8 @@ started judge start s =
     let j = start .journal in
     let e = empty j (length (start .image)) (s .sound) (s .none) in
     record {
-      free = 16;
-      rest = drop 136 j;
+      free = maxEntries;
+      rest = drop oldAt j;
       shape = record {
         short = s .allowed;
         slots = refl;

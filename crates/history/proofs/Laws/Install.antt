@@ -28,10 +28,10 @@ room-left n k size len e = (
 )
 
 -- k of a sound journal is small where the image is short
-pub held-small : (j : List ℕ) (len : ℕ) → Sound j len → len ≤ 65536 → held j ≤ 65536 * 16
+pub held-small : (j : List ℕ) (len : ℕ) → Sound j len → len ≤ 65536 → held j ≤ 65536 * maxEntries
 held-small j len s short =
     let size : (i : ℕ) → i < length (entries j) → getD (entries j) i blank .size ≤ 65536 =
-    λ i l. let in16 : i < 16 = omega (arith, entries-length j) in rw (entries-at j i in16) (omega (arith, s .inside i in16)) in
+    λ i l. let some : i < maxEntries = omega (arith, entries-length j) in rw (entries-at j i some) (omega (arith, s .inside i some)) in
     omega (arith, s .held-is, entries-length j, total-le 65536 (entries j) size)
 
 module _ (judge : Judge) (object order : List ℕ) (f : Files) where
