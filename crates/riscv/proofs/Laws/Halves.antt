@@ -1,10 +1,12 @@
--- Laws of the halves, over the width, which is k + 12 bits. Assumes nothing.
-use mathlib.Core.Path.{_≡_, sym, ap, _∙_, subst}
-use Prim.Native.Nat.{ℕ, _+_, _*_, _/_, _%_, _^_, _≤_}
-use native.Mathlib.Nat.{mod-eq-of-lt, add-comm, add-sub-cancel, mul-mod-right, mul-div-right, add-zero}
+-- Laws of the halves, over the width w of an address, which is k + 12 bits. Assumes nothing.
+use mathlib.Core.Path.{_≡_, refl, sym, ap, _∙_, subst}
+use Prim.Native.Nat.{ℕ, _+_, _-_, _*_, _/_, _%_, _^_, _≤_, _<_}
+use mathlib.Core.Bool.{Bool, true, false, cond}
+use native.Mathlib.Nat.{mod-lt, mod-add-mod, mod-eq-of-lt, add-comm, add-sub-cancel, mul-mod-right, mul-div-right, add-zero}
 use native.Mathlib.Omega.{arith}
 use lib.Arith.{mod-mul}
-use lib.Dec.{lit<}
+use lib.Dec.{lit<, ltb}
+use borrow.Author.Tests.{ltb-true, ltb-false}
 use lib.Pow.{pow-pos, pow-add, pow-mono}
 use lib.IntN.{ℤ, pos, _+ℤ_, _-ℤ_}
 use Rattle.word.specs.Whole.{residue, signed, minus}
@@ -79,3 +81,58 @@ low-is k x =
 
 pub low-spelt : (k x : ℕ) → Spelt 12 (low (k + 12) x)
 low-spelt k x = subst (Spelt 12) (sym (low-rest k x)) (rest-spelt 0 x)
+
+-- ---- at every width that is wide enough
+
+-- a law of the widths k + n, of a width w that is at least n
+pub at-least : (P : ℕ → Type 0) (n w : ℕ) → n ≤ w → ((k : ℕ) → P (k + n)) → P w
+at-least P n w h law = let same : w - n + n ≡ w = omega arith in subst P same (law (w - n))
+
+pub narrowed : (w n : ℕ) (z : ℤ) → n ≤ w → residue w z % 2 ^ n ≡ residue n z
+narrowed w n z h = at-least (λ w. residue w z % 2 ^ n ≡ residue n z) n w h (λ k. residue-narrow k n z)
+
+pub low-half-spelt : (w x : ℕ) → 12 ≤ w → Spelt 12 (low w x)
+low-half-spelt w x h = at-least (λ w. Spelt 12 (low w x)) 12 w h (λ k. low-spelt k x)
+
+pub high-lt : (w x : ℕ) → 12 ≤ w → 4096 * high w x < 2 ^ w
+high-lt w x h = at-least (λ w. 4096 * high w x < 2 ^ w) 12 w h (λ k. rw (high-multiple k x) (mod-lt (4096 * ((x + 2048) / 4096)) (pow-pos (k + 12))))
+
+-- ---- a high half that 32 bits hold, which are extended by their sign
+
+-- the high half of x is a signed number of 32 bits
+abbrev pub HighSpelt : ℕ → ℕ → Type 0
+HighSpelt w x = Spelt 32 (signed w (4096 * high w x))
+
+spelt-signed : (w u : ℕ) → u < 2 ^ w → Spelt w (signed w u)
+unfolding signed
+spelt-signed w u h = go (ltb (2 * u) (2 ^ w)) refl
+  where
+    go : (t : Bool) → ltb (2 * u) (2 ^ w) ≡ t → Spelt w (cond t (pos u) (pos u -ℤ pos (2 ^ w)))
+    go true e = ltb-true _ _ e
+    go false e = let half : 2 ^ w ≤ 2 * u = ltb-false _ _ e in spelt-sub w u (2 ^ w) (omega arith) (omega arith)
+
+-- at 32 bits every one is. At 64 bits only those of numbers near 0 are, which a rule has to ask for (document 02, Ticket 1).
+pub high-spelt-32 : (x : ℕ) → HighSpelt 32 x
+high-spelt-32 x = spelt-signed 32 (4096 * high 32 x) (high-lt 32 x (omega arith))
+
+-- then its low 32 bits, extended, are it
+pub high-extended : (w x : ℕ) → 32 ≤ w → HighSpelt w x → residue w (signed 32 (4096 * high w x % 2 ^ 32)) ≡ 4096 * high w x
+high-extended w x h s =
+    let u : ℕ = 4096 * high w x in
+    let whole : residue w (signed w u) ≡ u = residue-signed w u (high-lt w x (omega arith)) in
+    let cut : u % 2 ^ 32 ≡ residue 32 (signed w u) = ap (λ n. n % 2 ^ 32) (sym whole) ∙ narrowed w 32 (signed w u) h in
+    ap (λ n. residue w (signed 32 n)) cut
+    ∙ ap (residue w) (signed-residue 32 (signed w u) s)
+    ∙ whole
+
+-- what is the high half modulo 2^w, and the low half, add up to x
+pub halves-whole : (w x : ℕ) (u z : ℤ) → x < 2 ^ w → residue w u ≡ 4096 * high w x → z ≡ low w x → residue w (u +ℤ z) ≡ x
+unfolding residue
+halves-whole w x u z h p q =
+    residue-add w u z
+    ∙ ap (λ n. (n + residue w z) % 2 ^ w) p
+    ∙ ap (λ y. (4096 * high w x + residue w y) % 2 ^ w) q
+    ∙ sym (mod-add-mod (4096 * high w x) (2 ^ w) (residue w (low w x)))
+    ∙ sym (residue-add w (pos (4096 * high w x)) (low w x))
+    ∙ halves-sum w x
+    ∙ mod-eq-of-lt h
