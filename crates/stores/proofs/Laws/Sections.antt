@@ -1,9 +1,9 @@
 -- Laws of sections after their relocations. Assumes nothing.
-use mathlib.Core.Path.{_≡_, refl, sym, ap, _∙_}
+use mathlib.Core.Path.{_≡_, refl, sym, ap, _∙_, subst}
 use mathlib.Core.Bool.{Bool, true, false, _&&_}
 use mathlib.Core.List.{List}
 use Prim.Native.Nat.{ℕ, _+_, _^_, _≤_, _<_}
-use native.Mathlib.Nat.{mod-eq-of-lt}
+use native.Mathlib.Nat.{mod-eq-of-lt, zero-add}
 use native.Mathlib.Omega.{arith}
 use lib.Dec.{eqb}
 use lib.IntN.{ℤ, pos, _+ℤ_, _-ℤ_}
@@ -64,7 +64,7 @@ module _ (object order addresses : List ℕ) (x : Site) (j : ℕ) (r : Relocatio
   distance-read t p te pe =
       let m : ℕ = x .address .0 + r .offset .0 in
       ap (minus w t) pe
-      ∙ minus-residue 0 w t (pos m)
+      ∙ subst (λ k. minus w t (residue k (pos m)) ≡ residue w (pos t -ℤ pos m)) (zero-add w) (minus-residue 0 w t (pos m))
       ∙ ap (λ t. residue w (pos t -ℤ pos m)) te
       ∙ ap (λ v. residue w (pos (T w (S v) (signed 64 (r .addend))) -ℤ pos m)) same-value
       ∙ ap (λ e. residue w (pos (T w (S (valueAt object order addresses x j)) (signed 64 (e .addend))) -ℤ pos (x .address .0 + e .offset .0))) re
