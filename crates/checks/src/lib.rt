@@ -146,7 +146,7 @@ pub fn is_paired(object: &[u8], symbols: Symbols, site: Site, j: usize) -> bool
 
 // Whether a distance from p to t is allowed for a calculation and its field.
 fn reaches_well(calculation: Calculation, field: Field, t: u32, p: u32) -> bool
-    ensures { λ r. ⌜ r ≡ reachesWell calculation field t p ⌝ }
+    ensures { λ r. ⌜ r ≡ reachesWell 32 calculation field t p ⌝ }
 {
     match calculation {
         Calculation::Distance => in_reach(range_of(field), t, p),
@@ -165,7 +165,7 @@ fn reaches_well(calculation: Calculation, field: Field, t: u32, p: u32) -> bool
 
 // Check 13.
 pub fn is_in_reach(decision: Decision, t: u32, p: Address) -> bool
-    ensures { λ r. ⌜ r ≡ distanceWell decision t (p .0) ⌝ }
+    ensures { λ r. ⌜ r ≡ distanceWell 32 decision t (p .0) ⌝ }
 {
     match decision {
         Decision::Store(calculation, field, _, _) => reaches_well(calculation, field, t, p.0),

@@ -5,7 +5,7 @@ use mathlib.Core.Path.{_≡_}
 use mathlib.Core.List.{List}
 use Prim.Native.Nat.{ℕ, _^_, _<_}
 use lib.ListN.{length}
-use Rattle.elf.specs.Headers.{sectionCount}
+use Rattle.elf.specs.Headers.{addressWidth, sectionCount}
 use Rattle.elf.specs.Entries.{relocationCount}
 use Rattle.order.specs.Orders.{base}
 use Rattle.validate.specs.Sound.{SoundSection}
@@ -65,7 +65,7 @@ unfoldable pub table : List ℕ → List ℕ → Files → Checks
 table object order f =
     one 1 (Sound (f .journal) (length (f .image)))
     (one 2 (OrderWell order)
-    (one 3 (WindowWell (base order) (length (f .image)))
+    (one 3 (WindowWell (addressWidth object) (base order) (length (f .image)))
     (one 4 (HeaderWell object)
     (one 5 (TableWell object)
     (each (sectionCount object) 5 (SoundSection object)

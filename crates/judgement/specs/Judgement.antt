@@ -8,7 +8,7 @@ use Rattle.order.specs.Windows.{windowAllowed}
 use Rattle.lookup.specs.Addresses.{addresses}
 use Rattle.validate.specs.declared.ObjectCheck.{ObjectCheck}
 use Rattle.validate.specs.declared.ObjectCheck.the-variants.{Passed, BadHeader, BadSection}
-use Rattle.elf.specs.Headers.{sectionCount}
+use Rattle.elf.specs.Headers.{addressWidth, sectionCount}
 use Rattle.validate.specs.Rules.{objectCheck}
 use Rattle.plans.specs.Answers.{says}
 use Rattle.plans.specs.Plans.{Piece, Verdict, refused, plan, Judge}
@@ -53,7 +53,7 @@ judgement object order len =
     -- 2 "order bytes malformed"
     cond (wellFormed order)
     -- 3 "window rule broken"
-    (cond (windowAllowed (base order) len)
+    (cond (windowAllowed (addressWidth object) (base order) len)
     (afterObject (objectCheck object)
     -- 6 "placements differ from allocated rows"
     (afterFault 6 (placementCheck object order)

@@ -51,19 +51,19 @@ use word::Address;
 
 // Both halves of a number, where AUIPC or LUI and the instruction after it have them.
 fn both_halves(x: u32) -> u64
-    ensures { λ r. ⌜ r ≡ highPart x + lowPart x ⌝ }
+    ensures { λ r. ⌜ r ≡ highPart 32 x + lowPart 32 x ⌝ }
 {
     high_part(x) + low_part(x)
 }
 
 fn high_part(x: u32) -> u64
-    ensures { λ r. ⌜ (r ≡ highPart x) × (r < 2 ^ 32) ⌝ }
+    ensures { λ r. ⌜ (r ≡ highPart 32 x) × (r < 2 ^ 32) ⌝ }
 {
     4096 * hi20(x) as u64
 }
 
 fn low_part(x: u32) -> u64
-    ensures { λ r. ⌜ (r ≡ lowPart x) × (r < 2 ^ 12) ⌝ }
+    ensures { λ r. ⌜ (r ≡ lowPart 32 x) × (r < 2 ^ 12) ⌝ }
 {
     lo12(x) as u64
 }
@@ -89,7 +89,7 @@ fn data_width(field: Field) -> Width
 // What a relocation leaves of the bytes w: x is S + A in two's complement, p is P, d the paired high half's T - P.
 fn patch(calculation: Calculation, field: Field, w: u64, x: u64, p: Address, d: u32) -> u64
     requires { ⌜ onData calculation field ≡ true ⌝ }
-    ensures { λ r. ⌜ r ≡ patched calculation field w (signed 64 x) (p .0) d ⌝ }
+    ensures { λ r. ⌜ r ≡ patched 32 calculation field w (signed 64 x) (p .0) d ⌝ }
 {
     let t = (x % 0x1_0000_0000) as u32;
     let distance = arith::sub32(t, p.0 as u64);

@@ -6,6 +6,7 @@ use lib.ListN.{getD}
 use lib.Dec.{ltb, eqb}
 use Rattle.word.specs.Whole.{plus}
 use Rattle.elf.specs.declared.Symbol.{Symbol}
+use Rattle.elf.specs.Headers.{addressWidth}
 use Rattle.elf.specs.Sections.{sectionAt, symbolTable}
 use Rattle.elf.specs.Entries.{symbolAt, symbolCount}
 use Rattle.lookup.specs.declared.Value.{Value}
@@ -36,7 +37,7 @@ ofUndefined y NotGiven = cond (eqb (y .binding) STB_WEAK) (Resolved 0) Unresolve
 -- the value for section 0xFFF1; for an undefined symbol the order's value, else 0 if weak". "Anything else" does not resolve.
 unfoldable pub ofSection : List ℕ → List ℕ → List ℕ → ℕ → Symbol → SymbolValue
 ofSection object order addresses k y =
-    cond (isAllocated object (y .section)) (Resolved (plus 32 (getD addresses (y .section) 0) (y .value)))
+    cond (isAllocated object (y .section)) (Resolved (plus (addressWidth object) (getD addresses (y .section) 0) (y .value)))
     (cond (eqb (y .section) SHN_ABS) (Resolved (y .value))
     (cond (eqb (y .section) 0) (ofUndefined y (externalValue order k)) Unresolved))
 

@@ -11,7 +11,7 @@ use word::Address;
 
 // T: the symbol's value with the addend.
 pub fn target_of(value: SymbolValue, addend: u64) -> u32
-    ensures { λ r. ⌜ r ≡ T (S value) (signed 64 addend) ⌝ }
+    ensures { λ r. ⌜ r ≡ T 32 (S value) (signed 64 addend) ⌝ }
 {
     match value {
         SymbolValue::Resolved(s) => arith::add32(s, addend),

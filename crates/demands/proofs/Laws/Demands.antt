@@ -10,6 +10,7 @@ use lib.Dec.{leb, eqb}
 use borrow.Author.Tests.{leb-true, le-leb, eqb-true, eqb-false}
 use Rattle.word.proofs.Laws.Tests.{clash}
 use Rattle.order.specs.Orders.{base, wellFormed}
+use Rattle.elf.specs.Headers.{addressWidth}
 use Rattle.order.specs.Windows.{lengthAllowed, windowAllowed}
 use Rattle.lookup.specs.Addresses.{addresses}
 use Rattle.validate.specs.declared.ObjectCheck.{ObjectCheck}
@@ -214,7 +215,7 @@ named c a (inr first) b broken = one-first c a b first broken
 refused-above : (object order : List ℕ) (len : ℕ) (a : Answer) → judgement object order len ≡ refused a → 0 < a .number
 unfolding judgement
 refused-above object order len answer h =
-    go (wellFormed order) (windowAllowed (base order) len) (objectCheck object) (placementCheck object order) (externalCheck object order)
+    go (wellFormed order) (windowAllowed (addressWidth object) (base order) len) (objectCheck object) (placementCheck object order) (externalCheck object order)
     (placingCheck object (addresses order) (base order) len) (relocationCheck object order (addresses order)) refl h
   where
     by : (m q : ℕ) → 0 < m → refused (says m q) ≡ refused answer → 0 < answer .number

@@ -11,7 +11,7 @@ use lib.IntN.{ℤ}
 use lib.Dec.{ltb, eqb}
 use Rattle.word.specs.Bytes.{leAt, bytes}
 use Rattle.word.proofs.Laws.Bytes.{Bytes}
-use Rattle.elf.specs.Headers.{sectionCount}
+use Rattle.elf.specs.Headers.{addressWidth, sectionCount}
 use Rattle.elf.specs.Sections.{sectionAt}
 use Rattle.elf.specs.Entries.{bytesOf}
 use Rattle.order.specs.Orders.{base}
@@ -90,13 +90,13 @@ all-snoc (piece a u ∷ ps) at v c b = (c .0, all-snoc ps at v (c .1) b)
 
 -- ---- what an install lays
 
-bytes-stored : (d : Decision) (at : ℕ) (x : ℤ) (p e : ℕ) (s : List ℕ) → Bytes s → Bytes (stored d at x p e s)
-bytes-stored (Store c f form n) at x p e s b =
-    let w : ℕ = patched c f (leAt n s at) x p e in
-    bytes-sets s at (bytes n w) b (bytes-bytes n w)
-bytes-stored Marker at x p e s b = b
-bytes-stored Align at x p e s b = b
-bytes-stored Refused at x p e s b = b
+bytes-stored : (w : ℕ) (d : Decision) (at : ℕ) (x : ℤ) (p e : ℕ) (s : List ℕ) → Bytes s → Bytes (stored w d at x p e s)
+bytes-stored w (Store c f form n) at x p e s b =
+    let u : ℕ = patched w c f (leAt n s at) x p e in
+    bytes-sets s at (bytes n u) b (bytes-bytes n u)
+bytes-stored w Marker at x p e s b = b
+bytes-stored w Align at x p e s b = b
+bytes-stored w Refused at x p e s b = b
 
 bytes-own : (object : List ℕ) (t : ℕ) → Bytes object → Bytes (bytesOf object (sectionAt object t))
 unfolding bytesOf
@@ -106,7 +106,7 @@ bytes-after : (object order a : List ℕ) (x : Site) → Bytes object → (j : �
 unfolding after applied bytesOf
 bytes-after object order a x b zero = bytes-part object (x .target .offset .0) (x .target .size) b
 bytes-after object order a x b (suc j) =
-    bytes-stored (effect object x j) (offset object x j) (sumAt object order a x j) (P object x j) (pairDistance object order a x j) (after object order a x j)
+    bytes-stored (addressWidth object) (effect object x j) (offset object x j) (sumAt object order a x j) (P object x j) (pairDistance object order a x j) (after object order a x j)
     (bytes-after object order a x b j)
 
 bytes-relocated : (object order a : List ℕ) (t : ℕ) → Bytes object → Bytes (relocated object order a t)

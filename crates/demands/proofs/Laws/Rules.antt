@@ -87,17 +87,17 @@ well-order order o =
 
 -- ---- 3
 
-pub window-well : (start len : ℕ) → windowAllowed start len ≡ true → WindowWell start len
+pub window-well : (w start len : ℕ) → windowAllowed w start len ≡ true → WindowWell w start len
 unfolding windowAllowed lengthAllowed
-window-well start len e =
+window-well w start len e =
     record {
-      short = leb-true _ _ (and-left (leb len 65536) (leb (start + len) (2 ^ 32)) e);
-      ends = leb-true _ _ (and-right (leb len 65536) (leb (start + len) (2 ^ 32)) e);
+      short = leb-true _ _ (and-left (leb len 65536) (leb (start + len) (2 ^ w)) e);
+      ends = leb-true _ _ (and-right (leb len 65536) (leb (start + len) (2 ^ w)) e);
     }
 
-pub well-window : (start len : ℕ) → WindowWell start len → windowAllowed start len ≡ true
+pub well-window : (w start len : ℕ) → WindowWell w start len → windowAllowed w start len ≡ true
 unfolding windowAllowed lengthAllowed
-well-window start len w = both _ _ (le-leb _ _ (w .short)) (le-leb _ _ (w .ends))
+well-window w start len k = both _ _ (le-leb _ _ (k .short)) (le-leb _ _ (k .ends))
 
 -- ---- 4 and 5
 

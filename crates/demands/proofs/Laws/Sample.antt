@@ -11,7 +11,7 @@ use Rattle.word.specs.Bytes.{le, leAt, bytes, part}
 use Rattle.word.specs.First.{first, everywhere, tabulate}
 use Rattle.word.specs.Sums.{sum}
 use Rattle.word.specs.Powers.{oneBit}
-use Rattle.elf.specs.Headers.{sectionCount}
+use Rattle.elf.specs.Headers.{addressWidth, sectionCount}
 use Rattle.elf.specs.Sections.{sectionAt, allocated, loaded, symbolTable, targets, countingRel, countingRela, relocationsIn}
 use Rattle.elf.specs.Entries.{bytesOf, relocationAt, relocationCount, locationOf}
 use Rattle.header.specs.Headers.{headerAllowed, tableAllowed}
@@ -85,9 +85,9 @@ pub table-is : TableWell object
 unfolding object words bytes tableAllowed leAt le
 table-is = table-well object refl
 
-window-is : WindowWell (base order) (length (files .image))
+window-is : WindowWell (addressWidth object) (base order) (length (files .image))
 unfolding order files words bytes windowAllowed lengthAllowed leAt le
-window-is = window-well (base order) (length (files .image)) refl
+window-is = window-well (addressWidth object) (base order) (length (files .image)) refl
 
 -- the section header table has four entries
 count-is : sectionCount object ≡ 4

@@ -11,7 +11,7 @@ use borrow.Author.Tests.{ltb-true, ltb-false, not-true, not-false}
 use Rattle.word.proofs.Laws.Tests.{never, clash}
 use Rattle.word.specs.First.{first}
 use Rattle.word.proofs.Laws.First.{first-below, first-at}
-use Rattle.elf.specs.Headers.{sectionCount}
+use Rattle.elf.specs.Headers.{addressWidth, sectionCount}
 use Rattle.elf.specs.Entries.{relocationCount}
 use Rattle.header.specs.Headers.{headerAllowed, tableAllowed}
 use Rattle.validate.specs.declared.ObjectCheck.{ObjectCheck}
@@ -44,7 +44,7 @@ use Rattle.rela.specs.Sites.{effect, A, P}
 use Rattle.rules.specs.declared.Finding.{Finding}
 use Rattle.rules.specs.declared.Finding.the-variants.{Kept, BadShape, BadSymbol, BadForm, NoPair, OutOfReach, OffBoundary}
 use Rattle.rules.specs.declared.RelocationCheck.the-variants.{Passed as AllKept, Broken}
-use Rattle.values.specs.Values.{valueAt, S, T}
+use Rattle.values.specs.Values.{valueAt, targetAt}
 use Rattle.rules.specs.Rules.{symbolWell, formWell, pairWell, distanceWell, boundaryWell}
 use Rattle.rules.specs.Search.{number, finding, findingOf, isBroken, relocationCheck}
 use Rattle.judgement.specs.Facts.{Readable, Named, Placeable, Fitting}
@@ -81,7 +81,7 @@ module _ (object order : List ℕ) where
 
   means : (k : ℕ) → Means k (findingOf object order (addresses order) k)
   unfolding findingOf finding
-  means k = go (shapeWell object x j) refl (symbolWell object x j v) refl (formWell object x j) refl (pairWell object x j) refl (distanceWell d t (P object x j)) refl (boundaryWell d (P object x j) (A object x j)) refl
+  means k = go (shapeWell object x j) refl (symbolWell object x j v) refl (formWell object x j) refl (pairWell object x j) refl (distanceWell (addressWidth object) d t (P object x j)) refl (boundaryWell d (P object x j) (A object x j)) refl
     where
       x : Site
       x = site object order k
@@ -96,10 +96,10 @@ module _ (object order : List ℕ) where
       d = effect object x j
 
       t : ℕ
-      t = T (S v) (A object x j)
+      t = targetAt object order (addresses order) x j
 
       go : (a : Bool) → shapeWell object x j ≡ a → (b : Bool) → symbolWell object x j v ≡ b → (c : Bool) → formWell object x j ≡ c → (p : Bool) → pairWell object x j ≡ p
-          → (q : Bool) → distanceWell d t (P object x j) ≡ q → (r : Bool) → boundaryWell d (P object x j) (A object x j) ≡ r
+          → (q : Bool) → distanceWell (addressWidth object) d t (P object x j) ≡ q → (r : Bool) → boundaryWell d (P object x j) (A object x j) ≡ r
           → Means k (cond a (cond b (cond c (cond p (cond q (cond r Kept OffBoundary) OutOfReach) NoPair) BadForm) BadSymbol) BadShape)
       go false e₁ b e₂ c e₃ p e₄ q e₅ r e₆ = inl (refl, λ s. clash _ e₁ (well-shape object x j s))
       go true e₁ false e₂ c e₃ p e₄ q e₅ r e₆ = inr (shape-well object x j e₁, inl (refl, λ s. clash _ e₂ (well-symbol object x j v s)))
@@ -283,10 +283,10 @@ module _ (object order : List ℕ) (f : Files) where
   verdict4 = afterObject (objectCheck object) verdict6
 
   abbrev checks3 : Checks
-  checks3 = one 3 (WindowWell (base order) len) checks4
+  checks3 = one 3 (WindowWell (addressWidth object) (base order) len) checks4
 
   abbrev verdict3 : Verdict
-  verdict3 = cond (windowAllowed (base order) len) verdict4 (refused (says 3 0))
+  verdict3 = cond (windowAllowed (addressWidth object) (base order) len) verdict4 (refused (says 3 0))
 
   -- each check, where those before it pass
   told15 : Fitting object order (countsOf order) len → Told checks15 (settle f (plan (planOf object order)) .answer)
@@ -322,9 +322,9 @@ module _ (object order : List ℕ) (f : Files) where
 
   told3 : wellFormed order ≡ true → Told checks3 (settle f verdict3 .answer)
   told3 o =
-      alone f checks4 verdict4 3 (WindowWell (base order) len) (windowAllowed (base order) len)
+      alone f checks4 verdict4 3 (WindowWell (addressWidth object) (base order) len) (windowAllowed (addressWidth object) (base order) len)
       (λ w. object-told object f checks6 verdict6 (λ p. told6 (record { reading-is = sound-reading order (countsOf order) (wellFormed-sound order o); window = w; object-is = p })))
-      (window-well (base order) len) (λ e w. clash (windowAllowed (base order) len) e (well-window (base order) len w))
+      (window-well (addressWidth object) (base order) len) (λ e w. clash (windowAllowed (addressWidth object) (base order) len) e (well-window (addressWidth object) (base order) len w))
 
   told2 : Told (one 2 (OrderWell order) checks3) (settle f (judgement object order len) .answer)
   unfolding judgement

@@ -14,7 +14,7 @@ use Rattle.fields.specs.declared.Width.the-variants.{W32}
 use Rattle.fields.specs.declared.Field.the-variants.{Data}
 use Rattle.fields.specs.Layouts.{read, put}
 use Rattle.fields.specs.Fields.{layout}
-use Rattle.elf.specs.Headers.{sectionCount}
+use Rattle.elf.specs.Headers.{addressWidth, sectionCount}
 use Rattle.elf.specs.Sections.{sectionAt, allocated, loaded, targets, countingRela, relocationsIn}
 use Rattle.elf.specs.Entries.{bytesOf, relocationAt}
 use Rattle.order.specs.Orders.{base, entryAt, ascending, wellFormed}
@@ -99,7 +99,7 @@ missing =
       inr (
         at-once 2 (order-well bare refl),
         inr (
-          at-once 3 (window-well (base bare) (length (files .image)) refl),
+          at-once 3 (window-well (addressWidth object) (base bare) (length (files .image)) refl),
           inr (
             at-once 4 header-is,
             inr (

@@ -18,6 +18,7 @@ use Rattle.order.proofs.Laws.Sound.{Sound, countsOf, wellFormed-sound, reading-
 use Rattle.validate.specs.declared.ObjectCheck.{ObjectCheck}
 use Rattle.validate.specs.declared.ObjectCheck.the-variants.{Passed, BadHeader, BadSection}
 use Rattle.validate.specs.Rules.{objectCheck}
+use Rattle.elf.specs.Headers.{addressWidth}
 use Rattle.elf.specs.Entries.{relocationCount}
 use Rattle.plans.specs.Answers.{Answer, says}
 use Rattle.plans.specs.Plans.{Piece, refused, plan}
@@ -87,15 +88,15 @@ module _ (object order : List ℕ) (len : ℕ) where
   gives-2 e = rw (not-formed order e)
 
   module _ (counts : Counts) where
-    pub gives-3 : reading order ≡ WellFormed counts → windowAllowed (base order) len ≡ false → judgement object order len ≡ refused (says 3 0)
+    pub gives-3 : reading order ≡ WellFormed counts → windowAllowed (addressWidth object) (base order) len ≡ false → judgement object order len ≡ refused (says 3 0)
     unfolding judgement
     gives-3 e w = rw (formed order counts e, w)
 
-    pub gives-4 : reading order ≡ WellFormed counts → windowAllowed (base order) len ≡ true → objectCheck object ≡ BadHeader → judgement object order len ≡ refused (says 4 0)
+    pub gives-4 : reading order ≡ WellFormed counts → windowAllowed (addressWidth object) (base order) len ≡ true → objectCheck object ≡ BadHeader → judgement object order len ≡ refused (says 4 0)
     unfolding judgement
     gives-4 e w o = rw (formed order counts e, w, o)
 
-    pub gives-5 : (i : ℕ) → reading order ≡ WellFormed counts → windowAllowed (base order) len ≡ true → objectCheck object ≡ BadSection i → judgement object order len ≡ refused (says 5 i)
+    pub gives-5 : (i : ℕ) → reading order ≡ WellFormed counts → windowAllowed (addressWidth object) (base order) len ≡ true → objectCheck object ≡ BadSection i → judgement object order len ≡ refused (says 5 i)
     unfolding judgement
     gives-5 i e w o = rw (formed order counts e, w, o)
 
@@ -144,10 +145,10 @@ wrong a ps e =
 pub plan-fits : (object order : List ℕ) (len : ℕ) (ps : List Piece) → judgement object order len ≡ plan ps → Fits object order len ps
 unfolding judgement
 plan-fits object order len ps h =
-    go (wellFormed order) refl (windowAllowed (base order) len) refl (objectCheck object) refl (placementCheck object order) refl (externalCheck object order) refl
+    go (wellFormed order) refl (windowAllowed (addressWidth object) (base order) len) refl (objectCheck object) refl (placementCheck object order) refl (externalCheck object order) refl
     (placingCheck object (addresses order) (base order) len) refl (relocationCheck object order (addresses order)) refl h
   where
-    go : (a : Bool) → wellFormed order ≡ a → (b : Bool) → windowAllowed (base order) len ≡ b → (c : ObjectCheck) → objectCheck object ≡ c
+    go : (a : Bool) → wellFormed order ≡ a → (b : Bool) → windowAllowed (addressWidth object) (base order) len ≡ b → (c : ObjectCheck) → objectCheck object ≡ c
         → (d : Fault) → placementCheck object order ≡ d → (e : Fault) → externalCheck object order ≡ e
         → (f : Fault) → placingCheck object (addresses order) (base order) len ≡ f → (g : RelocationCheck) → relocationCheck object order (addresses order) ≡ g
         → cond a (cond b (afterObject c (afterFault 6 d (afterFault 7 e (afterFault 8 f (afterRelocations g (plan (planOf object order))))))) (refused (says 3 0))) (refused (says 2 0)) ≡ plan ps
