@@ -32,8 +32,8 @@ span-of-requires c κs =
     let o = a .order .now in
     let f = c .before .before .before .before .before .pre in
     let len = length (a .image .now) in
-    let base-is : a .counts .base ≡ base o = reading-sound o (a .counts) (f .0 .placeable .named .readable .reading-is) .base-is in
-    let low : highest s (c .address-array .result) (a .counts .base) (sectionCount s) < 4294967296 = rw (c .address-array .ensures, base-is) (ends-low s o (a .counts) len (f .0)) in
+    let base-is : a .counts .base .0 ≡ base o = reading-sound o (a .counts) (f .0 .placeable .named .readable .reading-is) .base-is in
+    let low : highest s (c .address-array .result) (a .counts .base .0) (sectionCount s) < 4294967296 = rw (c .address-array .ensures, base-is) (ends-low s o (a .counts) len (f .0)) in
     (is-sound s o (a .counts) len (f .0), low)
 
 returns : tie.Need-returns
@@ -43,10 +43,10 @@ returns c =
     let o = a .order .now in
     let f = c .before .before .before .before .before .before .before .before .before .pre in
     let len = length (a .image .now) in
-    let base-is : a .counts .base ≡ base o = reading-sound o (a .counts) (f .0 .placeable .named .readable .reading-is) .base-is in
+    let base-is : a .counts .base .0 ≡ base o = reading-sound o (a .counts) (f .0 .placeable .named .readable .reading-is) .base-is in
     let files : Files = record { image = a .image .now; journal = a .journal .now } in
     let span : c .before .before .before .span-of .result ≡ spanOfPieces (planOf s o) =
-    c .before .before .before .span-of .ensures ∙ ap (λ l. spanOf s l (a .counts .base)) (c .before .before .before .before .address-array .ensures) ∙ ap (spanOf s (addresses o)) base-is ∙ span-is s o (a .counts) len (f .0) in
+    c .before .before .before .span-of .ensures ∙ ap (λ l. spanOf s l (a .counts .base .0)) (c .before .before .before .before .address-array .ensures) ∙ ap (spanOf s (addresses o)) base-is ∙ span-is s o (a .counts) len (f .0) in
     let none : noRoom (count (a .journal .now)) (held (a .journal .now)) (spanOfPieces (planOf s o) .size) (length (a .journal .now)) ≡ true =
     ap (λ x. noRoom (count (a .journal .now)) (held (a .journal .now)) (x .size) (length (a .journal .now))) (sym span) ∙ not-false _ (sym (c .before .has-room .ensures) ∙ not-true _ (c .if1 .taken)) in
     full judgement s o files (f .1) (planOf s o) (gives-plan s o len (a .counts) (f .0)) none
@@ -58,10 +58,10 @@ save-requires c κs =
     let o = a .order .now in
     let f = c .before .before .before .before .before .before .before .before .before .before .before .pre in
     let len = length (a .image .now) in
-    let base-is : a .counts .base ≡ base o = reading-sound o (a .counts) (f .0 .placeable .named .readable .reading-is) .base-is in
+    let base-is : a .counts .base .0 ≡ base o = reading-sound o (a .counts) (f .0 .placeable .named .readable .reading-is) .base-is in
     let files : Files = record { image = a .image .now; journal = a .journal .now } in
     let span : c .before .before .before .before .before .span-of .result ≡ spanOfPieces (planOf s o) =
-    c .before .before .before .before .before .span-of .ensures ∙ ap (λ l. spanOf s l (a .counts .base)) (c .before .before .before .before .before .before .address-array .ensures) ∙ ap (spanOf s (addresses o)) base-is ∙ span-is s o (a .counts) len (f .0) in
+    c .before .before .before .before .before .span-of .ensures ∙ ap (λ l. spanOf s l (a .counts .base .0)) (c .before .before .before .before .before .before .address-array .ensures) ∙ ap (spanOf s (addresses o)) base-is ∙ span-is s o (a .counts) len (f .0) in
     let room : noRoom (count (a .journal .now)) (held (a .journal .now)) (spanOfPieces (planOf s o) .size) (length (a .journal .now)) ≡ false =
     ap (λ x. noRoom (count (a .journal .now)) (held (a .journal .now)) (x .size) (length (a .journal .now))) (sym span) ∙ not-true _ (sym (c .before .before .before .has-room .ensures) ∙ not-false _ (c .before .before .if1 .left)) in
     subst (Savable (a .image .now) (a .journal .now)) (sym span) (plan-savable (a .image .now) (a .journal .now) (planOf s o) (f .1) (length-fits s o (a .counts) len (f .0)) room (plan-inside s o (a .counts) len (f .0)))
@@ -76,10 +76,10 @@ returns-2 c =
     let o = a .order .now in
     let f = c .before .before .before .before .before .before .before .before .before .before .before .before .before .before .before .before .before .before .pre in
     let len = length (a .image .now) in
-    let base-is : a .counts .base ≡ base o = reading-sound o (a .counts) (f .0 .placeable .named .readable .reading-is) .base-is in
+    let base-is : a .counts .base .0 ≡ base o = reading-sound o (a .counts) (f .0 .placeable .named .readable .reading-is) .base-is in
     let files : Files = record { image = a .image .now; journal = a .journal .now } in
     let span : c .before .before .before .before .before .before .before .before .before .before .before .before .span-of .result ≡ spanOfPieces (planOf s o) =
-    c .before .before .before .before .before .before .before .before .before .before .before .before .span-of .ensures ∙ ap (λ l. spanOf s l (a .counts .base)) (c .before .before .before .before .before .before .before .before .before .before .before .before .before .address-array .ensures) ∙ ap (spanOf s (addresses o)) base-is ∙ span-is s o (a .counts) len (f .0) in
+    c .before .before .before .before .before .before .before .before .before .before .before .before .span-of .ensures ∙ ap (λ l. spanOf s l (a .counts .base .0)) (c .before .before .before .before .before .before .before .before .before .before .before .before .before .address-array .ensures) ∙ ap (spanOf s (addresses o)) base-is ∙ span-is s o (a .counts) len (f .0) in
     let room : noRoom (count (a .journal .now)) (held (a .journal .now)) (spanOfPieces (planOf s o) .size) (length (a .journal .now)) ≡ false =
     ap (λ x. noRoom (count (a .journal .now)) (held (a .journal .now)) (x .size) (length (a .journal .now))) (sym span) ∙ not-true _ (sym (c .before .before .before .before .before .before .before .before .before .before .has-room .ensures) ∙ not-false _ (c .before .before .before .before .before .before .before .before .before .if1 .left)) in
     done-with judgement s o files (f .1) (planOf s o) (gives-plan s o len (a .counts) (f .0)) room _ (c .before .before .lay .ensures) (c .before .before .before .before .before .before .save .ensures ∙ ap (saved (a .image .now) (a .journal .now)) span)

@@ -66,7 +66,7 @@ sub-at c =
     let some : hasBytes (sectionAt s (a .t)) ≡ true = unfold hasBytes in (ap (λ h. loaded h && ltb 0 (h .size)) (sym header) ∙ ap (λ l. l && ltb 0 (c .before .before .before .before .read-section .result .size)) (sym (c .before .before .before .is-loaded .ensures)) ∙ some-bytes (c .before .before .before .is-loaded .result) (c .before .before .before .before .read-section .result .size) (c .before .if1 .left)) in
     let inside = bytes-inside s o (a .counts) (length (a .image .now)) (f .0) (a .t) (f .2) some in
     let size : c .before .before .before .before .read-section .result .size ≡ sectionAt s (a .t) .size = ap (λ h. h .size) header in
-    let base-is : a .counts .base ≡ base o = reading-sound o (a .counts) (f .0 .placeable .named .readable .reading-is) .base-is in
+    let base-is : a .counts .base .0 ≡ base o = reading-sound o (a .counts) (f .0 .placeable .named .readable .reading-is) .base-is in
     let address : getD (a .t4) (a .t) 0 ≡ getD (addresses o) (a .t) 0 = ap (λ l. getD l (a .t) 0) (f .1) in
     omega (arith, inside .0)
 
@@ -81,7 +81,7 @@ cast-lay-at c =
     let some : hasBytes (sectionAt s (a .t)) ≡ true = unfold hasBytes in (ap (λ h. loaded h && ltb 0 (h .size)) (sym header) ∙ ap (λ l. l && ltb 0 (c .before .before .before .before .read-section .result .size)) (sym (c .before .before .before .is-loaded .ensures)) ∙ some-bytes (c .before .before .before .is-loaded .result) (c .before .before .before .before .read-section .result .size) (c .before .if1 .left)) in
     let inside = bytes-inside s o (a .counts) (length (a .image .now)) (f .0) (a .t) (f .2) some in
     let size : c .before .before .before .before .read-section .result .size ≡ sectionAt s (a .t) .size = ap (λ h. h .size) header in
-    let base-is : a .counts .base ≡ base o = reading-sound o (a .counts) (f .0 .placeable .named .readable .reading-is) .base-is in
+    let base-is : a .counts .base .0 ≡ base o = reading-sound o (a .counts) (f .0 .placeable .named .readable .reading-is) .base-is in
     let address : getD (a .t4) (a .t) 0 ≡ getD (addresses o) (a .t) 0 = ap (λ l. getD l (a .t) 0) (f .1) in
     omega (arith, inside .0, inside .1, length-short s o (a .counts) (length (a .image .now)) (f .0))
 
@@ -96,7 +96,7 @@ lay-at-requires c κs =
     let some : hasBytes (sectionAt s (a .t)) ≡ true = unfold hasBytes in (ap (λ h. loaded h && ltb 0 (h .size)) (sym header) ∙ ap (λ l. l && ltb 0 (c .before .before .before .before .before .read-section .result .size)) (sym (c .before .before .before .before .is-loaded .ensures)) ∙ some-bytes (c .before .before .before .before .is-loaded .result) (c .before .before .before .before .before .read-section .result .size) (c .before .before .if1 .left)) in
     let inside = bytes-inside s o (a .counts) (length (a .image .now)) (f .0) (a .t) (f .2) some in
     let size : c .before .before .before .before .before .read-section .result .size ≡ sectionAt s (a .t) .size = ap (λ h. h .size) header in
-    let base-is : a .counts .base ≡ base o = reading-sound o (a .counts) (f .0 .placeable .named .readable .reading-is) .base-is in
+    let base-is : a .counts .base .0 ≡ base o = reading-sound o (a .counts) (f .0 .placeable .named .readable .reading-is) .base-is in
     let address : getD (a .t4) (a .t) 0 ≡ getD (addresses o) (a .t) 0 = ap (λ l. getD l (a .t) 0) (f .1) in
     (f .0, f .1, f .2, bytes-loaded s o (a .counts) (length (a .image .now)) (f .0) (a .t) some, omega (arith, inside .0, inside .1))
 
@@ -111,9 +111,9 @@ returns-2 c =
     let some : hasBytes (sectionAt s (a .t)) ≡ true = unfold hasBytes in (ap (λ h. loaded h && ltb 0 (h .size)) (sym header) ∙ ap (λ l. l && ltb 0 (c .before .before .before .before .before .before .before .before .read-section .result .size)) (sym (c .before .before .before .before .before .before .before .is-loaded .ensures)) ∙ some-bytes (c .before .before .before .before .before .before .before .is-loaded .result) (c .before .before .before .before .before .before .before .before .read-section .result .size) (c .before .before .before .before .before .if1 .left)) in
     let inside = bytes-inside s o (a .counts) (length (a .image .now)) (f .0) (a .t) (f .2) some in
     let size : c .before .before .before .before .before .before .before .before .read-section .result .size ≡ sectionAt s (a .t) .size = ap (λ h. h .size) header in
-    let base-is : a .counts .base ≡ base o = reading-sound o (a .counts) (f .0 .placeable .named .readable .reading-is) .base-is in
+    let base-is : a .counts .base .0 ≡ base o = reading-sound o (a .counts) (f .0 .placeable .named .readable .reading-is) .base-is in
     let address : getD (a .t4) (a .t) 0 ≡ getD (addresses o) (a .t) 0 = ap (λ l. getD l (a .t) 0) (f .1) in
-    let at : getD (a .t4) (a .t) 0 - a .counts .base ≡ getD (addresses o) (a .t) 0 - base o = omega arith in
+    let at : getD (a .t4) (a .t) 0 - a .counts .base .0 ≡ getD (addresses o) (a .t) 0 - base o = omega arith in
     c .before .before .lay-at .ensures ∙ ap (λ k. sets (a .image .now) k (relocated s o (addresses o) (a .t))) at ∙ sym (with-some s o (a .image .now) (a .t) some)
 
 pub lay-one-spec : {M : Type 1} → statement M
