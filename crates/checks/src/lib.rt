@@ -29,6 +29,7 @@ use types::decide;
 use values::pairs::Pair;
 use values::pairs::hi20_pair;
 use word::Address;
+use word::SectionOffset;
 
 fn is_resolved(value: SymbolValue) -> bool
     ensures { λ r. ⌜ r ≡ isResolved value ⌝ }
@@ -95,12 +96,13 @@ fn is_data(form: Form) -> bool
     }
 }
 
-// Whether the n bytes at a place of a section, at address p, have a form.
-fn has_form_at(s: &[u8], at: usize, n: usize, form: Form, p: u64) -> bool
-    requires { ⌜ (at + n ≤ length (now s)) × (isWidth n ≡ true) ⌝ }
-    ensures { λ r. ⌜ r ≡ standsWell form p (leAt n (now (s .entry)) at) ⌝ }
+// Whether the n bytes at an offset of a section, which starts at an address, have a form.
+fn has_form_at(s: &[u8], start: Address, at: SectionOffset, n: usize, form: Form) -> bool
+    requires { ⌜ (at .0 + n ≤ length (now s)) × (isWidth n ≡ true) ⌝ }
+    ensures { λ r. ⌜ r ≡ standsWell form (start .0 + at .0) (leAt n (now (s .entry)) (at .0)) ⌝ }
 {
-    let w = read_bytes(s, at, n);
+    let w = read_bytes(s, at.0 as usize, n);
+    let p = start.0 as u64 + at.0 as u64;
     is_data(form) | ((p % 2 == 0) & has_form(form, w, w / 0x1_0000_0000))
 }
 
@@ -110,11 +112,10 @@ pub fn is_form_kept(object: &[u8], site: Site, j: usize) -> bool
     ensures { λ r. ⌜ r ≡ formWell (now (object .entry)) site j ⌝ }
 {
     let here = elf::read_relocation(object, site.rela, j);
-    let at = here.offset.0 as usize;
-    let p = site.address.0 as u64 + here.offset.0 as u64;
     match decide(here.kind) {
         Decision::Store(_, _, form, n) => {
-            has_form_at(elf::section_bytes(object, site.target), at, n, form, p)
+            let bytes = elf::section_bytes(object, site.target);
+            has_form_at(bytes, site.address, here.offset, n, form)
         }
         Decision::Marker => true,
         Decision::Align => true,
@@ -145,12 +146,12 @@ pub fn is_paired(object: &[u8], symbols: Symbols, site: Site, j: usize) -> bool
 }
 
 // Whether a distance from p to t is allowed for a calculation and its field.
-fn reaches_well(calculation: Calculation, field: Field, t: u32, p: u32) -> bool
-    ensures { λ r. ⌜ r ≡ reachesWell 32 calculation field t p ⌝ }
+fn reaches_well(calculation: Calculation, field: Field, t: Address, p: Address) -> bool
+    ensures { λ r. ⌜ r ≡ reachesWell 32 calculation field (t .0) (p .0) ⌝ }
 {
     match calculation {
         Calculation::Distance => in_reach(range_of(field), t, p),
-        Calculation::BothHalves => arith::sub32(t, p as u64) % 2 == 0,
+        Calculation::BothHalves => arith::sub32(t.0, p.0 as u64) % 2 == 0,
         Calculation::Absolute => true,
         Calculation::PcRelative => true,
         Calculation::HighPcRelative => true,
@@ -164,11 +165,11 @@ fn reaches_well(calculation: Calculation, field: Field, t: u32, p: u32) -> bool
 }
 
 // Check 13.
-pub fn is_in_reach(decision: Decision, t: u32, p: Address) -> bool
-    ensures { λ r. ⌜ r ≡ distanceWell 32 decision t (p .0) ⌝ }
+pub fn is_in_reach(decision: Decision, t: Address, p: Address) -> bool
+    ensures { λ r. ⌜ r ≡ distanceWell 32 decision (t .0) (p .0) ⌝ }
 {
     match decision {
-        Decision::Store(calculation, field, _, _) => reaches_well(calculation, field, t, p.0),
+        Decision::Store(calculation, field, _, _) => reaches_well(calculation, field, t, p),
         Decision::Marker => true,
         Decision::Align => true,
         Decision::Refused => true,
@@ -176,10 +177,11 @@ pub fn is_in_reach(decision: Decision, t: u32, p: Address) -> bool
 }
 
 // Check 14.
-pub fn is_on_boundary(decision: Decision, p: u64, addend: u64) -> bool
-    requires { ⌜ (p ≤ 2 ^ 33) × (decision ≡ Decision.Align → addend ≤ 4094) ⌝ }
-    ensures { λ r. ⌜ r ≡ boundaryWell decision p (signed 64 addend) ⌝ }
+pub fn is_on_boundary(decision: Decision, start: Address, at: SectionOffset, addend: u64) -> bool
+    requires { ⌜ (decision ≡ Decision.Align → addend ≤ 4094) ⌝ }
+    ensures { λ r. ⌜ r ≡ boundaryWell decision (start .0 + at .0) (signed 64 addend) ⌝ }
 {
+    let p = start.0 as u64 + at.0 as u64;
     match decision {
         Decision::Align => (p + addend) % arith::ceil_power(addend as u32 + 2) == 0,
         Decision::Store(_, _, _, _) => true,

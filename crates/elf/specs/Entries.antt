@@ -6,6 +6,7 @@ use mathlib.Core.List.{List}
 use lib.Dec.{ltb}
 use Rattle.word.specs.Bytes.{leAt, part}
 use Rattle.word.specs.First.{first}
+use Rattle.word.specs.Places.{sectionOffset}
 use Rattle.word.specs.Whole.{residue, signed}
 use Rattle.elf.specs.declared.Section.{Section}
 use Rattle.elf.specs.declared.Symbol.{Symbol}
@@ -27,7 +28,7 @@ unfoldable pub symbolAt : List ℕ → Section → ℕ → Symbol
 symbolAt s h k =
     let at = h .offset .0 + 16 * k in
     record {
-      value = leAt 4 s (at + 4);
+      value = sectionOffset (leAt 4 s (at + 4));
       kind = leAt 1 s (at + 12) % 16;
       binding = leAt 1 s (at + 12) / 16;
       section = leAt 2 s (at + 14);
@@ -38,7 +39,7 @@ unfoldable pub relocationAt : List ℕ → Section → ℕ → Relocation
 relocationAt s h k =
     let at = h .offset .0 + 12 * k in
     record {
-      offset = record { 0 = leAt 4 s at };
+      offset = sectionOffset (leAt 4 s at);
       kind = leAt 4 s (at + 4) % 256;
       symbol = leAt 4 s (at + 4) / 256;
       addend = residue 64 (signed 32 (leAt 4 s (at + 8)));

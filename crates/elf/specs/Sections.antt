@@ -5,6 +5,7 @@ use mathlib.Core.List.{List}
 use lib.Dec.{ltb, eqb}
 use Rattle.word.specs.Bytes.{leAt}
 use Rattle.word.specs.First.{first}
+use Rattle.word.specs.Places.{fileOffset}
 use Rattle.word.specs.Sums.{sum}
 use Rattle.elf.specs.declared.Section.{Section}
 use Rattle.elf.specs.Headers.{sectionTable, sectionCount}
@@ -32,7 +33,7 @@ sectionAt s i =
     record {
       kind = leAt 4 s (at + 4);
       flags = leAt 4 s (at + 8);
-      offset = record { 0 = leAt 4 s (at + 16) };
+      offset = fileOffset (leAt 4 s (at + 16));
       size = leAt 4 s (at + 20);
       link = leAt 4 s (at + 24);
       info = leAt 4 s (at + 28);

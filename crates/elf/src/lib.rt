@@ -24,9 +24,9 @@ pub struct Section {
     pub entsize: u32,
 }
 
-// A symbol: its type and binding, and the section that it is defined in.
+// A symbol: its type and binding, the section that it is defined in, and its value there.
 pub struct Symbol {
-    pub value: u32,
+    pub value: SectionOffset,
     pub kind: u8,
     pub binding: u8,
     pub section: u16,
@@ -181,7 +181,7 @@ pub fn read_symbol(object: &[u8], table: Section, k: usize) -> Symbol
     let at = table.offset.0 as usize + 16 * k;
     let info = endian::read8(object, at + 12);
     Symbol {
-        value: endian::read32(object, at + 4),
+        value: SectionOffset(endian::read32(object, at + 4)),
         kind: info % 16,
         binding: info / 16,
         section: endian::read16(object, at + 14),

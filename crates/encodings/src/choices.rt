@@ -3,6 +3,7 @@ ghost use Prim.Native.Nat.{_<_};
 use fields::Field;
 use fields::Width;
 use riscv::ranges::Range;
+use word::Address;
 
 pub fn width(number: u64) -> Width {
     match number {
@@ -66,16 +67,16 @@ pub fn range(number: u64) -> Range {
 
 // A jump's target and its own address.
 pub struct Jump {
-    pub t: u32,
-    pub p: u32,
+    pub t: Address,
+    pub p: Address,
 }
 
 // Jumps to an end, one byte and two past it, to themselves, and once around the address space.
 pub fn case(ends: Range, number: u64) -> Jump {
     if number == 7 {
         return Jump {
-            t: 0xffff_fffe,
-            p: 0,
+            t: Address(0xffff_fffe),
+            p: Address(0),
         };
     }
     let p: u32 = 0x8000_0000;
@@ -90,7 +91,10 @@ pub fn case(ends: Range, number: u64) -> Jump {
         5 => std::num::wrapping_sub_u32(first, 2),
         _ => p,
     };
-    Jump { t: t, p: p }
+    Jump {
+        t: Address(t),
+        p: Address(p),
+    }
 }
 
 // The opcodes of the forms, and two with the low bits of a 16-bit instruction.

@@ -82,8 +82,8 @@ pub fn reach(number: u64, place: u64) {
     let ends = choices::range(number);
     let jump = choices::case(ends, place);
     first(b'r', number);
-    then(jump.t as u64);
-    then(jump.p as u64);
+    then(jump.t.0 as u64);
+    then(jump.p.0 as u64);
     flag(riscv::ranges::in_reach(ends, jump.t, jump.p));
     end();
 }

@@ -48,7 +48,7 @@ fn lay_one(
     if !elf::is_loaded(h) | (h.size == 0) {
         return;
     }
-    let at = addresses[t] - counts.base;
+    let at = addresses[t] - counts.base.0;
     lay_at(object, order, counts, addresses, t, at as usize, image);
 }
 

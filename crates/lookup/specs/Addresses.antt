@@ -10,7 +10,7 @@ use Rattle.lookup.specs.Values.{valueIn}
 
 -- the address of a section, or 0, which means nothing, for one that the order does not place
 abbrev pub orZero : Value → ℕ
-orZero (Given a) = a
+orZero (Given a) = a .0
 orZero NotGiven = 0
 
 -- the address that an order gives a section, if it places it

@@ -7,10 +7,11 @@ ghost use Rattle.lookup.specs.Addresses.{placedAt, addresses};
 use elf::MAX_SECTIONS;
 use order::Counts;
 use order::Reading;
+use word::Address;
 
-// The value that an order gives.
+// The address or value that an order gives.
 pub enum Value {
-    Given(u32),
+    Given(Address),
     NotGiven,
 }
 
@@ -25,7 +26,8 @@ fn find(order: &[u8], at: usize, n: usize, k: u32) -> Value
         let middle = low + (high - low) / 2;
         let e = order::read_entry(order, at, middle);
         if e.index == k {
-            return Value::Given(e.value);
+            let value = e.value;
+            return Value::Given(value);
         }
         if e.index < k {
             low = middle + 1;
@@ -68,7 +70,7 @@ pub fn address_array(order: &[u8], counts: Counts) -> Addresses
         let e = order::read_entry(order, 12, i);
         let section = e.index as usize;
         if section < MAX_SECTIONS {
-            array[section] = e.value;
+            array[section] = e.value.0;
         }
         i += 1;
     }

@@ -12,6 +12,8 @@ use lib.ListN.{length}
 use lib.Dec.{leb, ltb, eqb}
 use Rattle.word.specs.Bytes.{leAt, bytes}
 use Rattle.word.specs.First.{everywhere, tabulate}
+use Rattle.word.specs.Places.{address}
+use Rattle.word.specs.declared.Address.{Address}
 use Rattle.order.specs.declared.Entry.{Entry}
 use Rattle.order.specs.declared.Reading.{Reading}
 use Rattle.order.specs.declared.Reading.the-variants.{Malformed, WellFormed}
@@ -20,7 +22,7 @@ use Rattle.order.specs.declared.Reading.the-variants.{Malformed, WellFor
 
 -- what an order says
 pub record Order : Type 0 where
-  pub base : ℕ
+  pub base : Address
   pub placements : List Entry
   pub externals : List Entry
 
@@ -33,13 +35,13 @@ maxExternals = 1024
 -- an entry: a number of a section or a symbol, and its address or value
 unfoldable pub encodeEntries : List Entry → List ℕ
 encodeEntries [] = []
-encodeEntries (e ∷ es) = bytes 4 (e .index) ++ bytes 4 (e .value) ++ encodeEntries es
+encodeEntries (e ∷ es) = bytes 4 (e .index) ++ bytes 4 (e .value .0) ++ encodeEntries es
 
 -- the bytes of an order: each part after its count
 unfoldable pub encode : Order → List ℕ
 encode o =
     bytes 4 1
-    ++ bytes 4 (o .base)
+    ++ bytes 4 (o .base .0)
     ++ bytes 4 (length (o .placements))
     ++ encodeEntries (o .placements)
     ++ bytes 4 (length (o .externals))
@@ -49,7 +51,7 @@ encode o =
 
 -- entry i of a list that starts at a place
 unfoldable pub entryAt : List ℕ → ℕ → ℕ → Entry
-entryAt s at i = record { index = leAt 4 s (at + 8 * i); value = leAt 4 s (at + 8 * i + 4) }
+entryAt s at i = record { index = leAt 4 s (at + 8 * i); value = address (leAt 4 s (at + 8 * i + 4)) }
 
 -- the base, and the placements
 abbrev pub base : List ℕ → ℕ
@@ -91,7 +93,7 @@ wellFormed s =
 unfoldable pub orderOf : List ℕ → Order
 orderOf s =
     record {
-      base = base s;
+      base = address (base s);
       placements = tabulate (placement s) (placementCount s);
       externals = tabulate (external s) (externalCount s);
     }
@@ -100,5 +102,5 @@ orderOf s =
 unfoldable pub reading : List ℕ → Reading
 reading s =
     cond (wellFormed s)
-    (WellFormed (record { base = base s; placements = placementCount s; externals = externalCount s }))
+    (WellFormed (record { base = address (base s); placements = placementCount s; externals = externalCount s }))
     Malformed

@@ -4,6 +4,7 @@ ghost use Prim.Native.Nat.{_+_, _*_, _≤_};
 ghost use lib.ListN.{length};
 ghost use Rattle.order.specs.Orders.{reading, entryAt, ascending};
 ghost use Rattle.order.specs.Windows.{lengthAllowed, windowAllowed};
+use word::Address;
 
 pub const MAX_PLACEMENTS: usize = 32;
 
@@ -11,15 +12,15 @@ pub const MAX_EXTERNALS: usize = 1024;
 
 pub const MAX_IMAGE: usize = 65536;
 
-// A section and its address, or a symbol and its value.
+// A section and its address, or a symbol and its value, which is a run-time address too.
 pub struct Entry {
     pub index: u32,
-    pub value: u32,
+    pub value: Address,
 }
 
 // The window's base, and how many placements and external values there are.
 pub struct Counts {
-    pub base: u32,
+    pub base: Address,
     pub placements: usize,
     pub externals: usize,
 }
@@ -37,7 +38,7 @@ pub fn read_entry(order: &[u8], at: usize, i: usize) -> Entry
     let place = at + 8 * i;
     Entry {
         index: endian::read32(order, place),
-        value: endian::read32(order, place + 4),
+        value: Address(endian::read32(order, place + 4)),
     }
 }
 
@@ -90,7 +91,7 @@ pub fn read_order(order: &[u8]) -> Reading
         return Reading::Malformed;
     }
     Reading::WellFormed(Counts {
-        base: endian::read32(order, 4),
+        base: Address(endian::read32(order, 4)),
         placements,
         externals,
     })
@@ -104,11 +105,11 @@ pub fn length_allowed(len: usize) -> bool
 }
 
 // Check 3 of an install: the image's length, and that the window ends at or below 2^32.
-pub fn window_allowed(base: u32, len: usize) -> bool
-    ensures { λ r. ⌜ r ≡ windowAllowed 32 base len ⌝ }
+pub fn window_allowed(base: Address, len: usize) -> bool
+    ensures { λ r. ⌜ r ≡ windowAllowed 32 (base .0) len ⌝ }
 {
     if MAX_IMAGE < len {
         return false;
     }
-    base as usize + len <= 4294967296
+    base.0 as usize + len <= 4294967296
 }

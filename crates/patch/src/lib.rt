@@ -91,16 +91,16 @@ fn patch(calculation: Calculation, field: Field, w: u64, x: u64, p: Address, d: 
     requires { ⌜ onData calculation field ≡ true ⌝ }
     ensures { λ r. ⌜ r ≡ patched 32 calculation field w (signed 64 x) (p .0) d ⌝ }
 {
-    let t = (x % 0x1_0000_0000) as u32;
-    let distance = arith::sub32(t, p.0 as u64);
+    let t = Address((x % 0x1_0000_0000) as u32);
+    let distance = arith::sub32(t.0, p.0 as u64);
     match calculation {
-        Calculation::Absolute => put_field(field, w, t as u64),
+        Calculation::Absolute => put_field(field, w, t.0 as u64),
         Calculation::PcRelative => put_field(field, w, distance as u64),
         Calculation::Distance => put_field(field, w, distance as u64),
         Calculation::BothHalves => put_field(field, w, both_halves(distance)),
         Calculation::HighPcRelative => put_field(field, w, high_part(distance)),
-        Calculation::HighAbsolute => put_field(field, w, high_part(t)),
-        Calculation::LowAbsolute => put_field(field, w, low_part(t)),
+        Calculation::HighAbsolute => put_field(field, w, high_part(t.0)),
+        Calculation::LowAbsolute => put_field(field, w, low_part(t.0)),
         Calculation::LowOfPair => put_field(field, w, low_part(d)),
         Calculation::Add => add(data_width(field), w, x),
         Calculation::Sub => sub(data_width(field), w, x),
@@ -113,7 +113,7 @@ fn symbol_sum(value: SymbolValue, addend: u64) -> u64
     ensures { λ r. ⌜ r ≡ residue 64 (pos (S value) +ℤ signed 64 addend) ⌝ }
 {
     match value {
-        SymbolValue::Resolved(s) => arith::add64(s as u64, addend),
+        SymbolValue::Resolved(s) => arith::add64(s.0 as u64, addend),
         SymbolValue::Unresolved => arith::add64(0, addend),
     }
 }
@@ -153,8 +153,9 @@ fn distance_at(
     let here = elf::read_relocation(object, site.rela, j);
     let lookup = symbols::symbol_value(object, order, counts, symbols, addresses, here.symbol);
     let value = lookup.value;
+    let t = target_of(value, here.addend);
     let p = place_of(site, here);
-    arith::sub32(target_of(value, here.addend), p.0 as u64)
+    arith::sub32(t.0, p.0 as u64)
 }
 
 // T - P of the paired high half of relocation j, which is a PCREL_LO12.

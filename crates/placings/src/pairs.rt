@@ -9,6 +9,7 @@ use order::Reading;
 use place::Fault;
 use symbols::SymbolValue;
 use validate::ObjectCheck;
+use word::Address;
 
 pub fn line(object: &[u8], order: &[u8], len: usize) {
     match order::read_order(order) {
@@ -78,7 +79,7 @@ fn passed(object: &[u8], order: &[u8], counts: Counts, array: Addresses)
 fn addresses(array: Addresses) {
     let mut i: usize = 0;
     while i < 32 {
-        then(array[i]);
+        then(Address(array[i]));
         i += 1;
     }
 }
@@ -106,13 +107,13 @@ fn values(object: &[u8], order: &[u8], counts: Counts, array: Addresses)
 
 fn print(value: SymbolValue) {
     match value {
-        SymbolValue::Resolved(n) => then(n),
+        SymbolValue::Resolved(s) => then(s),
         SymbolValue::Unresolved => {
             io::write_all(1, b" -");
         }
     }
 }
 
-fn then(n: u32) {
-    harness::then(n as u64);
+fn then(address: Address) {
+    harness::then(address.0 as u64);
 }

@@ -1,4 +1,5 @@
 // The lines: their letter, and of a window what check 3 says.
+use word::Address;
 
 // Document 01's number and place, behind the letter.
 pub fn answer(kind: u8, number: u64, place: u64) {
@@ -8,10 +9,10 @@ pub fn answer(kind: u8, number: u64, place: u64) {
 }
 
 // w: check 3 of an install, then that of a rollback.
-pub fn window(base: u32, length: usize) {
+pub fn window(base: Address, length: usize) {
     answer(b'w', number(order::window_allowed(base, length)), 0);
     harness::then(number(order::length_allowed(length)));
-    harness::then(base as u64);
+    harness::then(base.0 as u64);
     harness::then(length as u64);
     harness::end();
 }

@@ -9,6 +9,7 @@ mod objects;
 mod orders;
 
 use harness::Command;
+use word::Address;
 
 fn main() {
     let mut space = [0u8; 65600];
@@ -32,7 +33,7 @@ fn step(space: &mut [u8], c: Command) {
         b's' => harness::store(space, a, b),
         b'o' => object(space, a),
         b'r' => order(space, a),
-        _ => lines::window(c.a, b),
+        _ => lines::window(Address(c.a), b),
     }
 }
 

@@ -155,7 +155,7 @@ fn symbol(digest: u64, s: &[u8], table: Section, k: usize) -> u64 {
         return digest;
     }
     let y = elf::read_symbol(s, table, k);
-    let a = digest::mix(digest, y.value as u64);
+    let a = digest::mix(digest, y.value.0 as u64);
     let b = digest::mix(a, y.kind as u64);
     let c = digest::mix(b, y.binding as u64);
     digest::mix(c, y.section as u64)

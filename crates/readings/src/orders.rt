@@ -10,6 +10,7 @@ use lookup::Value;
 use order::Counts;
 use order::Entry;
 use order::Reading;
+use word::Address;
 
 pub fn line(s: &[u8]) {
     match order::read_order(s) {
@@ -29,7 +30,7 @@ fn well_formed(s: &[u8], counts: Counts)
     }
     let start = 16 + 8 * placements;
     lines::answer(b'r', 0, 0);
-    harness::then(counts.base as u64);
+    harness::then(counts.base.0 as u64);
     harness::then(placements as u64);
     harness::then(counts.externals as u64);
     harness::then(entries(s, 12, placements));
@@ -46,7 +47,7 @@ fn entries(s: &[u8], at: usize, n: usize) -> u64 {
     while i < n {
         let e = entry(s, at, i);
         d = digest::mix(d, e.index as u64);
-        d = digest::mix(d, e.value as u64);
+        d = digest::mix(d, e.value.0 as u64);
         i += 1;
     }
     d
@@ -54,7 +55,10 @@ fn entries(s: &[u8], at: usize, n: usize) -> u64 {
 
 // Entry i of the list at `at`; zeros, if it did not lie in the order.
 fn entry(s: &[u8], at: usize, i: usize) -> Entry {
-    let none = Entry { index: 0, value: 0 };
+    let none = Entry {
+        index: 0,
+        value: Address(0),
+    };
     if 272 < at {
         return none;
     }
@@ -117,7 +121,7 @@ fn values(digest: u64, s: &[u8], counts: Counts, k: u32) -> u64
 
 fn value(digest: u64, v: Value) -> u64 {
     match v {
-        Value::Given(x) => digest::mix(digest, x as u64),
+        Value::Given(x) => digest::mix(digest, x.0 as u64),
         Value::NotGiven => digest::mix(digest, 0x1_0000_0000),
     }
 }

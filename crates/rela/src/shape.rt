@@ -13,6 +13,7 @@ use effects::needs_pair;
 use effects::stack_width;
 use types::Decision;
 use types::decide;
+use word::SectionOffset;
 
 // The previous non-marker of a relocation, among those of its site.
 pub enum Previous {
@@ -69,8 +70,8 @@ fn is_apart(object: &[u8], site: Site, k: usize, j: usize) -> bool
 }
 
 // The rules of an addend, at an offset in a section of a size.
-fn is_addend_allowed(decision: Decision, at: u32, size: u32, addend: u64) -> bool
-    ensures { λ r. ⌜ r ≡ addendWell decision at size (signed 64 addend) ⌝ }
+fn is_addend_allowed(decision: Decision, at: SectionOffset, size: u32, addend: u64) -> bool
+    ensures { λ r. ⌜ r ≡ addendWell decision (at .0) size (signed 64 addend) ⌝ }
 {
     match decision {
         Decision::Align => is_padding(at, size, addend),
@@ -81,13 +82,13 @@ fn is_addend_allowed(decision: Decision, at: u32, size: u32, addend: u64) -> boo
 }
 
 // Whether ALIGN's addend is even, from 0 to 4,094, and its padding ends in the section.
-fn is_padding(at: u32, size: u32, addend: u64) -> bool
-    ensures { λ r. ⌜ r ≡ addendWell Decision.Align at size (signed 64 addend) ⌝ }
+fn is_padding(at: SectionOffset, size: u32, addend: u64) -> bool
+    ensures { λ r. ⌜ r ≡ addendWell Decision.Align (at .0) size (signed 64 addend) ⌝ }
 {
     if 4094 < addend {
         return false;
     }
-    (addend % 2 == 0) & (at as u64 + addend <= size as u64)
+    (addend % 2 == 0) & (at.0 as u64 + addend <= size as u64)
 }
 
 // Check 9.
@@ -103,5 +104,5 @@ pub fn is_shape_kept(object: &[u8], site: Site, previous: Previous, j: usize) ->
         & never_falls(object, site, j)
         & inside
         & clear
-        & is_addend_allowed(decision, here.offset.0, site.target.size, here.addend)
+        & is_addend_allowed(decision, here.offset, site.target.size, here.addend)
 }

@@ -64,8 +64,7 @@ fn find_broken(
     ) {
         return Finding::OutOfReach;
     }
-    let p = site.address.0 as u64 + here.offset.0 as u64;
-    if !is_on_boundary(decision, p, here.addend) {
+    if !is_on_boundary(decision, site.address, here.offset, here.addend) {
         return Finding::OffBoundary;
     }
     Finding::Kept

@@ -2,6 +2,7 @@
 ghost use mathlib.Core.Path.{_≡_};
 ghost use Rattle.riscv.specs.Ranges.{distance, anywhere, rangeOf, reaches};
 use fields::Field;
+use word::Address;
 
 // Distances from -back to ahead.
 pub struct Range {
@@ -49,14 +50,14 @@ fn every_distance() -> Range
 }
 
 // Whether the distance from p to t is even and within a range.
-pub fn in_reach(range: Range, t: u32, p: u32) -> bool
-    ensures { λ r. ⌜ r ≡ reaches range (distance t p) ⌝ }
+pub fn in_reach(range: Range, t: Address, p: Address) -> bool
+    ensures { λ r. ⌜ r ≡ reaches range (distance (t .0) (p .0)) ⌝ }
 {
-    if p <= t {
-        let d = t - p;
+    if p.0 <= t.0 {
+        let d = t.0 - p.0;
         (d % 2 == 0) & (d <= range.ahead)
     } else {
-        let d = p - t;
+        let d = p.0 - t.0;
         (d % 2 == 0) & (d <= range.back)
     }
 }

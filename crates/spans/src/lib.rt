@@ -8,14 +8,9 @@ ghost use Rattle.placing.specs.Placing.{hasBytes};
 ghost use Rattle.spans.specs.Spans.{highest, lowestByte, spanOf};
 use elf::Section;
 use lookup::Addresses;
+use placing::has_bytes;
 use plans::Span;
-
-// Whether a section has bytes in the image.
-fn has_bytes(h: Section) -> bool
-    ensures { λ r. ⌜ r ≡ hasBytes h ⌝ }
-{
-    elf::is_loaded(h) & (0 < h.size)
-}
+use word::Address;
 
 fn larger(a: u64, b: u64) -> u64
     ensures { λ r. ⌜ r ≡ max a b ⌝ }
@@ -37,59 +32,59 @@ fn less(a: u64, b: u64) -> u64
 }
 
 // The end of the highest laid byte so far, with a section at an address.
-fn raised(h: Section, address: u32, base: u32, end: u64) -> u64
-    ensures { λ r. ⌜ r ≡ cond (hasBytes h) (max (address + h .size - base) end) end ⌝ }
+fn raised(h: Section, address: Address, base: Address, end: u64) -> u64
+    ensures { λ r. ⌜ r ≡ cond (hasBytes h) (max (address .0 + h .size - base .0) end) end ⌝ }
 {
     if !has_bytes(h) {
         return end;
     }
-    larger(less(address as u64 + h.size as u64, base as u64), end)
+    larger(less(address.0 as u64 + h.size as u64, base.0 as u64), end)
 }
 
 // The lowest laid byte so far, with a section at an address.
-fn lowered(h: Section, address: u32, base: u32, start: u64) -> u64
-    ensures { λ r. ⌜ r ≡ cond (hasBytes h) (min (address - base) start) start ⌝ }
+fn lowered(h: Section, address: Address, base: Address, start: u64) -> u64
+    ensures { λ r. ⌜ r ≡ cond (hasBytes h) (min (address .0 - base .0) start) start ⌝ }
 {
     if !has_bytes(h) {
         return start;
     }
-    smaller(less(address as u64, base as u64), start)
+    smaller(less(address.0 as u64, base.0 as u64), start)
 }
 
 // The end of the highest laid byte of the first n sections.
-fn highest_end(object: &[u8], addresses: Addresses, base: u32, n: usize) -> u64
+fn highest_end(object: &[u8], addresses: Addresses, base: Address, n: usize) -> u64
     requires { ⌜ SoundObject (now object) × (n ≤ sectionCount (now object)) ⌝ }
-    ensures { λ r. ⌜ r ≡ highest (now (object .entry)) addresses base n ⌝ }
+    ensures { λ r. ⌜ r ≡ highest (now (object .entry)) addresses (base .0) n ⌝ }
 {
     let mut end: u64 = 0;
     let mut i: usize = 0;
     while i < n {
         let h = elf::read_section(object, i);
-        end = raised(h, addresses[i], base, end);
+        end = raised(h, Address(addresses[i]), base, end);
         i += 1;
     }
     end
 }
 
 // The lowest laid byte of the first n sections; top with none laid.
-fn lowest_start(object: &[u8], addresses: Addresses, base: u32, top: u64, n: usize) -> u64
+fn lowest_start(object: &[u8], addresses: Addresses, base: Address, top: u64, n: usize) -> u64
     requires { ⌜ SoundObject (now object) × (n ≤ sectionCount (now object)) ⌝ }
-    ensures { λ r. ⌜ r ≡ lowestByte (now (object .entry)) addresses base top n ⌝ }
+    ensures { λ r. ⌜ r ≡ lowestByte (now (object .entry)) addresses (base .0) top n ⌝ }
 {
     let mut start = top;
     let mut i: usize = 0;
     while i < n {
         let h = elf::read_section(object, i);
-        start = lowered(h, addresses[i], base, start);
+        start = lowered(h, Address(addresses[i]), base, start);
         i += 1;
     }
     start
 }
 
 // The span of an install, counted from the image's first byte. Where check 8 passes it lies inside the image.
-pub fn span_of(object: &[u8], addresses: Addresses, base: u32) -> Span
-    requires { ⌜ SoundObject (now object) × (highest (now object) addresses base (sectionCount (now object)) < 4294967296) ⌝ }
-    ensures { λ r. ⌜ r ≡ spanOf (now (object .entry)) addresses base ⌝ }
+pub fn span_of(object: &[u8], addresses: Addresses, base: Address) -> Span
+    requires { ⌜ SoundObject (now object) × (highest (now object) addresses (base .0) (sectionCount (now object)) < 4294967296) ⌝ }
+    ensures { λ r. ⌜ r ≡ spanOf (now (object .entry)) addresses (base .0) ⌝ }
 {
     let n = elf::section_count(object);
     let end = highest_end(object, addresses, base, n);

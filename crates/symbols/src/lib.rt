@@ -10,10 +10,11 @@ use lookup::Addresses;
 use lookup::Value;
 use order::Counts;
 use order::Reading;
+use word::Address;
 
 // What a symbol is worth, or that it does not resolve.
 pub enum SymbolValue {
-    Resolved(u32),
+    Resolved(Address),
     Unresolved,
 }
 
@@ -25,7 +26,7 @@ fn undefined_value(symbol: Symbol, value: Value) -> SymbolValue
         Value::Given(v) => SymbolValue::Resolved(v),
         Value::NotGiven => {
             if symbol.binding == 2 {
-                SymbolValue::Resolved(0)
+                SymbolValue::Resolved(Address(0))
             } else {
                 SymbolValue::Unresolved
             }
@@ -54,10 +55,11 @@ fn value_in_section(
     let section = symbol.section;
     if place::is_allocated_section(object, section as u32) {
         let address = addresses[section as usize];
-        return SymbolValue::Resolved(arith::add32(address, symbol.value as u64));
+        return SymbolValue::Resolved(Address(arith::add32(address, symbol.value.0 as u64)));
     }
     if section == 0xfff1 {
-        return SymbolValue::Resolved(symbol.value);
+        // An absolute symbol is in no section: its value is the address itself.
+        return SymbolValue::Resolved(Address(symbol.value.0));
     }
     if section != 0 {
         return SymbolValue::Unresolved;
@@ -104,7 +106,7 @@ pub fn symbol_value(
     let at = k as usize;
     if at == 0 {
         return Lookup {
-            value: SymbolValue::Resolved(0),
+            value: SymbolValue::Resolved(Address(0)),
             addresses,
         };
     }

@@ -5,6 +5,7 @@ use mathlib.Core.List.{List}
 use lib.Dec.{eqb}
 use Rattle.word.specs.First.{first}
 use Rattle.word.specs.Sums.{sum}
+use Rattle.word.specs.declared.SectionOffset.{SectionOffset}
 use Rattle.rela.specs.declared.sites.Site.{Site}
 use Rattle.values.specs.declared.pairs.Pair.{Pair}
 use Rattle.values.specs.declared.pairs.Pair.the-variants.{At, NotOne}
@@ -14,14 +15,14 @@ abbrev pub PCREL_HI20 : ℕ
 PCREL_HI20 = 23
 
 -- "PCREL_HI20 record whose offset equals that value"
-unfoldable pub isPair : List ℕ → Site → ℕ → ℕ → Bool
-isPair object x value k = eqb (entry object x k .kind) PCREL_HI20 && eqb (offset object x k) value
+unfoldable pub isPair : List ℕ → Site → SectionOffset → ℕ → Bool
+isPair object x value k = eqb (entry object x k .kind) PCREL_HI20 && eqb (offset object x k) (value .0)
 
 -- at how many numbers below n p holds
 unfoldable pub howMany : (ℕ → Bool) → ℕ → ℕ
 howMany p n = sum (λ k. cond (p k) 1 0) n
 
 -- "There must be exactly one PCREL_HI20 record whose offset equals that value, among the same RELA row's records."
-unfoldable pub pairOf : List ℕ → Site → ℕ → Pair
+unfoldable pub pairOf : List ℕ → Site → SectionOffset → Pair
 pairOf object x value =
     cond (eqb (howMany (isPair object x value) (count x)) 1) (At (first (isPair object x value) (count x))) NotOne

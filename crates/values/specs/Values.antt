@@ -16,7 +16,7 @@ valueAt object order addresses x j = symbolValue object order addresses (entry o
 
 -- S; 0, which means nothing, for a symbol that does not resolve
 abbrev pub S : SymbolValue → ℕ
-S (Resolved v) = v
+S (Resolved v) = v .0
 S Unresolved = 0
 
 -- "S + A is reduced modulo 2^32, then called T": modulo 2^w, where addresses have w bits

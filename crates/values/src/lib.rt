@@ -10,12 +10,12 @@ use symbols::SymbolValue;
 use word::Address;
 
 // T: the symbol's value with the addend.
-pub fn target_of(value: SymbolValue, addend: u64) -> u32
-    ensures { λ r. ⌜ r ≡ T 32 (S value) (signed 64 addend) ⌝ }
+pub fn target_of(value: SymbolValue, addend: u64) -> Address
+    ensures { λ r. ⌜ r .0 ≡ T 32 (S value) (signed 64 addend) ⌝ }
 {
     match value {
-        SymbolValue::Resolved(s) => arith::add32(s, addend),
-        SymbolValue::Unresolved => arith::add32(0, addend),
+        SymbolValue::Resolved(s) => Address(arith::add32(s.0, addend)),
+        SymbolValue::Unresolved => Address(arith::add32(0, addend)),
     }
 }
 

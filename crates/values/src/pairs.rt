@@ -4,6 +4,7 @@ ghost use mathlib.Core.Bool.{cond};
 ghost use Rattle.values.specs.Pairs.{isPair, pairOf};
 ghost use Rattle.rela.specs.Facts.{SoundSite, There};
 use rela::sites::Site;
+use word::SectionOffset;
 
 // The one PCREL_HI20 at an offset, or that there is not exactly one.
 pub enum Pair {
@@ -12,12 +13,12 @@ pub enum Pair {
 }
 
 // Whether relocation k is a PCREL_HI20 at an offset.
-fn is_pair(object: &[u8], site: Site, offset: u32, k: usize) -> bool
+fn is_pair(object: &[u8], site: Site, offset: SectionOffset, k: usize) -> bool
     requires { ⌜ There (now object) site k ⌝ }
     ensures { λ r. ⌜ r ≡ isPair (now (object .entry)) site offset k ⌝ }
 {
     let r = elf::read_relocation(object, site.rela, k);
-    (r.kind == 23) & (r.offset.0 == offset)
+    (r.kind == 23) & (r.offset.0 == offset.0)
 }
 
 // k if it is chosen, else what was.
@@ -28,7 +29,7 @@ fn chosen(is: bool, k: usize, before: usize) -> usize
 }
 
 // The PCREL_HI20 of a site at an offset.
-pub fn hi20_pair(object: &[u8], site: Site, offset: u32) -> Pair
+pub fn hi20_pair(object: &[u8], site: Site, offset: SectionOffset) -> Pair
     requires { ⌜ SoundSite (now object) site ⌝ }
     ensures { λ r. ⌜ r ≡ pairOf (now (object .entry)) site offset ⌝ }
 {

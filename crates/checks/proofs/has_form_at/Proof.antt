@@ -6,8 +6,17 @@ use Rattle.checks.proofs.has_form_at.Tie as tie
 
 returns : tie.Need-returns
 unfolding standsWell
-returns c = rw (c .has-form .ensures, c .before .is-data .ensures, c .before .before .read-bytes .ensures)
+returns c = rw (c .has-form .ensures, c .before .is-data .ensures, c .before .before .before .before .read-bytes .ensures)
 
 pub has-form-at-spec : {M : Type 1} → statement M
 has-form-at-spec =
-    tie.close (tie.spec (λ c κs. search needs) (λ c κs. search needs) (λ c κs. search needs) returns)
+    tie.close
+    (tie.spec
+    (λ c. search needs)
+    (λ c κs. search needs)
+    (λ c. search needs)
+    (λ c. search needs)
+    (λ c. search needs)
+    (λ c κs. search needs)
+    (λ c κs. search needs)
+    returns)

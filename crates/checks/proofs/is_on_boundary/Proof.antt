@@ -1,5 +1,5 @@
 -- `checks::is_on_boundary` meets its contract. Assumes nothing.
-use Prim.Native.Nat.{_≤_}
+use Prim.Native.Nat.{_+_, _≤_}
 use native.Mathlib.Omega.{arith}
 use lib.Pow.{pow-pos}
 use Rattle.word.specs.Powers.{ceilPower, ceilLog}
@@ -8,20 +8,24 @@ use borrow.Author.Needs.{needs}
 use Rattle.checks.proofs.is_on_boundary.Statement.{statement}
 use Rattle.checks.proofs.is_on_boundary.Tie as tie
 
+-- ---- the places on the way: an inserted line moves one of them
+
+abbrev entered : tie.After-enum-told → tie.Start
+entered c = c .before .before .before .before
+
+few : (c : tie.After-enum-told) → entered c .args .addend ≤ 4094
+few c = entered c .pre (c .enum-told .given .1)
+
+-- ---- the needs
+
 add-result : tie.Need-add-result
-add-result c =
-    let few = c .before .before .pre .1 (c .enum-told .given .1) in
-    omega arith
+add-result c = omega (arith, few c)
 
 cast-ceil-power : tie.Need-cast-ceil-power
-cast-ceil-power c =
-    let few = c .before .before .pre .1 (c .enum-told .given .1) in
-    omega arith
+cast-ceil-power c = omega (arith, few c)
 
 add-ceil-power : tie.Need-add-ceil-power
-add-ceil-power c =
-    let few = c .before .before .pre .1 (c .enum-told .given .1) in
-    omega arith
+add-ceil-power c = omega (arith, few c)
 
 rem-result : tie.Need-rem-result
 unfolding ceilPower
@@ -29,14 +33,16 @@ rem-result c = rw (c .ceil-power .ensures) (pow-pos (ceilLog 32 _))
 
 returns : tie.Need-returns
 returns c =
-    let a = c .before .before .before .args in
-    let few : a .addend ≤ 4094 = c .before .before .before .pre .1 (c .before .enum-told .given .1) in
-    rw (c .before .enum-told .given .1, boundary-is (a .p) (a .addend) few, c .ceil-power .ensures)
+    let a = entered (c .before) .args in
+    rw (c .before .enum-told .given .1, boundary-is (a .start .0 + a .at .0) (a .addend) (few (c .before)), c .ceil-power .ensures)
 
 pub is-on-boundary-spec : {M : Type 1} → statement M
 is-on-boundary-spec =
     tie.close
     (tie.spec
+    (λ c. search needs)
+    (λ c. search needs)
+    (λ c. search needs)
     (λ c. search needs)
     add-result
     cast-ceil-power

@@ -10,11 +10,11 @@ use Rattle.checks.proofs.reaches_well.Tie as tie
 returns : tie.Need-returns
 returns c =
     let a = c .before .before .before .before .args in
-    c .in-reach .ensures ∙ ap (λ r. reaches r (distance (a .t) (a .p))) (c .before .range-of .ensures) ∙ sym (ap (λ k. reachesWell 32 k (a .field) (a .t) (a .p)) (c .before .before .enum-told .given .1))
+    c .in-reach .ensures ∙ ap (λ r. reaches r (distance (a .t .0) (a .p .0))) (c .before .range-of .ensures) ∙ sym (ap (λ k. reachesWell 32 k (a .field) (a .t .0) (a .p .0)) (c .before .before .enum-told .given .1))
 
 returns-2 : tie.Need-returns-2
 unfolding even
-returns-2 c = rw (c .before .enum-told2 .given .1, c .sub32 .ensures)
+returns-2 c = rw (c .before .before .enum-told2 .given .1, c .sub32 .ensures)
 
 pub reaches-well-spec : {M : Type 1} → statement M
 reaches-well-spec =
@@ -23,6 +23,7 @@ reaches-well-spec =
     (λ c. search needs)
     (λ c κs. search needs)
     (λ c κs. search needs)
+    (λ c. search needs)
     (λ c. search needs)
     (λ c κs. search needs)
     (λ c. search needs)

@@ -40,10 +40,10 @@ files c = record { image = c .args .image .now; journal = c .args .journal .now 
 abbrev pieces : tie.Start → List Piece
 pieces c = planOf (S c) (O c)
 
-base-is : (c : tie.Start) → c .args .counts .base ≡ base (O c)
+base-is : (c : tie.Start) → c .args .counts .base .0 ≡ base (O c)
 base-is c = reading-sound (O c) (c .args .counts) (c .pre .0 .placeable .named .readable .reading-is) .base-is
 
-low : (c : tie.Start) → highest (S c) (addresses (O c)) (c .args .counts .base) (sectionCount (S c)) < 4294967296
+low : (c : tie.Start) → highest (S c) (addresses (O c)) (c .args .counts .base .0) (sectionCount (S c)) < 4294967296
 low c = subst (λ b. highest (S c) (addresses (O c)) b (sectionCount (S c)) < 4294967296) (sym (base-is c)) (ends-low (S c) (O c) (c .args .counts) (Len c) (c .pre .0))
 
 plan-is : (c : tie.Start) → judgement (S c) (O c) (Len c) ≡ plan (pieces c)
@@ -58,7 +58,7 @@ span-taken : (c : tie.After-span-of) → c .span-of .result ≡ spanOfPieces (pi
 span-taken c =
     let a : tie.After-address-array = search in
     let s = st c in
-    c .span-of .ensures ∙ ap (λ l. spanOf (S s) l (s .args .counts .base)) (a .address-array .ensures) ∙ ap (spanOf (S s) (addresses (O s))) (base-is s) ∙ span-is (S s) (O s) (s .args .counts) (Len s) (s .pre .0)
+    c .span-of .ensures ∙ ap (λ l. spanOf (S s) l (s .args .counts .base .0)) (a .address-array .ensures) ∙ ap (spanOf (S s) (addresses (O s))) (base-is s) ∙ span-is (S s) (O s) (s .args .counts) (Len s) (s .pre .0)
 
 -- ---- where the room has been asked for
 
@@ -89,7 +89,7 @@ span-of-requires : tie.Need-span-of-requires
 span-of-requires c κs =
     let a : tie.After-address-array = search in
     let s : tie.Start = search in
-    (is-sound _ _ _ _ (s .pre .0), subst (λ l. highest (S s) l (s .args .counts .base) (sectionCount (S s)) < 4294967296) (sym (a .address-array .ensures)) (low s))
+    (is-sound _ _ _ _ (s .pre .0), subst (λ l. highest (S s) l (s .args .counts .base .0) (sectionCount (S s)) < 4294967296) (sym (a .address-array .ensures)) (low s))
 
 returns : tie.Need-returns
 returns c =

@@ -31,7 +31,7 @@ judge-relocations-requires c κs =
     let f = c .before .before .before .before .before .before .pre in
     let r = f .readable .reading-is in
     let found : placingCheck s (addresses o) (base o) (a .len) ≡ c .before .before .check-placing .result .fault =
-    ap (λ b. placingCheck s (addresses o) b (a .len)) (sym (reading-sound o (a .counts) r .base-is)) ∙ ap (λ l. placingCheck s l (a .counts .base) (a .len)) (sym (c .before .before .before .address-array .ensures)) ∙ sym (c .before .before .check-placing .ensures .0) in
+    ap (λ b. placingCheck s (addresses o) b (a .len)) (sym (reading-sound o (a .counts) r .base-is)) ∙ ap (λ l. placingCheck s l (a .counts .base .0) (a .len)) (sym (c .before .before .before .address-array .ensures)) ∙ sym (c .before .before .check-placing .ensures .0) in
     record { named = f; placing = found ∙ c .enum-told .given .1 }
 
 returns : tie.Need-returns
@@ -45,7 +45,7 @@ returns-2 c =
     let f = c .before .before .before .before .before .before .before .pre in
     let r = f .readable .reading-is in
     let found : placingCheck s (addresses o) (base o) (a .len) ≡ c .before .before .before .check-placing .result .fault =
-    ap (λ b. placingCheck s (addresses o) b (a .len)) (sym (reading-sound o (a .counts) r .base-is)) ∙ ap (λ l. placingCheck s l (a .counts .base) (a .len)) (sym (c .before .before .before .before .address-array .ensures)) ∙ sym (c .before .before .before .check-placing .ensures .0) in
+    ap (λ b. placingCheck s (addresses o) b (a .len)) (sym (reading-sound o (a .counts) r .base-is)) ∙ ap (λ l. placingCheck s l (a .counts .base .0) (a .len)) (sym (c .before .before .before .before .address-array .ensures)) ∙ sym (c .before .before .before .check-placing .ensures .0) in
     sym (gives-8 s o (a .len) (a .counts) _ f (found ∙ c .before .fault .given .1))
 
 pub judge-placing-spec : {M : Type 1} → statement M

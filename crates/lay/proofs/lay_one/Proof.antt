@@ -29,7 +29,7 @@ O c = c .args .order .now
 abbrev Len : tie.Start → ℕ
 Len c = length (c .args .image .now)
 
-base-is : (c : tie.Start) → c .args .counts .base ≡ base (O c)
+base-is : (c : tie.Start) → c .args .counts .base .0 ≡ base (O c)
 base-is c = reading-sound (O c) (c .args .counts) (c .pre .0 .placeable .named .readable .reading-is) .base-is
 
 address : (c : tie.Start) → getD (c .args .t4) (c .args .t) 0 ≡ getD (addresses (O c)) (c .args .t) 0
@@ -98,7 +98,7 @@ returns-2 : tie.Need-returns-2
 returns-2 c =
     let s : tie.Start = search in
     let laid : tie.After-lay-at = search in
-    let at : getD (s .args .t4) (s .args .t) 0 - s .args .counts .base ≡ getD (addresses (O s)) (s .args .t) 0 - base (O s) = omega (arith, base-is s, address s) in
+    let at : getD (s .args .t4) (s .args .t) 0 - s .args .counts .base .0 ≡ getD (addresses (O s)) (s .args .t) 0 - base (O s) = omega (arith, base-is s, address s) in
     laid .lay-at .ensures ∙ ap (λ k. sets (s .args .image .now) k (relocated (S s) (O s) (addresses (O s)) (s .args .t))) at ∙ sym (with-some (S s) (O s) (s .args .image .now) (s .args .t) (some (search)))
 
 pub lay-one-spec : {M : Type 1} → statement M

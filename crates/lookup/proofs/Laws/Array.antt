@@ -32,11 +32,11 @@ module _ (s : List ℕ) (i : ℕ) (e : Entry) (read : e ≡ entryAt s 12 i) wher
   kept section other = sym (valueIn-more s 12 i section (λ z. other (sym z ∙ sym (ap (λ (e : Entry). e .index) read))))
 
   -- a placement of a section below 32 is stored
-  pub filled-in : (n : ℕ) → ascending (λ i. entryAt s 12 i .index) n ≡ true → i < n → set (filled s i) (e .index) (e .value) ≡ filled s (i + 1)
+  pub filled-in : (n : ℕ) → ascending (λ i. entryAt s 12 i .index) n ≡ true → i < n → set (filled s i) (e .index) (e .value .0) ≡ filled s (i + 1)
   unfolding filled
   filled-in n a h =
       let fewer : ascending (λ i. entryAt s 12 i .index) (i + 1) ≡ true = ascending-fewer _ (i + 1) n (omega arith) a in
-      let here : e .value ≡ orZero (valueIn s 12 (i + 1) (e .index)) =
+      let here : e .value .0 ≡ orZero (valueIn s 12 (i + 1) (e .index)) =
       ap orZero (valueIn-read s 12 (i + 1) (e .index) fewer i e read refl (omega arith)) in
       rw here
       (set-tabulate (λ section. orZero (valueIn s 12 i section)) (λ section. orZero (valueIn s 12 (i + 1) section)) 32 (e .index)

@@ -42,7 +42,7 @@ module _ (s : List ℕ) (w : wellFormed s ≡ true) where
   addresses-at section h = getD-tabulate (λ section. orZero (placedAt s section)) 32 section 0 h
 
   pub addresses-named : (section j : ℕ) → section < 32 → j < placementCount s → placement s j .index ≡ section
-      → getD (addresses s) section 0 ≡ placement s j .value
+      → getD (addresses s) section 0 ≡ placement s j .value .0
   addresses-named section j l h e = addresses-at section l ∙ ap orZero (placedAt-named section j h e)
 
   pub addresses-unnamed : (section : ℕ) → section < 32 → Unnamed s 12 (placementCount s) section → getD (addresses s) section 0 ≡ 0

@@ -29,7 +29,7 @@ loop-again c =
     let read : _ ≡ _ = c .before .before .read-entry .ensures in
     let inside : c .before .before .before .before .loop .i < c .before .before .before .before .before .before .args .counts .placements = omega arith in (
       search needs,
-      ⊎-elim (λ w. w .1 ∙ ap (λ a. set a (c .before .before .read-entry .result .index) (c .before .before .read-entry .result .value)) (c .before .before .before .before .loop .inv .1) ∙ filled-in _ _ _ read _ (k .placed) inside)
+      ⊎-elim (λ w. w .1 ∙ ap (λ a. set a (c .before .before .read-entry .result .index) (c .before .before .read-entry .result .value .0)) (c .before .before .before .before .loop .inv .1) ∙ filled-in _ _ _ read _ (k .placed) inside)
           (λ w. w .1 ∙ c .before .before .before .before .loop .inv .1 ∙ filled-out _ _ _ read (w .0 .left))
           (c .if1 .came),
     )

@@ -5,6 +5,7 @@ use mathlib.Core.List.{List, [], _∷_}
 use Prim.Native.Nat.{ℕ}
 use Rattle.word.specs.Bytes.{le, leAt, bytes}
 use Rattle.word.specs.First.{first, everywhere, tabulate}
+use Rattle.word.specs.Places.{address}
 use Rattle.order.specs.declared.Reading.the-variants.{WellFormed}
 use Rattle.order.specs.Orders.{Order, encodeEntries, encode, entryAt, ascending, wellFormed, reading, orderOf}
 
@@ -14,13 +15,13 @@ said =
     ∷ 0x01 ∷ 0x00 ∷ 0x00 ∷ 0x00 ∷ 0x08 ∷ 0x00 ∷ 0x00 ∷ 0x20 ∷ 0x00 ∷ 0x00 ∷ 0x00 ∷ 0x00 ∷ []
 
 abbrev pub meant : Order
-meant = record { base = 0x20000000; placements = record { index = 1; value = 0x20000008 } ∷ []; externals = [] }
+meant = record { base = address 0x20000000; placements = record { index = 1; value = address 0x20000008 } ∷ []; externals = [] }
 
 pub encode-bench : encode meant ≡ said
 unfolding encode encodeEntries bytes
 encode-bench = refl
 
-pub reading-bench : reading said ≡ WellFormed (record { base = 0x20000000; placements = 1; externals = 0 })
+pub reading-bench : reading said ≡ WellFormed (record { base = address 0x20000000; placements = 1; externals = 0 })
 unfolding reading wellFormed ascending everywhere first entryAt leAt le
 reading-bench = refl
 

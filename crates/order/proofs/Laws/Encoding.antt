@@ -7,6 +7,7 @@ use native.Mathlib.Omega.{arith}
 use lib.ListN.{length, getD, length-append}
 use Rattle.word.specs.Bytes.{leAt, bytes, part}
 use Rattle.word.specs.First.{tabulate}
+use Rattle.word.specs.Places.{address}
 use Rattle.word.proofs.Laws.Bytes.{Bytes, length-bytes, bytes-leAt, leAt-bytes}
 use Rattle.word.proofs.Laws.Lists.{part-append, part-whole}
 use Rattle.word.proofs.Laws.First.{tabulate-same, length-tabulate, getD-tabulate}
@@ -24,7 +25,7 @@ entryAt-shift s at j =
 
 -- ---- bytes that are read, and written again
 
-entry-bytes : (s : List ℕ) → Bytes s → (at : ℕ) → at + 8 ≤ length s → bytes 4 (entryAt s at 0 .index) ++ bytes 4 (entryAt s at 0 .value) ≡ part s at 8
+entry-bytes : (s : List ℕ) → Bytes s → (at : ℕ) → at + 8 ≤ length s → bytes 4 (entryAt s at 0 .index) ++ bytes 4 (entryAt s at 0 .value .0) ≡ part s at 8
 unfolding entryAt
 entry-bytes s b at h =
     let none : at + 8 * 0 ≡ at = omega arith in
@@ -67,18 +68,18 @@ encode-orderOf s b w =
 -- ---- an order that is written, and read again
 
 abbrev pub none : Entry
-none = record { index = 0; value = 0 }
+none = record { index = 0; value = address 0 }
 
 -- a list of at most n entries, of numbers of 32 bits, that ascends
 pub record Spelt (n : ℕ) (es : List Entry) : Type 0 where
   pub few : length es ≤ n
   pub indices : (i : ℕ) → i < length es → getD es i none .index < 2 ^ 32
-  pub values : (i : ℕ) → i < length es → getD es i none .value < 2 ^ 32
+  pub values : (i : ℕ) → i < length es → getD es i none .value .0 < 2 ^ 32
   pub ascend : (i : ℕ) → suc i < length es → getD es i none .index < getD es (suc i) none .index
 
 -- an order that bytes can spell
 pub record Spellable (o : Order) : Type 0 where
-  pub base : o .base < 2 ^ 32
+  pub base : o .base .0 < 2 ^ 32
   pub placements : Spelt 32 (o .placements)
   pub externals : Spelt 1024 (o .externals)
 
@@ -88,29 +89,29 @@ length-entries [] = refl
 length-entries (e ∷ es) = simp (length-append, length-bytes) (omega (arith, length-entries es))
 
 -- an entry that stands after a stretch of bytes
-entryAt-bytes : (x : Entry) (s a t : List ℕ) (at : ℕ) → s ≡ a ++ (bytes 4 (x .index) ++ (bytes 4 (x .value) ++ t)) → length a ≡ at
-    → x .index < 2 ^ 32 → x .value < 2 ^ 32 → entryAt s at 0 ≡ x
+entryAt-bytes : (x : Entry) (s a t : List ℕ) (at : ℕ) → s ≡ a ++ (bytes 4 (x .index) ++ (bytes 4 (x .value .0) ++ t)) → length a ≡ at
+    → x .index < 2 ^ 32 → x .value .0 < 2 ^ 32 → entryAt s at 0 ≡ x
 unfolding entryAt
 entryAt-bytes x s a t at e l hi hv =
     let i : List ℕ = bytes 4 (x .index) in
-    let v : List ℕ = bytes 4 (x .value) in
+    let v : List ℕ = bytes 4 (x .value .0) in
     let on : s ≡ (a ++ i) ++ (v ++ t) = e ∙ simp append-assoc in
     let index : leAt 4 s (at + 8 * 0) ≡ x .index = leAt-bytes 4 (x .index) s a (v ++ t) (at + 8 * 0) e (omega arith) hi in
-    let value : leAt 4 s (at + 8 * 0 + 4) ≡ x .value =
-    leAt-bytes 4 (x .value) s (a ++ i) t (at + 8 * 0 + 4) on (simp (length-append, length-bytes) (omega arith)) hv in
-    let fields : _≡_ {A = Entry} (entryAt s at 0) (record { index = x .index; value = x .value }) = rw (index, value) in
+    let value : leAt 4 s (at + 8 * 0 + 4) ≡ x .value .0 =
+    leAt-bytes 4 (x .value .0) s (a ++ i) t (at + 8 * 0 + 4) on (simp (length-append, length-bytes) (omega arith)) hv in
+    let fields : _≡_ {A = Entry} (entryAt s at 0) (record { index = x .index; value = address (x .value .0) }) = rw (index, value) in
     fields
 
 -- entries that stand after one
 tabulate-entries : (es : List Entry) (s a t : List ℕ) (at : ℕ) → s ≡ a ++ (encodeEntries es ++ t) → length a ≡ at
     → ((i : ℕ) → i < length es → getD es i none .index < 2 ^ 32)
-    → ((i : ℕ) → i < length es → getD es i none .value < 2 ^ 32)
+    → ((i : ℕ) → i < length es → getD es i none .value .0 < 2 ^ 32)
     → tabulate (entryAt s at) (length es) ≡ es
 unfolding tabulate encodeEntries
 tabulate-entries [] s a t at e l is vs = refl
 tabulate-entries (x ∷ es) s a t at e l is vs =
     let i : List ℕ = bytes 4 (x .index) in
-    let v : List ℕ = bytes 4 (x .value) in
+    let v : List ℕ = bytes 4 (x .value .0) in
     let E : List ℕ = encodeEntries es in
     let here : s ≡ a ++ (i ++ (v ++ (E ++ t))) = e ∙ simp append-assoc in
     let on : s ≡ ((a ++ i) ++ v) ++ (E ++ t) = e ∙ simp append-assoc in
@@ -132,7 +133,7 @@ ascending-entries es m at s k read =
 -- the parts of an order's bytes
 module _ (o : Order) where
   abbrev B : List ℕ
-  B = bytes 4 (o .base)
+  B = bytes 4 (o .base .0)
 
   abbrev P : List ℕ
   P = bytes 4 (length (o .placements))
@@ -155,9 +156,9 @@ module _ (o : Order) where
   one-encode = leAt-bytes 4 1 _ [] (B ++ (P ++ (Ps ++ (E ++ Es)))) 0 (simp append-assoc) refl (omega arith)
 
   module _ (k : Spellable o) where
-    base-encode : base (encode o) ≡ o .base
+    base-encode : base (encode o) ≡ o .base .0
     unfolding encode
-    base-encode = leAt-bytes 4 (o .base) _ (bytes 4 1) (P ++ (Ps ++ (E ++ Es))) 4 (simp append-assoc) (length-bytes 4 1) (k .base)
+    base-encode = leAt-bytes 4 (o .base .0) _ (bytes 4 1) (P ++ (Ps ++ (E ++ Es))) 4 (simp append-assoc) (length-bytes 4 1) (k .base)
 
     placementCount-encode : placementCount (encode o) ≡ length (o .placements)
     unfolding encode
@@ -211,7 +212,7 @@ module _ (o : Order) where
     orderOf-encode =
         let externals : tabulate (external (encode o)) (length (o .externals)) ≡ o .externals =
         ap (λ n. tabulate (entryAt (encode o) (16 + 8 * n)) (length (o .externals))) placementCount-encode ∙ externals-encode in
-        let fields : _≡_ {A = Order} (orderOf (encode o)) (record { base = o .base; placements = o .placements; externals = o .externals }) =
+        let fields : _≡_ {A = Order} (orderOf (encode o)) (record { base = address (o .base .0); placements = o .placements; externals = o .externals }) =
         rw (externalCount-encode, placementCount-encode, base-encode, placements-encode, externals) in
         fields
 

@@ -8,6 +8,7 @@ use lib.ListN.{length}
 use lib.Dec.{leb, eqb}
 use borrow.Author.Tests.{leb-true, eqb-true, le-leb, eq-eqb}
 use Rattle.word.specs.Bytes.{leAt}
+use Rattle.word.specs.Places.{address}
 use Rattle.word.proofs.Laws.Tests.{and-left, and-right}
 use Rattle.order.specs.declared.Counts.{Counts}
 use Rattle.order.specs.declared.Reading.the-variants.{Malformed, WellFormed}
@@ -15,7 +16,7 @@ use Rattle.order.specs.Orders.{base, placementCount, externalCount, entr
 
 -- the parts of a reading, by its counts
 pub record Sound (s : List ℕ) (c : Counts) : Type 0 where
-  pub base-is : c .base ≡ base s
+  pub base-is : c .base .0 ≡ base s
   pub placements-are : c .placements ≡ placementCount s
   pub externals-are : c .externals ≡ leAt 4 s (12 + 8 * c .placements)
   pub long : 16 ≤ length s
@@ -28,7 +29,7 @@ pub record Sound (s : List ℕ) (c : Counts) : Type 0 where
   pub given : ascending (λ i. entryAt s (16 + 8 * c .placements) i .index) (c .externals) ≡ true
 
 abbrev pub countsOf : List ℕ → Counts
-countsOf s = record { base = base s; placements = placementCount s; externals = externalCount s }
+countsOf s = record { base = address (base s); placements = placementCount s; externals = externalCount s }
 
 -- ---- well-formed bytes
 
@@ -62,7 +63,7 @@ sound-wellFormed s k =
 -- sound counts are those of the bytes
 pub sound-counts : (s : List ℕ) (c : Counts) → Sound s c → c ≡ countsOf s
 sound-counts s c k =
-    let fields : _≡_ {A = Counts} (record { base = c .base; placements = c .placements; externals = c .externals }) (countsOf s) = cc in
+    let fields : _≡_ {A = Counts} (record { base = address (c .base .0); placements = c .placements; externals = c .externals }) (countsOf s) = cc in
     fields
 
 pub reading-sound : (s : List ℕ) (c : Counts) → reading s ≡ WellFormed c → Sound s c
@@ -90,8 +91,8 @@ unsound-reading s unsound = go (wellFormed s) refl
 
 -- the same of counts that were read
 pub unsound-read : (s : List ℕ) (p e : ℕ) → p ≡ placementCount s → e ≡ leAt 4 s (12 + 8 * p)
-    → (Sound s (record { base = base s; placements = p; externals = e }) → ⊥)
+    → (Sound s (record { base = address (base s); placements = p; externals = e }) → ⊥)
     → Malformed ≡ reading s
 unsound-read s p e ep ee unsound =
-    let same : _≡_ {A = Counts} (record { base = base s; placements = p; externals = e }) (countsOf s) = cc in
+    let same : _≡_ {A = Counts} (record { base = address (base s); placements = p; externals = e }) (countsOf s) = cc in
     unsound-reading s (λ k. unsound (subst (Sound s) (sym same) k))

@@ -1,17 +1,17 @@
 -- `order::window_allowed` meets its contract. Assumes nothing.
 use borrow.Author.Tests.{le-leb, lt-leb}
-use Rattle.order.specs.Windows.{lengthAllowed, windowAllowed}
+use Rattle.order.specs.Windows.{maxImage, lengthAllowed, windowAllowed}
 use borrow.Author.Needs.{needs}
 use Rattle.order.proofs.window_allowed.Statement.{statement}
 use Rattle.order.proofs.window_allowed.Tie as tie
 
 returns : tie.Need-returns
 unfolding windowAllowed lengthAllowed
-returns c = rw (lt-leb (c .before .args .len) 65536 (c .if1 .taken))
+returns c = rw (lt-leb _ maxImage (c .if1 .taken))
 
 returns-2 : tie.Need-returns-2
 unfolding windowAllowed lengthAllowed
-returns-2 c = rw (le-leb (c .before .args .len) 65536 (c .if1 .left))
+returns-2 c = rw (le-leb _ maxImage (c .before .if1 .left))
 
 pub window-allowed-spec : {M : Type 1} → statement M
-window-allowed-spec = tie.close (tie.spec returns (λ c. search needs) returns-2)
+window-allowed-spec = tie.close (tie.spec returns (λ c. search needs) (λ c. search needs) returns-2)

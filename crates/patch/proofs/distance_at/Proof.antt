@@ -8,7 +8,7 @@ use Rattle.patch.proofs.distance_at.Tie as tie
 returns : tie.Need-returns
 returns c =
     let a = c .before .before .before .before .before .before .before .before .args in
-    c .sub32 .ensures ∙ distance-read (a .object .now) (a .order .now) (a .addresses) (a .site) (a .j) _ _ (c .before .before .before .before .before .read-relocation .ensures) (c .before .before .before .before .symbol-value .ensures .0) _ _ (c .before .before .target-of .ensures) (c .before .before .before .place-of .ensures)
+    c .sub32 .ensures ∙ distance-read (a .object .now) (a .order .now) (a .addresses) (a .site) (a .j) _ _ (c .before .before .before .before .before .read-relocation .ensures) (c .before .before .before .before .symbol-value .ensures .0) _ _ (c .before .before .before .target-of .ensures) (c .before .before .place-of .ensures)
 
 pub distance-at-spec : {M : Type 1} → statement M
 distance-at-spec =

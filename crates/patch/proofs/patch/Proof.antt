@@ -32,11 +32,11 @@ data-width-requires-3 c κs =
 returns : tie.Need-returns
 unfolding patched
 returns c =
-    let a = c .before .before .before .before .before .args in
+    let a = c .before .before .before .before .before .before .args in
     let f = a .field in
     let w = a .w in
     let t : a .x % 2 ^ 32 ≡ residue 32 (signed 64 (a .x)) = cut-signed 32 32 (a .x) (omega arith) in
-    c .put-field .ensures ∙ ap (put (layout f) w) t ∙ sym (ap (λ k. patched 32 k f w (signed 64 (a .x)) (a .p .0) (a .d)) (c .before .enum-told .given .1))
+    c .put-field .ensures ∙ ap (put (layout f) w) t ∙ sym (ap (λ k. patched 32 k f w (signed 64 (a .x)) (a .p .0) (a .d)) (c .before .before .enum-told .given .1))
 
 returns-2 : tie.Need-returns-2
 unfolding patched

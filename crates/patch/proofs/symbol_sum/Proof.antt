@@ -11,8 +11,8 @@ use Rattle.patch.proofs.symbol_sum.Tie as tie
 
 returns : tie.Need-returns
 returns c =
-    let a = c .before .before .before .before .args in
-    c .add64 .ensures ∙ plus-signed 0 64 _ (a .addend) (omega arith) ∙ sym (ap (λ v. residue 64 (pos (S v) +ℤ signed 64 (a .addend))) (c .before .before .value .given .1))
+    let a = c .before .before .before .before .before .args in
+    c .add64 .ensures ∙ plus-signed 0 64 _ (a .addend) (omega arith) ∙ sym (ap (λ v. residue 64 (pos (S v) +ℤ signed 64 (a .addend))) (c .before .before .before .value .given .1))
 
 returns-2 : tie.Need-returns-2
 returns-2 c =

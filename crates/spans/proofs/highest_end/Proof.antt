@@ -10,7 +10,7 @@ use Rattle.spans.proofs.highest_end.Statement.{statement}
 use Rattle.spans.proofs.highest_end.Tie as tie
 
 abbrev Inv-loop : tie.InvT-loop
-Inv-loop object base n addresses end₀ i₀ end i = (i ≤ n) × (end ≡ highest object addresses base i)
+Inv-loop object base n addresses end₀ i₀ end i = (i ≤ n) × (end ≡ highest object addresses (base .0) i)
 
 abbrev μ-loop : tie.MeasureT-loop
 μ-loop object base n addresses end₀ i₀ end i = n - i

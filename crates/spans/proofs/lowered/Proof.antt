@@ -7,15 +7,26 @@ use borrow.Author.Needs.{needs}
 use Rattle.spans.proofs.lowered.Statement.{statement}
 use Rattle.spans.proofs.lowered.Tie as tie
 
+-- ---- the places on the way: an inserted line moves one of them
+
+abbrev some : tie.After-less → tie.Else1
+some c = c .before .before .before
+
+abbrev entered : tie.After-has-bytes → tie.Start
+entered c = c .before
+
+-- ---- the needs
+
 returns : tie.Need-returns
 returns c =
-    let none : hasBytes (c .before .before .args .h) ≡ false = sym (c .before .has-bytes .ensures) ∙ not-true _ (c .if1 .taken) in
+    let none : hasBytes (entered (c .before) .args .h) ≡ false = sym (c .before .has-bytes .ensures) ∙ not-true _ (c .if1 .taken) in
     rw none
 
 returns-2 : tie.Need-returns-2
 returns-2 c =
-    let some : hasBytes (c .before .before .before .before .args .h) ≡ true = sym (c .before .before .before .has-bytes .ensures) ∙ not-false _ (c .before .before .if1 .left) in
-    rw (some, c .smaller .ensures, c .before .less .ensures)
+    let there = some (c .before) in
+    let bytes : hasBytes (entered (there .before) .args .h) ≡ true = sym (there .before .has-bytes .ensures) ∙ not-false _ (there .if1 .left) in
+    rw (bytes, c .smaller .ensures, c .before .less .ensures)
 
 pub lowered-spec : {M : Type 1} → statement M
 lowered-spec =
@@ -23,6 +34,8 @@ lowered-spec =
     (tie.spec
     (λ c κs. search needs)
     returns
+    (λ c. search needs)
+    (λ c. search needs)
     (λ c κs. search needs)
     (λ c κs. search needs)
     returns-2)

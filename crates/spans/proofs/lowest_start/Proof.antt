@@ -9,7 +9,7 @@ use Rattle.spans.proofs.lowest_start.Statement.{statement}
 use Rattle.spans.proofs.lowest_start.Tie as tie
 
 abbrev Inv-loop : tie.InvT-loop
-Inv-loop object base top n addresses start₀ i₀ start i = (i ≤ n) × (start ≡ lowestByte object addresses base top i)
+Inv-loop object base top n addresses start₀ i₀ start i = (i ≤ n) × (start ≡ lowestByte object addresses (base .0) top i)
 
 abbrev μ-loop : tie.MeasureT-loop
 μ-loop object base top n addresses start₀ i₀ start i = n - i

@@ -7,6 +7,7 @@ use lib.Dec.{eqb}
 use borrow.Author.Tests.{eqb-true}
 use Rattle.word.specs.Bytes.{leAt}
 use Rattle.word.specs.Whole.{signed, minus}
+use Rattle.word.specs.declared.SectionOffset.{SectionOffset}
 use Rattle.word.proofs.Laws.Tests.{and-left, never}
 use Rattle.word.proofs.Laws.Whole.{residue-lt}
 use Rattle.fields.specs.declared.Field.{Field}
@@ -60,9 +61,9 @@ module _ (object order addresses : List ℕ) (x : Site) (final : List ℕ) (back
   says j h d e = subst (Says j) e (unfold ReadsBack in back j h)
 
   -- a pair is a PCREL_HI20
-  hi20 : (j : ℕ) (value : ℕ) → isPair object x value j ≡ true → effect object x j ≡ Store HighPcRelative U Auipc 4
+  hi20 : (j : ℕ) (value : SectionOffset) → isPair object x value j ≡ true → effect object x j ≡ Store HighPcRelative U Auipc 4
   unfolding isPair decision table lookup among
-  hi20 j value e = ap decision (eqb-true (entry object x j .kind) PCREL_HI20 (and-left (eqb (entry object x j .kind) PCREL_HI20) (eqb (offset object x j) value) e))
+  hi20 j value e = ap decision (eqb-true (entry object x j .kind) PCREL_HI20 (and-left (eqb (entry object x j .kind) PCREL_HI20) (eqb (offset object x j) (value .0)) e))
 
   -- a PCREL_LO12 has one
   has-pair : Checked object order addresses x → (j : ℕ) → j < count x → needsPair (effect object x j) ≡ true → (i : ℕ) × (pairOf object x (symbol object x j .value) ≡ At i)

@@ -3,6 +3,7 @@ use mathlib.Core.Path.{_≡_, sym, ap, _∙_}
 use mathlib.Core.Bool.{true, false}
 use native.Mathlib.Omega.{arith}
 use borrow.Author.Tests.{eq-eqb, ne-eqb}
+use Rattle.word.specs.Places.{address}
 use Rattle.symbols.specs.declared.SymbolValue.the-variants.{Resolved}
 use Rattle.place.specs.Placements.{isAllocated}
 use Rattle.symbols.specs.Values.{ofUndefined, ofSection}
@@ -26,7 +27,7 @@ returns c =
     let a = c .before .before .before .before .before .before .args in
     let s = a .object .now in
     let inside : isAllocated s (a .symbol .section) ≡ true = sym (c .before .before .before .is-allocated-section .ensures) ∙ c .before .before .if1 .taken in
-    rw inside (ap Resolved (c .add32 .ensures))
+    rw inside (ap (λ n. Resolved (address n)) (c .add32 .ensures))
 
 returns-2 : tie.Need-returns-2
 unfolding ofSection

@@ -10,6 +10,7 @@ use borrow.Author.Tests.{ltb-false, eqb-true, ne-eqb}
 use borrow.Author.Count.{below-more}
 use Rattle.word.specs.First.{first}
 use Rattle.word.specs.Sums.{sum}
+use Rattle.word.specs.declared.SectionOffset.{SectionOffset}
 use Rattle.word.proofs.Laws.First.{first-is, first-at, first-below}
 use Rattle.word.proofs.Laws.Sums.{sum-mono}
 use Rattle.rela.specs.declared.sites.Site.{Site}
@@ -62,7 +63,7 @@ pub record Searched (p : ℕ → Bool) (n at k : ℕ) : Type 0 where
   pub before : at < n → at < k
   pub alone : at < n → (i : ℕ) → i < k → (i ≡ at → ⊥) → p i ≡ false
 
-module _ (object : List ℕ) (x : Site) (value : ℕ) where
+module _ (object : List ℕ) (x : Site) (value : SectionOffset) where
   pub pair-found : (at : ℕ) → at < count x → Searched (isPair object x value) (count x) at (count x) → pairOf object x value ≡ At at
   unfolding pairOf
   pair-found at l s =
@@ -121,7 +122,7 @@ searched-more p n at k h s e = go (p k) refl e
                 ap p same ∙ q
 
 -- a pair that was found is one of the relocations, and a PCREL_HI20 at the offset
-pub pair-there : (object : List ℕ) (x : Site) (value k : ℕ) → pairOf object x value ≡ At k → (k < count x) × (isPair object x value k ≡ true)
+pub pair-there : (object : List ℕ) (x : Site) (value : SectionOffset) (k : ℕ) → pairOf object x value ≡ At k → (k < count x) × (isPair object x value k ≡ true)
 unfolding pairOf
 pair-there object x value k e = go (eqb (howMany p (count x)) 1) refl e
   where

@@ -12,12 +12,12 @@ use Rattle.rela.proofs.shape.is_addend_allowed.Tie as tie
 returns : tie.Need-returns
 returns c =
     let a = c .before .before .before .args in
-    c .is-padding .ensures ∙ sym (ap (λ d. addendWell d (a .at) (a .size) (signed 64 (a .addend))) (c .before .enum-told .given .1))
+    c .is-padding .ensures ∙ sym (ap (λ d. addendWell d (a .at .0) (a .size) (signed 64 (a .addend))) (c .before .enum-told .given .1))
 
 returns-2 : tie.Need-returns-2
 returns-2 c =
     let a = c .before .before .before .args in
-    rw (c .needs-pair .ensures, store-addend (a .decision) (a .at) (a .size) (signed 64 (a .addend)) (ap isStore (c .before .enum-told2 .given .1)), zero-is (a .addend) (omega arith))
+    rw (c .needs-pair .ensures, store-addend (a .decision) (a .at .0) (a .size) (signed 64 (a .addend)) (ap isStore (c .before .enum-told2 .given .1)), zero-is (a .addend) (omega arith))
 
 pub is-addend-allowed-spec : {M : Type 1} → statement M
 is-addend-allowed-spec =

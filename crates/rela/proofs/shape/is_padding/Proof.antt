@@ -9,12 +9,12 @@ use Rattle.rela.proofs.shape.is_padding.Tie as tie
 returns : tie.Need-returns
 returns c =
     let a = c .before .args in
-    sym (padding-refused (a .at) (a .size) (a .addend) (c .if1 .taken) (omega arith))
+    sym (padding-refused (a .at .0) (a .size) (a .addend) (c .if1 .taken) (omega arith))
 
 returns-2 : tie.Need-returns-2
 returns-2 c =
-    let a = c .before .args in
-    sym (padding-is (a .at) (a .size) (a .addend) (c .if1 .left))
+    let a = c .before .before .args in
+    sym (padding-is (a .at .0) (a .size) (a .addend) (c .before .if1 .left))
 
 pub is-padding-spec : {M : Type 1} → statement M
-is-padding-spec = tie.close (tie.spec returns (λ c. search needs) returns-2)
+is-padding-spec = tie.close (tie.spec returns (λ c. search needs) (λ c. search needs) returns-2)

@@ -130,54 +130,52 @@ returns-5 c =
 
 is-on-boundary-requires : tie.Need-is-on-boundary-requires
 is-on-boundary-requires c κs =
+    let a = c .before .before .before .before .before .before .before .before .before .before .before .before .before .before .before .before .before .args in
+    let s = a .object .now in
+    let o = a .order .now in
+    let x = a .site in
+    let r = c .before .before .before .before .before .before .before .before .before .before .before .before .before .before .read-relocation .ensures in
+    let shape : shapeWell s x (a .j) ≡ true = sym (c .before .before .before .before .before .before .before .before .before .before .before .before .is-shape-kept .ensures) ∙ not-false _ (c .before .before .before .before .before .before .before .before .before .before .before .if1 .left) in
+    λ align.
+    let kind : effect s x (a .j) ≡ Align = ap (λ e. decision (e .kind)) (sym r) ∙ sym (c .before .before .before .before .before .before .before .before .before .before .before .before .before .decide .ensures) ∙ align in
+    let few = padded s x (a .j) shape kind (rw (← r) (omega (arith, c .before .before .before .before .before .before .before .before .before .before .before .before .before .before .read-relocation .ok))) in
+    rw r few
+
+returns-6 : tie.Need-returns-6
+unfolding finding
+returns-6 c =
     let a = c .before .before .before .before .before .before .before .before .before .before .before .before .before .before .before .before .before .before .before .args in
     let s = a .object .now in
     let o = a .order .now in
     let x = a .site in
     let r = c .before .before .before .before .before .before .before .before .before .before .before .before .before .before .before .before .read-relocation .ensures in
-    let shape : shapeWell s x (a .j) ≡ true = sym (c .before .before .before .before .before .before .before .before .before .before .before .before .before .before .is-shape-kept .ensures) ∙ not-false _ (c .before .before .before .before .before .before .before .before .before .before .before .before .before .if1 .left) in (
-      omega arith,
-      λ align.
-          let kind : effect s x (a .j) ≡ Align = ap (λ e. decision (e .kind)) (sym r) ∙ sym (c .before .before .before .before .before .before .before .before .before .before .before .before .before .before .before .decide .ensures) ∙ align in
-          let few = padded s x (a .j) shape kind (rw (← r) (omega arith)) in
-          rw r few,
-    )
-
-returns-6 : tie.Need-returns-6
-unfolding finding
-returns-6 c =
-    let a = c .before .before .before .before .before .before .before .before .before .before .before .before .before .before .before .before .before .before .before .before .before .args in
-    let s = a .object .now in
-    let o = a .order .now in
-    let x = a .site in
-    let r = c .before .before .before .before .before .before .before .before .before .before .before .before .before .before .before .before .before .before .read-relocation .ensures in
-    let shape : shapeWell s x (a .j) ≡ true = sym (c .before .before .before .before .before .before .before .before .before .before .before .before .before .before .before .before .is-shape-kept .ensures) ∙ not-false _ (c .before .before .before .before .before .before .before .before .before .before .before .before .before .before .before .if1 .left) in
-    let value : c .before .before .before .before .before .before .before .before .before .before .before .before .before .before .symbol-value .result .value ≡ valueAt s o (a .addresses) x (a .j) = c .before .before .before .before .before .before .before .before .before .before .before .before .before .before .symbol-value .ensures .0 ∙ ap (λ e. symbolValue s o (a .addresses) (e .symbol)) r in
-    let symbol : symbolWell s x (a .j) (valueAt s o (a .addresses) x (a .j)) ≡ true = ap (symbolWell s x (a .j)) (sym value) ∙ sym (c .before .before .before .before .before .before .before .before .before .before .before .before .before .is-symbol-kept .ensures) ∙ not-false _ (c .before .before .before .before .before .before .before .before .before .before .before .before .if2 .left) in
-    let form : formWell s x (a .j) ≡ true = sym (c .before .before .before .before .before .before .before .before .before .before .before .is-form-kept .ensures) ∙ not-false _ (c .before .before .before .before .before .before .before .before .before .before .if3 .left) in
-    let pair : pairWell s x (a .j) ≡ true = sym (c .before .before .before .before .before .before .before .before .before .is-paired .ensures) ∙ not-false _ (c .before .before .before .before .before .before .before .before .if4 .left) in
-    let same : c .before .before .before .before .before .is-in-reach .result ≡ distanceWell (addressWidth s) (effect s x (a .j)) (targetAt s o (a .addresses) x (a .j)) (P s x (a .j)) = c .before .before .before .before .before .is-in-reach .ensures ∙ reach-read s x (a .j) _ _ _ _ _ _ (c .before .before .before .before .before .before .before .before .before .before .before .before .before .before .before .before .before .before .before .before .before .pre .3 .site) (shape-inside s x (a .j) shape) r (c .before .before .before .before .before .before .before .before .before .before .before .before .before .before .before .before .before .decide .ensures) value (c .before .before .before .before .before .before .before .target-of .ensures) (c .before .before .before .before .before .before .place-of .ensures) in
-    let reach : distanceWell (addressWidth s) (effect s x (a .j)) (targetAt s o (a .addresses) x (a .j)) (P s x (a .j)) ≡ true = sym same ∙ not-false _ (c .before .before .before .before .if5 .left) in
-    let ends : c .before .is-on-boundary .result ≡ boundaryWell (effect s x (a .j)) (P s x (a .j)) (A s x (a .j)) = c .before .is-on-boundary .ensures ∙ boundary-read s x (a .j) _ _ r (c .before .before .before .before .before .before .before .before .before .before .before .before .before .before .before .before .before .decide .ensures) in
+    let shape : shapeWell s x (a .j) ≡ true = sym (c .before .before .before .before .before .before .before .before .before .before .before .before .before .before .is-shape-kept .ensures) ∙ not-false _ (c .before .before .before .before .before .before .before .before .before .before .before .before .before .if1 .left) in
+    let value : c .before .before .before .before .before .before .before .before .before .before .before .before .symbol-value .result .value ≡ valueAt s o (a .addresses) x (a .j) = c .before .before .before .before .before .before .before .before .before .before .before .before .symbol-value .ensures .0 ∙ ap (λ e. symbolValue s o (a .addresses) (e .symbol)) r in
+    let symbol : symbolWell s x (a .j) (valueAt s o (a .addresses) x (a .j)) ≡ true = ap (symbolWell s x (a .j)) (sym value) ∙ sym (c .before .before .before .before .before .before .before .before .before .before .before .is-symbol-kept .ensures) ∙ not-false _ (c .before .before .before .before .before .before .before .before .before .before .if2 .left) in
+    let form : formWell s x (a .j) ≡ true = sym (c .before .before .before .before .before .before .before .before .before .is-form-kept .ensures) ∙ not-false _ (c .before .before .before .before .before .before .before .before .if3 .left) in
+    let pair : pairWell s x (a .j) ≡ true = sym (c .before .before .before .before .before .before .before .is-paired .ensures) ∙ not-false _ (c .before .before .before .before .before .before .if4 .left) in
+    let same : c .before .before .before .is-in-reach .result ≡ distanceWell (addressWidth s) (effect s x (a .j)) (targetAt s o (a .addresses) x (a .j)) (P s x (a .j)) = c .before .before .before .is-in-reach .ensures ∙ reach-read s x (a .j) _ _ _ _ _ _ (c .before .before .before .before .before .before .before .before .before .before .before .before .before .before .before .before .before .before .before .pre .3 .site) (shape-inside s x (a .j) shape) r (c .before .before .before .before .before .before .before .before .before .before .before .before .before .before .before .decide .ensures) value (c .before .before .before .before .before .target-of .ensures) (c .before .before .before .before .place-of .ensures) in
+    let reach : distanceWell (addressWidth s) (effect s x (a .j)) (targetAt s o (a .addresses) x (a .j)) (P s x (a .j)) ≡ true = sym same ∙ not-false _ (c .before .before .if5 .left) in
+    let ends : c .before .is-on-boundary .result ≡ boundaryWell (effect s x (a .j)) (P s x (a .j)) (A s x (a .j)) = c .before .is-on-boundary .ensures ∙ boundary-read s x (a .j) _ _ r (c .before .before .before .before .before .before .before .before .before .before .before .before .before .before .before .decide .ensures) in
     let broken : boundaryWell (effect s x (a .j)) (P s x (a .j)) (A s x (a .j)) ≡ false = sym ends ∙ not-true _ (c .if6 .taken) in
     rw (shape, symbol, form, pair, reach, broken)
 
 returns-7 : tie.Need-returns-7
 unfolding finding
 returns-7 c =
-    let a = c .before .before .before .before .before .before .before .before .before .before .before .before .before .before .before .before .before .before .before .before .before .args in
+    let a = c .before .before .before .before .before .before .before .before .before .before .before .before .before .before .before .before .before .before .before .args in
     let s = a .object .now in
     let o = a .order .now in
     let x = a .site in
-    let r = c .before .before .before .before .before .before .before .before .before .before .before .before .before .before .before .before .before .before .read-relocation .ensures in
-    let shape : shapeWell s x (a .j) ≡ true = sym (c .before .before .before .before .before .before .before .before .before .before .before .before .before .before .before .before .is-shape-kept .ensures) ∙ not-false _ (c .before .before .before .before .before .before .before .before .before .before .before .before .before .before .before .if1 .left) in
-    let value : c .before .before .before .before .before .before .before .before .before .before .before .before .before .before .symbol-value .result .value ≡ valueAt s o (a .addresses) x (a .j) = c .before .before .before .before .before .before .before .before .before .before .before .before .before .before .symbol-value .ensures .0 ∙ ap (λ e. symbolValue s o (a .addresses) (e .symbol)) r in
-    let symbol : symbolWell s x (a .j) (valueAt s o (a .addresses) x (a .j)) ≡ true = ap (symbolWell s x (a .j)) (sym value) ∙ sym (c .before .before .before .before .before .before .before .before .before .before .before .before .before .is-symbol-kept .ensures) ∙ not-false _ (c .before .before .before .before .before .before .before .before .before .before .before .before .if2 .left) in
-    let form : formWell s x (a .j) ≡ true = sym (c .before .before .before .before .before .before .before .before .before .before .before .is-form-kept .ensures) ∙ not-false _ (c .before .before .before .before .before .before .before .before .before .before .if3 .left) in
-    let pair : pairWell s x (a .j) ≡ true = sym (c .before .before .before .before .before .before .before .before .before .is-paired .ensures) ∙ not-false _ (c .before .before .before .before .before .before .before .before .if4 .left) in
-    let same : c .before .before .before .before .before .is-in-reach .result ≡ distanceWell (addressWidth s) (effect s x (a .j)) (targetAt s o (a .addresses) x (a .j)) (P s x (a .j)) = c .before .before .before .before .before .is-in-reach .ensures ∙ reach-read s x (a .j) _ _ _ _ _ _ (c .before .before .before .before .before .before .before .before .before .before .before .before .before .before .before .before .before .before .before .before .before .pre .3 .site) (shape-inside s x (a .j) shape) r (c .before .before .before .before .before .before .before .before .before .before .before .before .before .before .before .before .before .decide .ensures) value (c .before .before .before .before .before .before .before .target-of .ensures) (c .before .before .before .before .before .before .place-of .ensures) in
-    let reach : distanceWell (addressWidth s) (effect s x (a .j)) (targetAt s o (a .addresses) x (a .j)) (P s x (a .j)) ≡ true = sym same ∙ not-false _ (c .before .before .before .before .if5 .left) in
-    let ends : c .before .is-on-boundary .result ≡ boundaryWell (effect s x (a .j)) (P s x (a .j)) (A s x (a .j)) = c .before .is-on-boundary .ensures ∙ boundary-read s x (a .j) _ _ r (c .before .before .before .before .before .before .before .before .before .before .before .before .before .before .before .before .before .decide .ensures) in
+    let r = c .before .before .before .before .before .before .before .before .before .before .before .before .before .before .before .before .read-relocation .ensures in
+    let shape : shapeWell s x (a .j) ≡ true = sym (c .before .before .before .before .before .before .before .before .before .before .before .before .before .before .is-shape-kept .ensures) ∙ not-false _ (c .before .before .before .before .before .before .before .before .before .before .before .before .before .if1 .left) in
+    let value : c .before .before .before .before .before .before .before .before .before .before .before .before .symbol-value .result .value ≡ valueAt s o (a .addresses) x (a .j) = c .before .before .before .before .before .before .before .before .before .before .before .before .symbol-value .ensures .0 ∙ ap (λ e. symbolValue s o (a .addresses) (e .symbol)) r in
+    let symbol : symbolWell s x (a .j) (valueAt s o (a .addresses) x (a .j)) ≡ true = ap (symbolWell s x (a .j)) (sym value) ∙ sym (c .before .before .before .before .before .before .before .before .before .before .before .is-symbol-kept .ensures) ∙ not-false _ (c .before .before .before .before .before .before .before .before .before .before .if2 .left) in
+    let form : formWell s x (a .j) ≡ true = sym (c .before .before .before .before .before .before .before .before .before .is-form-kept .ensures) ∙ not-false _ (c .before .before .before .before .before .before .before .before .if3 .left) in
+    let pair : pairWell s x (a .j) ≡ true = sym (c .before .before .before .before .before .before .before .is-paired .ensures) ∙ not-false _ (c .before .before .before .before .before .before .if4 .left) in
+    let same : c .before .before .before .is-in-reach .result ≡ distanceWell (addressWidth s) (effect s x (a .j)) (targetAt s o (a .addresses) x (a .j)) (P s x (a .j)) = c .before .before .before .is-in-reach .ensures ∙ reach-read s x (a .j) _ _ _ _ _ _ (c .before .before .before .before .before .before .before .before .before .before .before .before .before .before .before .before .before .before .before .pre .3 .site) (shape-inside s x (a .j) shape) r (c .before .before .before .before .before .before .before .before .before .before .before .before .before .before .before .decide .ensures) value (c .before .before .before .before .before .target-of .ensures) (c .before .before .before .before .place-of .ensures) in
+    let reach : distanceWell (addressWidth s) (effect s x (a .j)) (targetAt s o (a .addresses) x (a .j)) (P s x (a .j)) ≡ true = sym same ∙ not-false _ (c .before .before .if5 .left) in
+    let ends : c .before .is-on-boundary .result ≡ boundaryWell (effect s x (a .j)) (P s x (a .j)) (A s x (a .j)) = c .before .is-on-boundary .ensures ∙ boundary-read s x (a .j) _ _ r (c .before .before .before .before .before .before .before .before .before .before .before .before .before .before .before .decide .ensures) in
     let right : boundaryWell (effect s x (a .j)) (P s x (a .j)) (A s x (a .j)) ≡ true = sym ends ∙ not-false _ (c .if6 .left) in
     rw (shape, symbol, form, pair, reach, right)
 
@@ -200,9 +198,6 @@ find-broken-spec =
     (λ c κs. search needs)
     (λ c κs. search needs)
     returns-5
-    (λ c. search needs)
-    (λ c. search needs)
-    (λ c. search needs)
     is-on-boundary-requires
     returns-6
     returns-7)

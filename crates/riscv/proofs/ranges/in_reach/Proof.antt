@@ -9,18 +9,31 @@ use borrow.Author.Needs.{needs}
 use Rattle.riscv.proofs.ranges.in_reach.Statement.{statement}
 use Rattle.riscv.proofs.ranges.in_reach.Tie as tie
 
+-- ---- the places on the way: an inserted line moves one of them
+
+abbrev ahead : tie.After-struct-known5 → tie.Then1
+ahead c = c .before .before .before
+
+abbrev back : tie.After-struct-known8 → tie.Else1
+back c = c .before .before .before
+
+abbrev entered : tie.After-struct-known2 → tie.Start
+entered c = c .before .before
+
+-- ---- the needs
+
 returns : tie.Need-returns
 unfolding reaches within even
 returns c =
-    let a = c .before .before .args in
-    rw (sub-ahead (a .t) (a .p) (c .before .if1 .taken))
+    let a = entered (ahead c .before) .args in
+    rw (sub-ahead (a .t .0) (a .p .0) (ahead c .if1 .taken))
 
 returns-2 : tie.Need-returns-2
 unfolding reaches within even
 returns-2 c =
-    let a = c .before .before .args in
-    let d : suc (a .p - suc (a .t)) ≡ a .p - a .t = omega arith in
-    rw (sub-back (a .t) (a .p) (c .before .if1 .left), d)
+    let a = entered (back c .before) .args in
+    let d : suc (a .p .0 - suc (a .t .0)) ≡ a .p .0 - a .t .0 = omega (arith, back c .if1 .left) in
+    rw (sub-back (a .t .0) (a .p .0) (back c .if1 .left), d)
 
 pub in-reach-spec : {M : Type 1} → statement M
 in-reach-spec = tie.close (tie.spec (λ c. search needs) returns returns-2)

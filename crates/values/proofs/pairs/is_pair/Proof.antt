@@ -6,7 +6,7 @@ use Rattle.values.proofs.pairs.is_pair.Tie as tie
 
 returns : tie.Need-returns
 unfolding isPair
-returns c = rw (c .before .before .read-relocation .ensures)
+returns c = rw (c .before .before .before .read-relocation .ensures)
 
 pub is-pair-spec : {M : Type 1} → statement M
 is-pair-spec = tie.close (tie.spec (λ c κs. search needs) returns)

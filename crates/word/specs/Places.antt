@@ -1,0 +1,18 @@
+-- "a file offset, a row offset and a run-time address are three types that can't be mixed": a number as one of them. The number of x is `x .0`.
+-- Assumes nothing: these are definitions.
+use Prim.Native.Nat.{ℕ}
+use Rattle.word.specs.declared.FileOffset.{FileOffset}
+use Rattle.word.specs.declared.SectionOffset.{SectionOffset}
+use Rattle.word.specs.declared.Address.{Address}
+
+-- a place in the object
+abbrev pub fileOffset : ℕ → FileOffset
+fileOffset n = record { 0 = n }
+
+-- a place in a section (document 01: a row offset)
+abbrev pub sectionOffset : ℕ → SectionOffset
+sectionOffset n = record { 0 = n }
+
+-- a run-time address
+abbrev pub address : ℕ → Address
+address n = record { 0 = n }
