@@ -82,7 +82,8 @@ module _ (object order : List ℕ) where
     -- "or the field that the RISC-V ELF psABI 1.0 asks for": each relocation, read back by the manual. So "every jump gives its whole
     -- distance", and the bits outside a field are the object's.
     pub fields : (i j : ℕ) → IsRelocation i j → ReadsBack object order (addresses order) (siteOf i) (sectionIn after (sectionAt object i .info)) j
-    -- "the high half and the low half laid for one address .. add up to it modulo 2^32", or 2 to the width of addresses: 26 with 27 or 28, in any two sections
+    -- "the high half and the low half laid for one address .. add up to it modulo 2^32" (2^w, where addresses have w bits): 26 with 27 or
+    -- 28, in any two sections
     pub addresses-whole : (h i l j : ℕ) → IsRelocation h i → IsRelocation l j → (f g : Field) (a b : Form) (m n : ℕ)
         → effect object (siteOf h) i ≡ Store HighAbsolute f a m → effect object (siteOf l) j ≡ Store LowAbsolute g b n → target h i ≡ target l j
         → AddUp (addressWidth object) f (bytesAt after h i m) g (bytesAt after l j n) (target h i)

@@ -59,9 +59,9 @@ abbrev pub extended : ℕ → ℕ → ℕ
 extended w u = residue w (signed 32 u)
 
 abbrev pub Said : ℕ → Calculation → Field → ℕ → ℕ → ℕ → ℕ → ℤ → Type 0
--- 1: T, as far as the field has bits
+-- 1: T, its low 32 bits: as many as the field has
 Said w Absolute f b t p d total = read (layout f) b ≡ t % 2 ^ valueBits f
--- 57: T - P modulo 2^32
+-- 57: T - P modulo 2^32, likewise
 Said w PcRelative f b t p d total = read (layout f) b ≡ minus w t p % 2 ^ valueBits f
 -- 16, 17, 44, 45: the signed distance is T - P, whole
 Said w Distance f b t p d total = signed (valueBits f) (read (layout f) b) ≡ distance t p

@@ -62,8 +62,8 @@ abbrev hasBits : ℕ → ℕ → Field → Bool
 hasBits u n f = eqb (unit f) u && eqb (valueBits f) n
 
 abbrev pub suits : Calculation → Field → Bool
-suits Absolute f = isDataField f
-suits PcRelative f = isDataField f
+suits Absolute f = hasBits 1 32 f
+suits PcRelative f = hasBits 1 32 f
 suits Distance f = isJump f
 suits BothHalves f = isCall f
 suits HighPcRelative f = hasBits 4096 32 f
@@ -115,18 +115,6 @@ near-32 Set t p = tt
 
 -- ---- values that are read back
 
--- any value, of a data field
-plain-back : (f : Field) (b v : ℕ) → isDataField f ≡ true → read (layout f) (put (layout f) b v) ≡ v % 2 ^ valueBits f
-plain-back (Data n) b v e = reads-back (Data n) b v (mod-one v)
-plain-back U b v e = never e
-plain-back I b v e = never e
-plain-back S b v e = never e
-plain-back B b v e = never e
-plain-back J b v e = never e
-plain-back Cb b v e = never e
-plain-back Cj b v e = never e
-plain-back Call b v e = never e
-
 module _ (f : Field) (b : ℕ) where
   -- a multiple of the field's unit
   back : (u n v : ℕ) → hasBits u n f ≡ true → v % u ≡ 0 → read (layout f) (put (layout f) b v) ≡ v % 2 ^ n
@@ -135,6 +123,12 @@ module _ (f : Field) (b : ℕ) where
       let bits-are : valueBits f ≡ n = eqb-true _ _ (and-right (eqb (unit f) u) (eqb (valueBits f) n) e) in
       let whole : v % unit f ≡ 0 = ap (λ k. v % k) unit-is ∙ m in
       reads-back f b v whole ∙ ap (λ k. v % 2 ^ k) bits-are
+
+  -- any value, of a field of units
+  plain-back : (n v : ℕ) → hasBits 1 n f ≡ true → read (layout f) (put (layout f) b v) ≡ v % 2 ^ valueBits f
+  plain-back n v e =
+      let unit-is : unit f ≡ 1 = eqb-true _ _ (and-left (eqb (unit f) 1) (eqb (valueBits f) n) e) in
+      reads-back f b v (ap (λ k. v % k) unit-is ∙ mod-one v)
 
   high-back : (w x : ℕ) → 32 ≤ w → HighSpelt w x → hasBits 4096 32 f ≡ true → extended w (read (layout f) (put (layout f) b (highPart w x))) ≡ highPart w x
   high-back w x h near e = ap (extended w) (back 4096 32 (highPart w x) e (mul-mod-right 4096 (high w x))) ∙ high-extended w x h near
@@ -221,8 +215,8 @@ minus-lt w t p = residue-lt w (distance t p)
 pub said : (w : ℕ) → 32 ≤ w → (c : Calculation) (f : Field) (b : ℕ) (x : ℤ) (p d : ℕ) (whole : ℤ) → stacks c ≡ false → suits c f ≡ true
     → reachesWell w c f (residue w x) p ≡ true → Near w c (residue w x) p → Said w c f (patched w c f b x p d) (residue w x) p d whole
 unfolding patched
-said w h Absolute f b x p d whole s e r near = plain-back f b (residue w x) e
-said w h PcRelative f b x p d whole s e r near = plain-back f b (minus w (residue w x) p) e
+said w h Absolute f b x p d whole s e r near = plain-back f b 32 (residue w x) e
+said w h PcRelative f b x p d whole s e r near = plain-back f b 32 (minus w (residue w x) p) e
 said w h Distance f b x p d whole s e r near = jump-back f w b (distance (residue w x) p) h e r
 said w h BothHalves Call b x p d whole s e r near = call-back w b (minus w (residue w x) p) h near (minus-lt w (residue w x) p)
 said w h BothHalves U b x p d whole s e r near = never e
