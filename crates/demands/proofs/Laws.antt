@@ -18,3 +18,4 @@ pub mod Promised
 pub mod Follows
 pub mod Codes
 pub mod Undone
+pub mod Witness
