@@ -1,8 +1,14 @@
--- What a caller in another language reads out of the one number that an exported function gives. Assumes nothing: these are definitions.
+-- What an exported function gives back, and what a caller in another language reads out of it. Assumes nothing: these are definitions.
 use mathlib.Core.Logic.{_⊎_}
 use mathlib.Core.Path.{_≡_}
 use Prim.Native.Nat.{ℕ, _/_, _%_, _^_, _≤_, _<_}
-use Rattle.plans.specs.Answers.{Answer}
+use Rattle.plans.specs.Answers.{Answer, packed}
+use Rattle.history.specs.Calls.{Files, Outcome}
+
+-- an exported function gives the answer as one number, and leaves image and ledger as the call does
+pub record Returned (code : ℕ) (left : Files) (o : Outcome Files) : Type 0 where
+  pub code-is : code ≡ packed (o .answer)
+  pub left-is : left ≡ o .after
 
 -- the low eight bits are the answer's number, the upper 32 its place, and the bits between them are 0
 pub record Reads (code : ℕ) (a : Answer) : Type 0 where

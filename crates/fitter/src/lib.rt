@@ -4,13 +4,13 @@ ghost use mathlib.Core.Bool.{true};
 ghost use Prim.Native.Nat.{_≤_};
 ghost use lib.ListN.{length};
 ghost use lib.Seq.{sets};
-ghost use Rattle.plans.specs.Answers.{packed};
-ghost use Rattle.history.specs.Calls.{calling};
+ghost use Rattle.history.specs.Calls.{files, calling};
 ghost use Rattle.history.specs.Histories.{Start};
 ghost use Rattle.replay.specs.Lists.{callCount, callAt, isCall, isList};
 ghost use Rattle.replay.specs.Replays.{replay as «the-replay»};
 ghost use Rattle.replay.specs.Facts.{leftBy, codesOf};
 ghost use Rattle.demands.specs.Demands.{ourInstall, ourRollback};
+ghost use Rattle.demands.specs.Codes.{Returned};
 ghost use Rattle.fitter.specs.Replayed.{Demand3Of};
 use install::install;
 use install::rollback;
@@ -26,9 +26,8 @@ pub extern "C" fn aktinoph_fit(
     image: &mut [u8],
     ledger: &mut [u8],
 ) -> u64
-    ensures { λ r. ⌜ (r ≡ packed (ourInstall (now (object .entry)) (now (order .entry)) (record { image = now (image .entry); journal = now (ledger .entry) }) .answer))
-        × (record { image = now (image .exit); journal = now (ledger .exit) }
-        ≡ ourInstall (now (object .entry)) (now (order .entry)) (record { image = now (image .entry); journal = now (ledger .entry) }) .after) ⌝ }
+    ensures { λ r. ⌜ Returned r (files (now (image .exit)) (now (ledger .exit)))
+        (ourInstall (now (object .entry)) (now (order .entry)) (files (now (image .entry)) (now (ledger .entry)))) ⌝ }
 {
     code_of(install(object, order, image, ledger))
 }
@@ -36,9 +35,7 @@ pub extern "C" fn aktinoph_fit(
 // `rollback` for callers in other languages. The two buffers do not overlap.
 #[no_mangle]
 pub extern "C" fn aktinoph_take_back(image: &mut [u8], ledger: &mut [u8]) -> u64
-    ensures { λ r. ⌜ (r ≡ packed (ourRollback (record { image = now (image .entry); journal = now (ledger .entry) }) .answer))
-        × (record { image = now (image .exit); journal = now (ledger .exit) }
-        ≡ ourRollback (record { image = now (image .entry); journal = now (ledger .entry) }) .after) ⌝ }
+    ensures { λ r. ⌜ Returned r (files (now (image .exit)) (now (ledger .exit))) (ourRollback (files (now (image .entry)) (now (ledger .entry)))) ⌝ }
 {
     code_of(rollback(image, ledger))
 }
@@ -46,9 +43,8 @@ pub extern "C" fn aktinoph_take_back(image: &mut [u8], ledger: &mut [u8]) -> u64
 // Makes the call that stands at a place of a list.
 fn make_call(calls: &[u8], at: usize, image: &mut [u8], ledger: &mut [u8]) -> u64
     requires { ⌜ isCall (now calls) at ≡ true ⌝ }
-    ensures { λ r. ⌜ (r ≡ packed (calling ourInstall ourRollback (record { image = now (image .entry); journal = now (ledger .entry) }) (callAt (now (calls .entry)) at) .answer))
-        × (record { image = now (image .exit); journal = now (ledger .exit) }
-        ≡ calling ourInstall ourRollback (record { image = now (image .entry); journal = now (ledger .entry) }) (callAt (now (calls .entry)) at) .after) ⌝ }
+    ensures { λ r. ⌜ Returned r (files (now (image .exit)) (now (ledger .exit)))
+        (calling ourInstall ourRollback (files (now (image .entry)) (now (ledger .entry))) (callAt (now (calls .entry)) at)) ⌝ }
 {
     if !replay::is_fit(calls, at) {
         return aktinoph_take_back(image, ledger);
@@ -61,9 +57,9 @@ fn make_call(calls: &[u8], at: usize, image: &mut [u8], ledger: &mut [u8]) -> u6
 // Makes the n calls of a list one after the other, and puts their answers into the first places.
 fn make_calls(calls: &[u8], n: usize, image: &mut [u8], ledger: &mut [u8], answers: &mut [u64])
     requires { ⌜ (isList (now calls) ≡ true) × (n ≡ callCount (now calls)) × (n ≤ length (now answers)) ⌝ }
-    ensures { λ _. ⌜ (record { image = now (image .exit); journal = now (ledger .exit) }
-        ≡ leftBy ourInstall ourRollback (now (calls .entry)) (record { image = now (image .entry); journal = now (ledger .entry) }) n)
-        × (now (answers .exit) ≡ sets (now (answers .entry)) 0 (codesOf ourInstall ourRollback (now (calls .entry)) (record { image = now (image .entry); journal = now (ledger .entry) }) n)) ⌝ }
+    ensures { λ _. ⌜ (files (now (image .exit)) (now (ledger .exit))
+        ≡ leftBy ourInstall ourRollback (now (calls .entry)) (files (now (image .entry)) (now (ledger .entry))) n)
+        × (now (answers .exit) ≡ sets (now (answers .entry)) 0 (codesOf ourInstall ourRollback (now (calls .entry)) (files (now (image .entry)) (now (ledger .entry))) n)) ⌝ }
 {
     let mut at = FIRST_AT;
     let mut i: usize = 0;
@@ -83,8 +79,8 @@ fn replay_list(
     answers: &mut [u64],
 ) -> u64
     requires { ⌜ (isList (now calls) ≡ true) × (n ≡ callCount (now calls)) ⌝ }
-    ensures { λ r. ⌜ record { ran = r; answers = now (answers .exit); after = record { image = now (image .exit); journal = now (ledger .exit) } }
-        ≡ «the-replay» ourInstall ourRollback (now (calls .entry)) (now (answers .entry)) (record { image = now (image .entry); journal = now (ledger .entry) }) ⌝ }
+    ensures { λ r. ⌜ record { ran = r; answers = now (answers .exit); after = files (now (image .exit)) (now (ledger .exit)) }
+        ≡ «the-replay» ourInstall ourRollback (now (calls .entry)) (now (answers .entry)) (files (now (image .entry)) (now (ledger .entry))) ⌝ }
 {
     if answers.len() < n {
         return 0;
@@ -102,10 +98,10 @@ pub extern "C" fn aktinoph_replay(
     ledger: &mut [u8],
     answers: &mut [u64],
 ) -> u64
-    ensures { λ r. ⌜ record { ran = r; answers = now (answers .exit); after = record { image = now (image .exit); journal = now (ledger .exit) } }
-        ≡ «the-replay» ourInstall ourRollback (now (calls .entry)) (now (answers .entry)) (record { image = now (image .entry); journal = now (ledger .entry) }) ⌝ }
-    ensures { λ r. ⌜ (r ≡ 1 → Start (record { image = now (image .entry); journal = now (ledger .entry) })
-        → Demand3Of (now (calls .entry)) (record { image = now (image .entry); journal = now (ledger .entry) }) (now (answers .exit)) (record { image = now (image .exit); journal = now (ledger .exit) })) ⌝ }
+    ensures { λ r. ⌜ record { ran = r; answers = now (answers .exit); after = files (now (image .exit)) (now (ledger .exit)) }
+        ≡ «the-replay» ourInstall ourRollback (now (calls .entry)) (now (answers .entry)) (files (now (image .entry)) (now (ledger .entry))) ⌝ }
+    ensures { λ r. ⌜ (r ≡ 1 → Start (files (now (image .entry)) (now (ledger .entry)))
+        → Demand3Of (now (calls .entry)) (files (now (image .entry)) (now (ledger .entry))) (now (answers .exit)) (files (now (image .exit)) (now (ledger .exit)))) ⌝ }
 {
     match replay::read_list(calls) {
         List::Malformed => 0,

@@ -35,6 +35,9 @@ pub record Files : Type 0 where
   pub image : List ℕ
   pub journal : List ℕ
 
+abbrev pub files : List ℕ → List ℕ → Files
+files image journal = record { image = image; journal = journal }
+
 -- an answer, and what is there after it
 pub record Outcome (S : Type 0) : Type 0 where
   pub answer : Answer

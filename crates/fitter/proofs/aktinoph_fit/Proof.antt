@@ -7,8 +7,11 @@ use Rattle.fitter.proofs.aktinoph_fit.Tie as tie
 
 returns : tie.Need-returns
 returns c =
-    let r : tie.After-install = search in
-    (c .code-of .ensures ∙ ap (λ o. packed (o .answer)) (r .install .ensures), ap (λ o. o .after) (r .install .ensures))
+    let made : tie.After-install = search in
+    record {
+      code-is = c .code-of .ensures ∙ ap (λ o. packed (o .answer)) (made .install .ensures);
+      left-is = ap (λ o. o .after) (made .install .ensures);
+    }
 
 pub aktinoph-fit-spec : {M : Type 1} → statement M
 aktinoph-fit-spec =

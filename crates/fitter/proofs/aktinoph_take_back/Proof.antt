@@ -7,8 +7,11 @@ use Rattle.fitter.proofs.aktinoph_take_back.Tie as tie
 
 returns : tie.Need-returns
 returns c =
-    let r : tie.After-rollback = search in
-    (c .code-of .ensures ∙ ap (λ o. packed (o .answer)) (r .rollback .ensures), ap (λ o. o .after) (r .rollback .ensures))
+    let made : tie.After-rollback = search in
+    record {
+      code-is = c .code-of .ensures ∙ ap (λ o. packed (o .answer)) (made .rollback .ensures);
+      left-is = ap (λ o. o .after) (made .rollback .ensures);
+    }
 
 pub aktinoph-take-back-spec : {M : Type 1} → statement M
 aktinoph-take-back-spec =

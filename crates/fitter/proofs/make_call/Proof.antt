@@ -34,7 +34,10 @@ returns c =
     let is : Rollback ≡ callAt (a .calls .now) (a .at) =
     sym (call-other (a .calls .now) (a .at) (eqb-false _ _ (sym (test .before .is-fit .ensures) ∙ not-true _ (test .if1 .taken)))) in
     let done = c .before .before .before .before .aktinoph-take-back .ensures in
-    (done .0 ∙ ap (λ (k : Call). packed (calling ourInstall ourRollback files k .answer)) is, done .1 ∙ ap (λ (k : Call). calling ourInstall ourRollback files k .after) is)
+    record {
+      code-is = done .code-is ∙ ap (λ (k : Call). packed (calling ourInstall ourRollback files k .answer)) is;
+      left-is = done .left-is ∙ ap (λ (k : Call). calling ourInstall ourRollback files k .after) is;
+    }
 
 object-of-requires : tie.Need-object-of-requires
 object-of-requires c κs = fit-inside c
@@ -52,7 +55,10 @@ returns-2 c =
     let is : Install (order .before .object-of .result .now) (order .order-of .result .now) ≡ callAt (a .calls .now) (a .at) =
     ap₂ Install (order .before .object-of .ensures) (order .order-of .ensures) ∙ sym (call-fit (a .calls .now) (a .at) (fit-is test)) in
     let done = c .before .before .before .before .aktinoph-fit .ensures in
-    (done .0 ∙ ap (λ (k : Call). packed (calling ourInstall ourRollback files k .answer)) is, done .1 ∙ ap (λ (k : Call). calling ourInstall ourRollback files k .after) is)
+    record {
+      code-is = done .code-is ∙ ap (λ (k : Call). packed (calling ourInstall ourRollback files k .answer)) is;
+      left-is = done .left-is ∙ ap (λ (k : Call). calling ourInstall ourRollback files k .after) is;
+    }
 
 pub make-call-spec : {M : Type 1} → statement M
 make-call-spec =

@@ -69,8 +69,8 @@ loop-again c =
     let i = loop .loop .i in (
       omega (arith, turn .loop-test .taken),
       c .call-end .ensures ∙ ap (callEnd s) (inv .1) ∙ sym (start-next s i),
-      left-made ourInstall ourRollback s start i (loop .loop .at) here (inv .1) (inv .2) _ (made .make-call .ensures .1),
-      codes-made ourInstall ourRollback s start i (loop .loop .at) here (inv .1) (inv .2) (a .answers .now) (loop .loop .answers) _ (inv .3) (made .make-call .ensures .0),
+      left-made ourInstall ourRollback s start i (loop .loop .at) here (inv .1) (inv .2) _ (made .make-call .ensures .left-is),
+      codes-made ourInstall ourRollback s start i (loop .loop .at) here (inv .1) (inv .2) (a .answers .now) (loop .loop .answers) _ (inv .3) (made .make-call .ensures .code-is),
       made .make-call .kept .1 .1 .0 ∙ inv .4,
       made .make-call .kept .1 .1 .1 .0 ∙ inv .5,
     )
