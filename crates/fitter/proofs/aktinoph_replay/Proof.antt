@@ -14,14 +14,17 @@ use Rattle.fitter.proofs.aktinoph_replay.Tie as tie
 
 replay-list-requires : tie.Need-replay-list-requires
 replay-list-requires c κs =
-    let read = c .before .before .before .before .before .before in
-    let s = read .before .before .before .before .before .args .calls .now in
-    listed-is (isList s) (callCount s) _ (sym (read .read-list .ensures) ∙ c .before .before .before .before .n .given .1)
+    let known : tie.After-n = search in
+    let read : tie.After-read-list = search in
+    let start : tie.Start = search in
+    let s = start .args .calls .now in
+    listed-is (isList s) (callCount s) _ (sym (read .read-list .ensures) ∙ known .n .given .1)
 
 returns : tie.Need-returns
 returns c =
-    let read = c .before .before in
-    let a = read .before .before .before .before .before .args in
+    let read : tie.After-read-list = search in
+    let start : tie.Start = search in
+    let a = start .args in
     let s = a .calls .now in (
       not-run ourInstall ourRollback s (a .answers .now) (record { image = a .image .now; journal = a .ledger .now })
           (malformed-is (isList s) (callCount s) (sym (read .read-list .ensures) ∙ c .enum-told .given .1)),
@@ -30,8 +33,9 @@ returns c =
 
 returns-2 : tie.Need-returns-2
 returns-2 c =
-    let made = c .before .before .before .before .before .before in
-    let a = made .before .before .before .before .before .before .before .before .before .before .before .before .args in (
+    let made : tie.After-replay-list = search in
+    let start-of : tie.Start = search in
+    let a = start-of .args in (
       made .replay-list .ensures,
       λ e start. replay-holds (a .calls .now) (a .answers .now) (record { image = a .image .now; journal = a .ledger .now }) start _ _ _ (made .replay-list .ensures) e,
     )

@@ -28,12 +28,13 @@ fit-inside c =
 returns : tie.Need-returns
 unfolding calling
 returns c =
+    let after-aktinoph-take-back : tie.After-aktinoph-take-back = search in
     let test = c .before .before .before .before .before .before .before in
     let a = test .before .before .before .before .before .args in
     let files : Files = record { image = a .image .now; journal = a .ledger .now } in
     let is : Rollback ≡ callAt (a .calls .now) (a .at) =
     sym (call-other (a .calls .now) (a .at) (eqb-false _ _ (sym (test .before .is-fit .ensures) ∙ not-true _ (test .if1 .taken)))) in
-    let done = c .before .before .before .before .aktinoph-take-back .ensures in
+    let done = after-aktinoph-take-back .aktinoph-take-back .ensures in
     record {
       code-is = done .code-is ∙ ap (λ (k : Call). packed (calling ourInstall ourRollback files k .answer)) is;
       left-is = done .left-is ∙ ap (λ (k : Call). calling ourInstall ourRollback files k .after) is;
@@ -48,13 +49,17 @@ order-of-requires c κs = fit-inside (c .before)
 returns-2 : tie.Need-returns-2
 unfolding calling
 returns-2 c =
-    let order = c .before .before .before .before .before .before .before in
-    let test = order .before .before in
-    let a = test .before .before .before .before .before .args in
+    let after-aktinoph-fit : tie.After-aktinoph-fit = search in
+    let made : tie.After-aktinoph-fit = search in
+    let order : tie.After-order-of = search in
+    let object : tie.After-object-of = search in
+    let test : tie.Else1 = search in
+    let start : tie.Start = search in
+    let a = start .args in
     let files : Files = record { image = a .image .now; journal = a .ledger .now } in
-    let is : Install (order .before .object-of .result .now) (order .order-of .result .now) ≡ callAt (a .calls .now) (a .at) =
-    ap₂ Install (order .before .object-of .ensures) (order .order-of .ensures) ∙ sym (call-fit (a .calls .now) (a .at) (fit-is test)) in
-    let done = c .before .before .before .before .aktinoph-fit .ensures in
+    let is : Install (object .object-of .result .now) (order .order-of .result .now) ≡ callAt (a .calls .now) (a .at) =
+    ap₂ Install (object .object-of .ensures) (order .order-of .ensures) ∙ sym (call-fit (a .calls .now) (a .at) (fit-is test)) in
+    let done = after-aktinoph-fit .aktinoph-fit .ensures in
     record {
       code-is = done .code-is ∙ ap (λ (k : Call). packed (calling ourInstall ourRollback files k .answer)) is;
       left-is = done .left-is ∙ ap (λ (k : Call). calling ourInstall ourRollback files k .after) is;

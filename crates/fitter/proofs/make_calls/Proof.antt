@@ -42,7 +42,7 @@ call-here c =
     ap (isCall s) (loop .loop .inv .1) ∙ list-call s (start .pre .0) (loop .loop .i) (omega (arith, c .loop-test .taken, start .pre .1))
 
 make-call-requires : tie.Need-make-call-requires Inv-loop μ-loop
-make-call-requires c κs = call-here (c .before .before)
+make-call-requires c κs = call-here (search)
 
 -- the answers keep their length
 room-is : (c : tie.At-loop Inv-loop μ-loop) → length (c .loop .answers) ≡ length (c .before .before .before .before .before .args .answers .now)
@@ -50,18 +50,20 @@ room-is c = ap length (c .loop .inv .3) ∙ simp length-sets
 
 slice-write-answers : tie.Need-slice-write-answers Inv-loop μ-loop
 slice-write-answers c =
-    let turn = c .before .before .before .before .before .before .before in
-    omega (arith, turn .loop-test .taken, room-is (turn .before), turn .before .before .before .before .before .before .pre .2)
+    let turn : tie.In-loop Inv-loop μ-loop = search in
+    let start : tie.Start Inv-loop μ-loop = search in
+    omega (arith, turn .loop-test .taken, room-is (search), start .pre .2)
 
 call-end-requires : tie.Need-call-end-requires Inv-loop μ-loop
-call-end-requires c κs = call-here (c .before .before .before .before .before .before .before)
+call-end-requires c κs = call-here (search)
 
 loop-again : tie.Need-loop-again Inv-loop μ-loop
 loop-again c =
-    let made = c .before .before .before .before .before in
-    let turn = made .before .before .before in
-    let loop = turn .before in
-    let a = loop .before .before .before .before .before .args in
+    let made : tie.After-make-call Inv-loop μ-loop = search in
+    let turn : tie.In-loop Inv-loop μ-loop = search in
+    let loop : tie.At-loop Inv-loop μ-loop = search in
+    let start-of : tie.Start Inv-loop μ-loop = search in
+    let a = start-of .args in
     let s = a .calls .now in
     let start : Files = record { image = a .image .now; journal = a .ledger .now } in
     let here : Files = record { image = loop .loop .image; journal = loop .loop .ledger } in
@@ -76,10 +78,14 @@ loop-again c =
     )
 
 same-length : tie.Need-same-length Inv-loop μ-loop
-same-length c = c .before .loop .inv .4
+same-length c =
+    let at-loop : tie.At-loop Inv-loop μ-loop = search in
+    at-loop .loop .inv .4
 
 same-length-2 : tie.Need-same-length-2 Inv-loop μ-loop
-same-length-2 c = c .before .loop .inv .5
+same-length-2 c =
+    let at-loop : tie.At-loop Inv-loop μ-loop = search in
+    at-loop .loop .inv .5
 
 same-length-3 : tie.Need-same-length-3 Inv-loop μ-loop
 same-length-3 c = room-is (c .before)

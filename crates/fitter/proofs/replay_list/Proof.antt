@@ -12,21 +12,21 @@ use Rattle.fitter.proofs.replay_list.Tie as tie
 
 returns : tie.Need-returns
 returns c =
-    let start = c .before .before .before .before .before in
+    let start : tie.Start = search in
     let a = start .args in
     no-places ourInstall ourRollback (a .calls .now) (a .answers .now) (record { image = a .image .now; journal = a .ledger .now }) (omega (arith, c .if1 .taken, start .pre .1))
 
 make-calls-requires : tie.Need-make-calls-requires
 make-calls-requires c κs =
-    let test = c .before .before .before in
-    let start = test .before .before .before .before .before in
+    let test : tie.Else1 = search in
+    let start : tie.Start = search in
     (start .pre .0, start .pre .1, omega (arith, test .if1 .left))
 
 returns-2 : tie.Need-returns-2
 returns-2 c =
-    let made = c .before .before .before .before .before .before in
-    let test = made .before .before .before .before in
-    let start = test .before .before .before .before .before in
+    let made : tie.After-make-calls = search in
+    let test : tie.Else1 = search in
+    let start : tie.Start = search in
     let a = start .args in
     let s = a .calls .now in
     let files : Files = record { image = a .image .now; journal = a .ledger .now } in

@@ -6,12 +6,17 @@ use Rattle.judge.proofs.judge.Statement.{statement}
 use Rattle.judge.proofs.judge.Tie as tie
 
 judge-object-requires : tie.Need-judge-object-requires
-judge-object-requires c κs = sym (c .before .before .before .read-order .ensures) ∙ c .before .counts .given .1
+judge-object-requires c κs =
+    let after-counts : tie.After-counts = search in
+    let after-read-order : tie.After-read-order = search in
+    sym (after-read-order .read-order .ensures) ∙ after-counts .counts .given .1
 
 returns : tie.Need-returns
 returns c =
-    let a = c .before .before .before .before .before .args in
-    sym (gives-2 (a .object .now) (a .order .now) (a .len) (sym (c .before .before .read-order .ensures) ∙ c .enum-told .given .1))
+    let after-read-order : tie.After-read-order = search in
+    let start : tie.Start = search in
+    let a = start .args in
+    sym (gives-2 (a .object .now) (a .order .now) (a .len) (sym (after-read-order .read-order .ensures) ∙ c .enum-told .given .1))
 
 returns-2 : tie.Need-returns-2
 returns-2 c = c .judge-object .ensures

@@ -8,20 +8,27 @@ use Rattle.judge.proofs.judge_placements.Tie as tie
 
 check-placements-requires : tie.Need-check-placements-requires
 check-placements-requires c κs =
-    let a = c .before .before .args in
-    let f = c .before .before .pre in
+    let start : tie.Start = search in
+    let a = start .args in
+    let f = start .pre in
     (sound-object (a .object .now) (f .object-is), f .reading-is)
 
 judge-externals-requires : tie.Need-judge-externals-requires
-judge-externals-requires c κs = (c .before .before .before .before .before .pre, sym (c .before .before .check-placements .ensures) ∙ c .enum-told .given .1)
+judge-externals-requires c κs =
+    let after-check-placements : tie.After-check-placements = search in
+    let start : tie.Start = search in
+    (start .pre, sym (after-check-placements .check-placements .ensures) ∙ c .enum-told .given .1)
 
 returns : tie.Need-returns
 returns c = c .judge-externals .ensures
 
 returns-2 : tie.Need-returns-2
 returns-2 c =
-    let a = c .before .before .before .before .before .before .args in
-    sym (gives-6 (a .object .now) (a .order .now) (a .len) (a .counts) _ (c .before .before .before .before .before .before .pre) (sym (c .before .before .before .check-placements .ensures) ∙ c .before .i .given .1))
+    let after-i : tie.After-i = search in
+    let after-check-placements : tie.After-check-placements = search in
+    let start : tie.Start = search in
+    let a = start .args in
+    sym (gives-6 (a .object .now) (a .order .now) (a .len) (a .counts) _ (start .pre) (sym (after-check-placements .check-placements .ensures) ∙ after-i .i .given .1))
 
 pub judge-placements-spec : {M : Type 1} → statement M
 judge-placements-spec =

@@ -14,24 +14,30 @@ use Rattle.judge.proofs.judge_placing.Statement.{statement}
 use Rattle.judge.proofs.judge_placing.Tie as tie
 
 address-array-requires : tie.Need-address-array-requires
-address-array-requires c κs = c .before .before .pre .readable .reading-is
+address-array-requires c κs =
+    let start : tie.Start = search in
+    start .pre .readable .reading-is
 
 check-placing-requires : tie.Need-check-placing-requires
 unfolding windowAllowed lengthAllowed
 check-placing-requires c κs =
-    let a = c .before .before .before .args in
-    let f = c .before .before .before .pre .readable in
+    let start : tie.Start = search in
+    let a = start .args in
+    let f = start .pre .readable in
     (sound-object (a .object .now) (f .object-is), leb-true _ _ (and-left (lengthAllowed (a .len)) _ (f .window)))
 
 judge-relocations-requires : tie.Need-judge-relocations-requires
 judge-relocations-requires c κs =
-    let a = c .before .before .before .before .before .before .args in
+    let after-check-placing : tie.After-check-placing = search in
+    let after-address-array : tie.After-address-array = search in
+    let start : tie.Start = search in
+    let a = start .args in
     let s = a .object .now in
     let o = a .order .now in
-    let f = c .before .before .before .before .before .before .pre in
+    let f = start .pre in
     let r = f .readable .reading-is in
-    let found : placingCheck s (addresses o) (base o) (a .len) ≡ c .before .before .check-placing .result .fault =
-    ap (λ b. placingCheck s (addresses o) b (a .len)) (sym (reading-sound o (a .counts) r .base-is)) ∙ ap (λ l. placingCheck s l (a .counts .base .0) (a .len)) (sym (c .before .before .before .address-array .ensures)) ∙ sym (c .before .before .check-placing .ensures .0) in
+    let found : placingCheck s (addresses o) (base o) (a .len) ≡ after-check-placing .check-placing .result .fault =
+    ap (λ b. placingCheck s (addresses o) b (a .len)) (sym (reading-sound o (a .counts) r .base-is)) ∙ ap (λ l. placingCheck s l (a .counts .base .0) (a .len)) (sym (after-address-array .address-array .ensures)) ∙ sym (after-check-placing .check-placing .ensures .0) in
     record { named = f; placing = found ∙ c .enum-told .given .1 }
 
 returns : tie.Need-returns
@@ -39,14 +45,18 @@ returns c = c .judge-relocations .ensures
 
 returns-2 : tie.Need-returns-2
 returns-2 c =
-    let a = c .before .before .before .before .before .before .before .args in
+    let after-fault : tie.After-fault = search in
+    let after-check-placing : tie.After-check-placing = search in
+    let after-address-array : tie.After-address-array = search in
+    let start : tie.Start = search in
+    let a = start .args in
     let s = a .object .now in
     let o = a .order .now in
-    let f = c .before .before .before .before .before .before .before .pre in
+    let f = start .pre in
     let r = f .readable .reading-is in
-    let found : placingCheck s (addresses o) (base o) (a .len) ≡ c .before .before .before .check-placing .result .fault =
-    ap (λ b. placingCheck s (addresses o) b (a .len)) (sym (reading-sound o (a .counts) r .base-is)) ∙ ap (λ l. placingCheck s l (a .counts .base .0) (a .len)) (sym (c .before .before .before .before .address-array .ensures)) ∙ sym (c .before .before .before .check-placing .ensures .0) in
-    sym (gives-8 s o (a .len) (a .counts) _ f (found ∙ c .before .fault .given .1))
+    let found : placingCheck s (addresses o) (base o) (a .len) ≡ after-check-placing .check-placing .result .fault =
+    ap (λ b. placingCheck s (addresses o) b (a .len)) (sym (reading-sound o (a .counts) r .base-is)) ∙ ap (λ l. placingCheck s l (a .counts .base .0) (a .len)) (sym (after-address-array .address-array .ensures)) ∙ sym (after-check-placing .check-placing .ensures .0) in
+    sym (gives-8 s o (a .len) (a .counts) _ f (found ∙ after-fault .fault .given .1))
 
 pub judge-placing-spec : {M : Type 1} → statement M
 judge-placing-spec =

@@ -41,8 +41,10 @@ add-result c = omega (arith, kind-inside (c .before .before .before))
 
 returns : tie.Need-returns
 returns c =
-    let a = c .before .before .before .args in
-    sym (end-of-other (a .calls .now) (a .at) (λ e. c .if1 .taken (c .before .read32 .ensures ∙ e)))
+    let after-read32 : tie.After-read32 = search in
+    let start : tie.Start = search in
+    let a = start .args in
+    sym (end-of-other (a .calls .now) (a .at) (λ e. c .if1 .taken (after-read32 .read32 .ensures ∙ e)))
 
 add-read32 : tie.Need-add-read32
 add-read32 c = omega (arith, fit-inside c)
@@ -63,18 +65,25 @@ add-result-2 : tie.Need-add-result-2
 add-result-2 c = omega (arith, fit-inside (c .before .before))
 
 add-result-3 : tie.Need-add-result-3
-add-result-3 c = omega (arith, fit-inside (c .before .before), c .before .read322 .ensures)
+add-result-3 c =
+    let after-read322 : tie.After-read322 = search in
+    omega (arith, fit-inside (c .before .before), after-read322 .read322 .ensures)
 
 add-result-4 : tie.Need-add-result-4
-add-result-4 c = omega (arith, fit-inside (c .before .before), c .before .read322 .ensures, order-is c)
+add-result-4 c =
+    let after-read322 : tie.After-read322 = search in
+    omega (arith, fit-inside (c .before .before), after-read322 .read322 .ensures, order-is c)
 
 returns-2 : tie.Need-returns-2
 returns-2 c =
+    let after-read322 : tie.After-read322 = search in
+    let else1 : tie.Else1 = search in
+    let after-read32 : tie.After-read32 = search in
     let start = c .before .before .before .before .before in
     let s = start .args .calls .now in
     let at = start .args .at in
-    let fit : kindAt s at ≡ FIT = sym (c .before .before .before .read32 .ensures) ∙ c .before .before .if1 .left in
-    omega (arith, end-of-fit s at fit, c .before .read322 .ensures, order-is c)
+    let fit : kindAt s at ≡ FIT = sym (after-read32 .read32 .ensures) ∙ else1 .if1 .left in
+    omega (arith, end-of-fit s at fit, after-read322 .read322 .ensures, order-is c)
 
 pub call-end-spec : {M : Type 1} → statement M
 call-end-spec =

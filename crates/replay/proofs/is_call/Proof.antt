@@ -26,17 +26,20 @@ read32-requires : tie.Need-read32-requires
 read32-requires c κs = kind-inside c
 
 is-fit-inside-requires : tie.Need-is-fit-inside-requires
-is-fit-inside-requires c κs = record { inside = kind-inside (c .before .before); is-fit = sym (c .before .read32 .ensures) ∙ c .if2 .taken }
+is-fit-inside-requires c κs =
+    let after-read32 : tie.After-read32 = search in
+    record { inside = kind-inside (c .before .before); is-fit = sym (after-read32 .read32 .ensures) ∙ c .if2 .taken }
 
 returns-2 : tie.Need-returns-2
 returns-2 c = c .is-fit-inside .ensures
 
 returns-3 : tie.Need-returns-3
 returns-3 c =
+    let after-read32 : tie.After-read32 = search in
     let start = c .before .before .before .before in
     let s = start .args .calls .now in
     let at = start .args .at in
-    sym (kind-decides s at (c .before .read32 .result) (sym (c .before .read32 .ensures)) (c .if2 .left) (kind-inside (c .before .before)))
+    sym (kind-decides s at (after-read32 .read32 .result) (sym (after-read32 .read32 .ensures)) (c .if2 .left) (kind-inside (c .before .before)))
 
 pub is-call-spec : {M : Type 1} → statement M
 is-call-spec =

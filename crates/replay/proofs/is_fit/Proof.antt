@@ -10,8 +10,9 @@ use Rattle.replay.proofs.is_fit.Tie as tie
 
 read32-requires : tie.Need-read32-requires
 read32-requires c κs =
-    let a = c .before .args in
-    omega (arith, end-above (a .calls .now) (a .at), ends-inside (a .calls .now) (a .at) (c .before .pre))
+    let start : tie.Start = search in
+    let a = start .args in
+    omega (arith, end-above (a .calls .now) (a .at), ends-inside (a .calls .now) (a .at) (start .pre))
 
 returns : tie.Need-returns
 returns c = ap (λ k. eqb k FIT) (c .read32 .ensures)

@@ -36,8 +36,9 @@ read32-requires c κs = omega (arith, lengths-inside c)
 
 returns-2 : tie.Need-returns-2
 returns-2 c =
+    let after-read32 : tie.After-read32 = search in
     let start = c .before .before .before .before in
-    sym (none-past (start .args .calls .now) (start .args .at) (omega (arith, end-is start, lengths-inside (c .before .before), c .before .read32 .ensures, c .if2 .taken)))
+    sym (none-past (start .args .calls .now) (start .args .at) (omega (arith, end-is start, lengths-inside (c .before .before), after-read32 .read32 .ensures, c .if2 .taken)))
 
 add-read32-2 : tie.Need-add-read32-2
 add-read32-2 c = omega (arith, object-inside c)
@@ -56,14 +57,15 @@ order-is c =
 
 returns-3 : tie.Need-returns-3
 returns-3 c =
+    let after-read32 : tie.After-read32 = search in
     let start = c .before .before .before .before .before in
     let s = start .args .calls .now in
     let at = start .args .at in
     let fit = end-is start in
     let order = order-is c in
-    let object = c .before .before .read32 .ensures in
+    let object = after-read32 .read32 .ensures in
     let room = object-inside (c .before) in
-    same-test (c .read322 .result) (length s - at - 12 - c .before .before .read32 .result) (callEnd s at) (length s) (λ h. omega arith) (λ h. omega arith) ∙ sym (fit-decides s at (start .pre .is-fit))
+    same-test (c .read322 .result) (length s - at - 12 - after-read32 .read32 .result) (callEnd s at) (length s) (λ h. omega arith) (λ h. omega arith) ∙ sym (fit-decides s at (start .pre .is-fit))
 
 pub is-fit-inside-spec : {M : Type 1} → statement M
 is-fit-inside-spec =

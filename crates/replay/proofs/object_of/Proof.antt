@@ -10,8 +10,10 @@ use Rattle.replay.proofs.object_of.Tie as tie
 returns : tie.Need-returns
 unfolding part
 returns c =
-    let a = c .before .before .before .args in
-    let read = c .before .read32 in
+    let after-read32 : tie.After-read32 = search in
+    let start : tie.Start = search in
+    let a = start .args in
+    let read = after-read32 .read32 in
     let size : a .at + 8 + read .result - (a .at + 8) ≡ read .result = omega arith in
     ap (part (a .calls .now) (a .at + 8)) (size ∙ read .ensures)
 

@@ -15,7 +15,10 @@ order-is c =
     c .read322 .ensures ∙ ap (λ n. leAt 4 (a .calls .now) (a .at + 8 + n)) (c .before .read32 .ensures)
 
 part-result-end : tie.Need-part-result-end
-part-result-end c = omega (arith, c .before .before .before .pre .inside, c .before .read32 .ensures, order-is c)
+part-result-end c =
+    let after-read32 : tie.After-read32 = search in
+    let start : tie.Start = search in
+    omega (arith, start .pre .inside, after-read32 .read32 .ensures, order-is c)
 
 returns : tie.Need-returns
 unfolding part

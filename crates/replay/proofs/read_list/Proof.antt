@@ -29,7 +29,8 @@ listed s n c e = rw e (ap Calls c)
 
 returns : tie.Need-returns Inv-loop μ-loop
 returns c =
-    let s = c .before .before .args .calls .now in
+    let start : tie.Start Inv-loop μ-loop = search in
+    let s = start .args .calls .now in
     sym (malformed s (not-list-end s (λ e. omega (arith, start-above s (callCount s), c .if1 .taken))))
 
 read32-requires : tie.Need-read32-requires Inv-loop μ-loop
@@ -37,10 +38,14 @@ read32-requires c κs = omega (arith, c .if1 .left)
 
 loop-holds : tie.Need-loop-holds Inv-loop μ-loop
 unfolding callStart
-loop-holds c = (omega arith, refl, omega (arith, c .before .if1 .left), λ j h. absurd (omega arith))
+loop-holds c =
+    let else1 : tie.Else1 Inv-loop μ-loop = search in
+    (omega arith, refl, omega (arith, else1 .if1 .left), λ j h. absurd (omega arith))
 
 is-call-requires : tie.Need-is-call-requires Inv-loop μ-loop
-is-call-requires c κs = c .before .loop .inv .2
+is-call-requires c κs =
+    let at-loop : tie.At-loop Inv-loop μ-loop = search in
+    at-loop .loop .inv .2
 
 -- at the loop's head the calls so far are calls
 here : (c : tie.After-is-call Inv-loop μ-loop) → c .is-call .result ≡ isCall (c .before .before .before .before .before .before .args .calls .now) (callStart (c .before .before .before .before .before .before .args .calls .now) (c .before .before .loop .i))
@@ -48,20 +53,26 @@ here c = c .is-call .ensures ∙ ap (isCall (c .before .before .before .before .
 
 returns-2 : tie.Need-returns-2 Inv-loop μ-loop
 returns-2 c =
+    let in-loop : tie.In-loop Inv-loop μ-loop = search in
     let loop = c .before .before .before in
     let s = loop .before .before .before .before .args .calls .now in
-    sym (malformed s (not-list-call s (loop .loop .i) (omega (arith, c .before .before .loop-test .taken, loop .before .read32 .ensures)) (sym (here (c .before)) ∙ not-true _ (c .if2 .taken))))
+    sym (malformed s (not-list-call s (loop .loop .i) (omega (arith, in-loop .loop-test .taken, loop .before .read32 .ensures)) (sym (here (c .before)) ∙ not-true _ (c .if2 .taken))))
 
 call-end-requires : tie.Need-call-end-requires Inv-loop μ-loop
-call-end-requires c κs = sym (c .before .is-call .ensures) ∙ not-false _ (c .if2 .left)
+call-end-requires c κs =
+    let after-is-call : tie.After-is-call Inv-loop μ-loop = search in
+    sym (after-is-call .is-call .ensures) ∙ not-false _ (c .if2 .left)
 
 loop-again : tie.Need-loop-again Inv-loop μ-loop
 loop-again c =
+    let else2 : tie.Else2 Inv-loop μ-loop = search in
+    let after-is-call : tie.After-is-call Inv-loop μ-loop = search in
+    let in-loop : tie.In-loop Inv-loop μ-loop = search in
     let loop = c .before .before .before .before in
     let s = loop .before .before .before .before .args .calls .now in
-    let is : isCall s (loop .loop .at) ≡ true = sym (c .before .before .is-call .ensures) ∙ not-false _ (c .before .if2 .left) in
+    let is : isCall s (loop .loop .at) ≡ true = sym (after-is-call .is-call .ensures) ∙ not-false _ (else2 .if2 .left) in
     let next : c .call-end .result ≡ callStart s (loop .loop .i + 1) = c .call-end .ensures ∙ ap (callEnd s) (loop .loop .inv .1) ∙ sym (start-next s (loop .loop .i)) in (
-      omega (arith, c .before .before .before .loop-test .taken),
+      omega (arith, in-loop .loop-test .taken),
       next,
       omega (arith, ends-inside s (loop .loop .at) is, c .call-end .ensures),
       below-more _ _ (loop .loop .inv .3) (ap (isCall s) (sym (loop .loop .inv .1)) ∙ is),
@@ -80,13 +91,16 @@ end-at c =
 
 returns-3 : tie.Need-returns-3 Inv-loop μ-loop
 returns-3 c =
-    let s = c .before .before .before .before .before .before .args .calls .now in
+    let start : tie.Start Inv-loop μ-loop = search in
+    let s = start .args .calls .now in
     sym (malformed s (not-list-end s (λ e. c .if3 .taken (end-at (c .before) ∙ e))))
 
 returns-4 : tie.Need-returns-4 Inv-loop μ-loop
 returns-4 c =
-    let s = c .before .before .before .before .before .before .args .calls .now in
-    listed s _ (c .before .before .before .read32 .ensures) (list-is s (all-calls (c .before)) (sym (end-at (c .before)) ∙ c .if3 .left))
+    let after-read32 : tie.After-read32 Inv-loop μ-loop = search in
+    let start : tie.Start Inv-loop μ-loop = search in
+    let s = start .args .calls .now in
+    listed s _ (after-read32 .read32 .ensures) (list-is s (all-calls (c .before)) (sym (end-at (c .before)) ∙ c .if3 .left))
 
 pub read-list-spec : {M : Type 1} → statement M
 read-list-spec =
