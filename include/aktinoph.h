@@ -6,15 +6,16 @@
  *
  * What a caller owes; all else is answered:
  *   - No pointer is null, that of an empty buffer neither. An empty buffer is never read or written.
- *   - Each buffer has its whole length, and its bytes can be read: of image and ledger also written.
+ *   - Each buffer has its whole length, and its bytes can be read: of image, ledger and answers also written.
  *   - The buffers of one call do not overlap.
- *   - No other thread uses image or ledger, or writes object or order, during the call.
+ *   - No other thread uses image, ledger or answers, or writes object, order or calls, during the call.
  *
  * Lengths: any length is answered. A call can be done with an object of at most 65,536 bytes, an image of 0 to
  * 65,536 bytes, and a ledger of at least AKTINOPH_LEDGER_HEAD bytes and the old bytes of every standing fit.
  * A ledger of zero bytes is one in which no fit stands.
  *
- * Every answer but AKTINOPH_DONE leaves image and ledger as they were, byte for byte. Object and order never change.
+ * Every answer but AKTINOPH_DONE leaves image and ledger as they were, byte for byte. Object, order and calls never
+ * change.
  */
 #ifndef AKTINOPH_H
 #define AKTINOPH_H
@@ -35,7 +36,7 @@ extern "C" {
  */
 enum aktinoph_answer {
     AKTINOPH_DONE = 0,                   /* done */
-    AKTINOPH_JOURNAL_UNSOUND = 1,        /* the ledger is not sound */
+    AKTINOPH_LEDGER_UNSOUND = 1,         /* the ledger is not sound */
     AKTINOPH_ORDER_MALFORMED = 2,        /* the order's bytes are malformed */
     AKTINOPH_WINDOW_BROKEN = 3,          /* the image is too long, or (fit) the window ends above 2^32 */
     AKTINOPH_BAD_HEADER = 4,             /* the ELF header or the object's length is not allowed */
@@ -49,7 +50,7 @@ enum aktinoph_answer {
     AKTINOPH_NOT_ONE_PAIR = 12,          /* a PCREL_LO12 without exactly one PCREL_HI20; place: relocation */
     AKTINOPH_OUT_OF_REACH = 13,          /* the distance is odd or too far; place: relocation */
     AKTINOPH_PADDING_OFF_BOUNDARY = 14,  /* ALIGN's padding does not end on its boundary; place: relocation */
-    AKTINOPH_JOURNAL_FULL = 15,          /* the ledger has 16 fits, or no room for the old bytes */
+    AKTINOPH_LEDGER_FULL = 15,           /* the ledger has 16 fits, or no room for the old bytes */
     AKTINOPH_NOTHING_STANDS = 16         /* no fit stands (take-back only) */
 };
 
@@ -62,6 +63,23 @@ uint64_t aktinoph_fit(const uint8_t *object, size_t object_len, const uint8_t *o
 
 /* Takes the newest standing fit back: writes its old bytes into the image. Answers 0, 1, 3 or 16. */
 uint64_t aktinoph_take_back(uint8_t *image, size_t image_len, uint8_t *ledger, size_t ledger_len);
+
+/* What a list of calls has before a fit, and before a taking-back. */
+#define AKTINOPH_CALL_FIT 1
+#define AKTINOPH_CALL_TAKE_BACK 2
+
+/*
+ * Makes a list of calls on image and ledger, one after the other. The list's bytes are the count of calls, and then
+ * each call: its kind, and of a fit the object and the order, each after its length. Nothing follows. Count, kinds and
+ * lengths are four bytes, little-endian.
+ *
+ * Returns 1 where the list was run: answers begins with the answer of each call in turn, and its other places are as
+ * they were. A refused call changes nothing, and the next one is made all the same. Returns 0 where the bytes are
+ * malformed, or answers has fewer places than the list has calls: then image, ledger and answers are as they were.
+ * answers_len counts places, and not bytes.
+ */
+uint64_t aktinoph_replay(const uint8_t *calls, size_t calls_len, uint8_t *image, size_t image_len,
+                         uint8_t *ledger, size_t ledger_len, uint64_t *answers, size_t answers_len);
 
 /* The number of an answer: its low eight bits. */
 static inline unsigned aktinoph_number(uint64_t answer) { return (unsigned)(answer & 0xFF); }

@@ -3,34 +3,11 @@
  * Writes number and place; a done call replaces image and ledger.
  */
 #include <stdbool.h>
-#include <stdio.h>
-#include <stdlib.h>
 
 #include "aktinoph.h"
-
-/* An allowed file has at most 65,536 bytes; one more shows that a file is too long. */
-enum { LONGEST = 65536 };
+#include "files.h"
 
 static uint8_t object[LONGEST + 1], order[LONGEST + 1], image[LONGEST + 1], ledger[LONGEST + 1];
-
-static size_t read_file(const char *name, uint8_t *bytes) {
-    FILE *file = fopen(name, "rb");
-    size_t length = file ? fread(bytes, 1, LONGEST + 1, file) : 0;
-    if (!file || ferror(file) || length > LONGEST) {
-        fprintf(stderr, "%s: cannot be read, or is too long\n", name);
-        exit(1);
-    }
-    fclose(file);
-    return length;
-}
-
-static void write_file(const char *name, const uint8_t *bytes, size_t length) {
-    FILE *file = fopen(name, "wb");
-    if (!file || fwrite(bytes, 1, length, file) != length || fclose(file) != 0) {
-        fprintf(stderr, "%s: cannot be written\n", name);
-        exit(1);
-    }
-}
 
 int main(int count, char **names) {
     bool is_fit = count == 5, is_take_back = count == 3;

@@ -11,8 +11,8 @@ ghost use lib.Dec.{ltb};
 ghost use lib.ListN.{take};
 ghost use Rattle.io.specs.Counts.{Counts};
 ghost use Rattle.text.specs.Lines.{line};
-ghost use Rattle.judge.specs.declared.Answer.{Answer};
-ghost use Rattle.judge.specs.Answers.{answerOf, packed};
+ghost use Rattle.plans.specs.Answers.{Answer};
+ghost use Rattle.demands.specs.Codes.{Reads};
 use files::MAX_FILE;
 use files::ROOM;
 use files::replace_both;
@@ -128,12 +128,12 @@ fn any_long(object: usize, order: usize, image: usize, ledger: usize) -> bool
     (object > MAX_FILE) | (order > MAX_FILE) | (image > MAX_FILE) | (ledger > MAX_FILE)
 }
 
-// The line of the answer that a code packs: its number is in the low half, its place in the high one.
+// The line of the answer that a code is read as: its number is in the low eight bits, its place in the upper 32.
 fn line_of(code: u64, out: &mut [u8; 42]) -> usize
     ensures { λ r. ⌜ Counts r (now (out .exit)) ⌝ }
-    ensures { λ r. ⌜ ((answer : Answer) → code ≡ packed (answerOf answer) → take r (now (out .exit)) ≡ line (answerOf answer)) ⌝ }
+    ensures { λ r. ⌜ ((answer : Answer) → Reads code answer → take r (now (out .exit)) ≡ line answer) ⌝ }
 {
-    text::answer_line(code % 4294967296, code / 4294967296, out)
+    text::answer_line(code % 256, code / 4294967296, out)
 }
 
 fn print_answer(code: u64) {

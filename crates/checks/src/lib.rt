@@ -11,9 +11,10 @@ ghost use Rattle.rela.specs.Sites.{entry, effect, offset};
 ghost use Rattle.effects.specs.Effects.{touched, needsPair};
 ghost use Rattle.rules.specs.Rules.{isResolved, inTarget, symbolWell, isData, standsWell, formWell, isOne, pairWell, reachesWell, distanceWell, boundaryWell};
 ghost use Rattle.rela.specs.Facts.{There, InTable};
-ghost use Rattle.effects.specs.Widths.{isWidth};
+ghost use Rattle.endian.specs.Widths.{isWidth};
 use effects::is_store;
 use effects::needs_pair;
+use endian::read_bytes;
 use fields::Field;
 use rela::sites::Site;
 use riscv::forms::Form;
@@ -27,7 +28,6 @@ use types::Decision;
 use types::decide;
 use values::pairs::Pair;
 use values::pairs::hi20_pair;
-use values::read_bytes;
 use word::Address;
 use word::SectionOffset;
 
@@ -147,7 +147,7 @@ pub fn is_paired(object: &[u8], symbols: Symbols, site: Site, j: usize) -> bool
 
 // Whether a distance from p to t is allowed for a calculation and its field.
 fn reaches_well(calculation: Calculation, field: Field, t: Address, p: Address) -> bool
-    ensures { λ r. ⌜ r ≡ reachesWell calculation field (t .0) (p .0) ⌝ }
+    ensures { λ r. ⌜ r ≡ reachesWell 32 calculation field (t .0) (p .0) ⌝ }
 {
     match calculation {
         Calculation::Distance => in_reach(range_of(field), t, p),
@@ -166,7 +166,7 @@ fn reaches_well(calculation: Calculation, field: Field, t: Address, p: Address) 
 
 // Check 13.
 pub fn is_in_reach(decision: Decision, t: Address, p: Address) -> bool
-    ensures { λ r. ⌜ r ≡ distanceWell decision (t .0) (p .0) ⌝ }
+    ensures { λ r. ⌜ r ≡ distanceWell 32 decision (t .0) (p .0) ⌝ }
 {
     match decision {
         Decision::Store(calculation, field, _, _) => reaches_well(calculation, field, t, p),

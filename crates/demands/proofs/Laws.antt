@@ -14,3 +14,7 @@ pub mod Octets
 pub mod Only
 pub mod Sample
 pub mod Wrong
+pub mod Promised
+pub mod Follows
+pub mod Codes
+pub mod Undone

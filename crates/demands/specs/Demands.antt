@@ -1,17 +1,19 @@
 -- The demands, of any install and any rollback. Assumes nothing: these are definitions.
 use mathlib.Core.Path.{_≡_}
 use mathlib.Core.Bool.{false}
-use mathlib.Core.List.{List}
+use mathlib.Core.List.{List, [], _∷_}
 use Prim.Native.Nat.{ℕ, _≤_, _<_}
 use lib.ListN.{length, getD}
 use Rattle.elf.specs.Headers.{sectionCount}
 use Rattle.elf.specs.Sections.{sectionAt, allocated}
 use Rattle.order.specs.Orders.{placementCount}
 use Rattle.order.specs.Windows.{maxImage}
-use Rattle.journal.specs.declared.Span.{Span}
+use Rattle.plans.specs.declared.Span.{Span}
+use Rattle.plans.specs.Plans.{spanOf}
 use Rattle.journal.specs.Journals.{count, Sound}
-use Rattle.history.specs.Calls.{Files, done, install, rollback, Call, InstallCall, RollbackCall, calling}
-use Rattle.history.specs.Histories.{Start, Holds}
+use Rattle.plans.specs.Answers.{Answer, done}
+use Rattle.history.specs.Calls.{Files, install, rollback, Call, InstallCall, RollbackCall, calling, answers, run}
+use Rattle.history.specs.Histories.{Standing, laid, Start, historyOf, Kind, FilesAre, CallsAre, Holds}
 use Rattle.history.specs.Records.{Appended, Released}
 use Rattle.judgement.specs.Judgement.{judgement}
 use Rattle.demands.specs.Rules.{Rules}
@@ -26,12 +28,12 @@ rollbackTable f = one 1 (Sound (f .journal) (length (f .image))) (one 3 (length 
 pub record Demand1 (installs : InstallCall) (rollsBack : RollbackCall) : Type 0 where
   -- "A refusal gives its number and place from document 01,"
   pub install-refused : (object order : List ℕ) (f : Files) → (installs object order f .answer ≡ done → ⊥)
-      → FirstBroken (table object order f) (installs object order f .answer .number) (installs object order f .answer .place)
-  pub rollback-refused : (f : Files) → (rollsBack f .answer ≡ done → ⊥) → FirstBroken (rollbackTable f) (rollsBack f .answer .number) (rollsBack f .answer .place)
+      → FirstBroken (table object order f) (installs object order f .answer)
+  pub rollback-refused : (f : Files) → (rollsBack f .answer ≡ done → ⊥) → FirstBroken (rollbackTable f) (rollsBack f .answer)
   -- of a taking-back, "given exactly when" (of a fit, demand 2 has it)
   pub rollback-holds : (f : Files) → rollsBack f .answer ≡ done → AllHold (rollbackTable f)
   pub rollback-done : (f : Files) → AllHold (rollbackTable f) → rollsBack f .answer ≡ done
-  pub rollback-first : (f : Files) (n p : ℕ) → FirstBroken (rollbackTable f) n p → rollsBack f .answer ≡ record { number = n; place = p }
+  pub rollback-first : (f : Files) (a : Answer) → FirstBroken (rollbackTable f) a → rollsBack f .answer ≡ a
   -- "and image and ledger then hold exactly the bytes they held."
   pub install-kept : (object order : List ℕ) (f : Files) → (installs object order f .answer ≡ done → ⊥) → installs object order f .after ≡ f
   pub rollback-kept : (f : Files) → (rollsBack f .answer ≡ done → ⊥) → rollsBack f .after ≡ f
@@ -42,8 +44,8 @@ pub record Demand2 (installs : InstallCall) : Type 0 where
   pub holds-done : (object order : List ℕ) (f : Files) → Rules object order f → installs object order f .answer ≡ done
   -- "otherwise the first broken rule is named."
   pub refused-first : (object order : List ℕ) (f : Files) → (installs object order f .answer ≡ done → ⊥)
-      → FirstBroken (table object order f) (installs object order f .answer .number) (installs object order f .answer .place)
-  pub first-refused : (object order : List ℕ) (f : Files) (n p : ℕ) → FirstBroken (table object order f) n p → installs object order f .answer ≡ record { number = n; place = p }
+      → FirstBroken (table object order f) (installs object order f .answer)
+  pub first-refused : (object order : List ℕ) (f : Files) (a : Answer) → FirstBroken (table object order f) a → installs object order f .answer ≡ a
   -- "Once done, each laid byte is the object's own or the field that the RISC-V ELF psABI 1.0 asks for. .. No other image byte changes."
   pub laid : (object order : List ℕ) (f : Files) → installs object order f .answer ≡ done → Laid object order (f .image) (installs object order f .after .image)
   -- "An order without placements fits only an object with nothing to place."
@@ -58,30 +60,53 @@ pub record Journalled (installs : InstallCall) (rollsBack : RollbackCall) : Type
   -- "A taking-back writes them back, zeroes the entry and the released bytes, and lowers n and k."
   pub releases : (f : Files) → rollsBack f .answer ≡ done → Released f (rollsBack f .after)
 
--- "Start with any image of allowed length and any sound ledger in which no fit stands. .. For every list of fits and takings-back from there,
--- refused ones included, the following holds after it." The history goes by document 01's judgement.
-abbrev pub Demand3 : InstallCall → RollbackCall → Type 0
-Demand3 installs rollsBack = (start : Files) → Start start → (calls : List Call) → Holds (calling installs rollsBack) judgement start calls
+-- ---- demand 3: "Start with any image of allowed length and any sound ledger in which no fit stands. .. For every list of fits and
+-- takings-back from there, refused ones included, the following holds after it." The history goes by document 01's judgement.
 
--- ---- calls that meet what is said of each by itself, on bytes. `Only` shows that no two of them differ.
+-- "with its span and its laid bytes as demand 2 gives them": each fit that stands, the newest first, over what those before it left
+abbrev pub StandAsLaid : List ℕ → List Standing → Type 0
+StandAsLaid start [] = Unit {0}
+StandAsLaid start (x ∷ older) =
+    Laid (x .object) (x .order) (laid start older) (laid start (x ∷ older)) × IsSpan (x .object) (x .order) (spanOf (x .pieces)) × StandAsLaid start older
 
-abbrev pub AreBytes : List ℕ → Type 0
+-- what holds after a list of calls: these were the answers, and this is left
+pub record AfterCalls (installs : InstallCall) (rollsBack : RollbackCall) (K : Kind) (start : Files) (calls : List Call) (got : List Answer) (left : Files) : Type 0 where
+  pub holds : Holds (calling installs rollsBack) judgement K start calls got left
+  pub stand-as-laid : StandAsLaid (start .image) (historyOf judgement start calls .standing)
+
+abbrev pub Demand3 : Kind → InstallCall → RollbackCall → Type 0
+Demand3 K installs rollsBack =
+    (start : Files) → FilesAre K start → Start start → (calls : List Call) → CallsAre K calls
+    → AfterCalls installs rollsBack K start calls (answers (calling installs rollsBack) start calls) (run (calling installs rollsBack) start calls)
+
+-- ---- all of it
+
+-- the kinds of lists: any, and bytes
+abbrev pub AnyList : Kind
+AnyList s = Unit {0}
+
+abbrev pub AreBytes : Kind
 AreBytes s = (i : ℕ) → getD s i 0 < 256
 
-abbrev pub OnBytes : Files → Type 0
-OnBytes f = AreBytes (f .image) × AreBytes (f .journal)
-
+-- What is said of each call by itself. `Only` shows that no two pairs of calls that meet it differ on bytes, and `Follows` that they meet
+-- demand 3 there.
 pub record Meets (installs : InstallCall) (rollsBack : RollbackCall) : Type 0 where
   pub demand-1 : Demand1 installs rollsBack
   pub demand-2 : Demand2 installs
   pub journalled : Journalled installs rollsBack
   -- what is left is bytes, where what is given is
-  pub install-bytes : (object order : List ℕ) (f : Files) → AreBytes object → OnBytes f → OnBytes (installs object order f .after)
-  pub rollback-bytes : (f : Files) → OnBytes f → OnBytes (rollsBack f .after)
+  pub install-bytes : (object order : List ℕ) (f : Files) → AreBytes object → FilesAre AreBytes f → FilesAre AreBytes (installs object order f .after)
+  pub rollback-bytes : (f : Files) → FilesAre AreBytes f → FilesAre AreBytes (rollsBack f .after)
 
--- the two calls that the fitter's contracts name
-abbrev pub ours : InstallCall
-ours = install judgement
+-- everything that is promised of two calls
+pub record Promised (installs : InstallCall) (rollsBack : RollbackCall) : Type 0 where
+  pub each : Meets installs rollsBack
+  pub every-list : Demand3 AnyList installs rollsBack
 
-abbrev pub ours-back : RollbackCall
-ours-back = rollback
+-- ---- the two calls of this fitter, which the contracts of the exported functions name: `Promised.ours-keep` is the claim
+
+abbrev pub ourInstall : InstallCall
+ourInstall = install judgement
+
+abbrev pub ourRollback : RollbackCall
+ourRollback = rollback

@@ -5,11 +5,12 @@ use mathlib.Core.Path.{_≡_}
 use mathlib.Core.List.{List}
 use Prim.Native.Nat.{ℕ, _^_, _<_}
 use lib.ListN.{length}
-use Rattle.elf.specs.Headers.{sectionCount}
+use Rattle.elf.specs.Headers.{addressWidth, sectionCount}
 use Rattle.elf.specs.Entries.{relocationCount}
 use Rattle.order.specs.Orders.{base}
 use Rattle.validate.specs.Sound.{SoundSection}
 use Rattle.journal.specs.Journals.{Sound}
+use Rattle.plans.specs.Answers.{Answer, says}
 use Rattle.history.specs.Calls.{Files}
 use Rattle.demands.specs.Rules.{OrderWell, WindowWell, HeaderWell, TableWell, PlacedAsAllocated, ValuedIfUndefined, PlacedIfAllocated, Shape, SymbolResolves, FormIs, OnePair, Reaches, OnBoundary, Room}
 
@@ -38,17 +39,17 @@ abbrev pub AllHold : Checks → Type 0
 AllHold none = Unit {0}
 AllHold (check m l c) = HoldBelow l m × AllHold c
 
--- ---- the first that is broken: its number n and its place p
+-- ---- the first that is broken, which an answer names by its number and its place
 
 -- the rules before it hold at its place
-abbrev pub BrokenAt : Line → ℕ → ℕ → Type 0
-BrokenAt nil n p = ⊥
-BrokenAt (rule m R l) n p = ((n ≡ m) × (R p → ⊥)) ⊎ (R p × BrokenAt l n p)
+abbrev pub BrokenAt : Line → Answer → Type 0
+BrokenAt nil a = ⊥
+BrokenAt (rule n R l) a = ((a ≡ says n (a .place)) × (R (a .place) → ⊥)) ⊎ (R (a .place) × BrokenAt l a)
 
 -- the checks before it hold, and its own check at the places below
-abbrev pub FirstBroken : Checks → ℕ → ℕ → Type 0
-FirstBroken none n p = ⊥
-FirstBroken (check m l c) n p = ((p < m) × HoldBelow l p × BrokenAt l n p) ⊎ (HoldBelow l m × FirstBroken c n p)
+abbrev pub FirstBroken : Checks → Answer → Type 0
+FirstBroken none a = ⊥
+FirstBroken (check m l c) a = ((a .place < m) × HoldBelow l (a .place) × BrokenAt l a) ⊎ (HoldBelow l m × FirstBroken c a)
 
 -- ---- document 01's table
 
@@ -64,7 +65,7 @@ unfoldable pub table : List ℕ → List ℕ → Files → Checks
 table object order f =
     one 1 (Sound (f .journal) (length (f .image)))
     (one 2 (OrderWell order)
-    (one 3 (WindowWell (base order) (length (f .image)))
+    (one 3 (WindowWell (addressWidth object) (base order) (length (f .image)))
     (one 4 (HeaderWell object)
     (one 5 (TableWell object)
     (each (sectionCount object) 5 (SoundSection object)

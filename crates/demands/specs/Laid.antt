@@ -5,12 +5,12 @@ use mathlib.Core.List.{List}
 use Prim.Native.Nat.{ℕ, _+_, _-_, _≤_, _<_}
 use lib.ListN.{length, getD}
 use Rattle.word.specs.Bytes.{leAt, part}
-use Rattle.elf.specs.Headers.{sectionCount}
+use Rattle.elf.specs.Headers.{addressWidth, sectionCount}
 use Rattle.elf.specs.Sections.{sectionAt, countingRela}
 use Rattle.elf.specs.Entries.{bytesOf}
 use Rattle.order.specs.Orders.{base}
 use Rattle.lookup.specs.Addresses.{addresses}
-use Rattle.journal.specs.declared.Span.{Span}
+use Rattle.plans.specs.declared.Span.{Span}
 use Rattle.placing.specs.Placing.{hasBytes}
 use Rattle.fields.specs.declared.Field.{Field}
 use Rattle.fields.specs.declared.Field.the-variants.{U}
@@ -18,10 +18,10 @@ use Rattle.riscv.specs.declared.forms.Form.{Form}
 use Rattle.types.specs.declared.Calculation.the-variants.{HighAbsolute, LowAbsolute, LowOfPair}
 use Rattle.types.specs.declared.Decision.the-variants.{Store}
 use Rattle.rela.specs.declared.sites.Site.{Site}
-use Rattle.rela.specs.Sites.{siteAt, count, effect, offset, A}
+use Rattle.rela.specs.Sites.{siteAt, count, effect, offset}
 use Rattle.rela.specs.Shape.{end}
 use Rattle.values.specs.declared.pairs.Pair.the-variants.{At}
-use Rattle.values.specs.Values.{valueAt, S, T}
+use Rattle.values.specs.Values.{targetAt}
 use Rattle.values.specs.Pairs.{pairOf}
 use Rattle.rules.specs.Rules.{symbol}
 use Rattle.stores.specs.Sections.{distanceAt}
@@ -70,7 +70,7 @@ module _ (object order : List ℕ) where
 
   -- T of relocation j of RELA section i
   abbrev pub target : ℕ → ℕ → ℕ
-  target i j = T (S (valueAt object order (addresses order) (siteOf i) j)) (A object (siteOf i) j)
+  target i j = targetAt object order (addresses order) (siteOf i) j
 
   -- an image before and after
   pub record Laid (before after : List ℕ) : Type 0 where
@@ -82,11 +82,11 @@ module _ (object order : List ℕ) where
     -- "or the field that the RISC-V ELF psABI 1.0 asks for": each relocation, read back by the manual. So "every jump gives its whole
     -- distance", and the bits outside a field are the object's.
     pub fields : (i j : ℕ) → IsRelocation i j → ReadsBack object order (addresses order) (siteOf i) (sectionIn after (sectionAt object i .info)) j
-    -- "the high half and the low half laid for one address .. add up to it modulo 2^32": 26 with 27 or 28, in any two sections
+    -- "the high half and the low half laid for one address .. add up to it modulo 2^32", or 2 to the width of addresses: 26 with 27 or 28, in any two sections
     pub addresses-whole : (h i l j : ℕ) → IsRelocation h i → IsRelocation l j → (f g : Field) (a b : Form) (m n : ℕ)
         → effect object (siteOf h) i ≡ Store HighAbsolute f a m → effect object (siteOf l) j ≡ Store LowAbsolute g b n → target h i ≡ target l j
-        → AddUp f (bytesAt after h i m) g (bytesAt after l j n) (target h i)
+        → AddUp (addressWidth object) f (bytesAt after h i m) g (bytesAt after l j n) (target h i)
     -- ".. or distance": 24 or 25 with the one 23 that is its pair
     pub distances-whole : (i j : ℕ) → IsRelocation i j → (g : Field) (b : Form) (n : ℕ) → effect object (siteOf i) j ≡ Store LowOfPair g b n
         → (k : ℕ) × (k < count (siteOf i)) × (pairOf object (siteOf i) (symbol object (siteOf i) j .value) ≡ At k)
-        × AddUp U (bytesAt after i k 4) g (bytesAt after i j n) (distanceAt object order (addresses order) (siteOf i) k)
+        × AddUp (addressWidth object) U (bytesAt after i k 4) g (bytesAt after i j n) (distanceAt object order (addresses order) (siteOf i) k)

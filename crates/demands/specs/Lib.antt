@@ -2,3 +2,4 @@ pub mod Rules
 pub mod First
 pub mod Laid
 pub mod Demands
+pub mod Codes

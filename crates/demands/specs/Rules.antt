@@ -18,7 +18,7 @@ use Rattle.riscv.specs.Ranges.{distance, rangeOf}
 use Rattle.types.specs.declared.Calculation.{Calculation}
 use Rattle.types.specs.declared.Calculation.the-variants.{Absolute, PcRelative, Distance, BothHalves, HighPcRelative, HighAbsolute, LowAbsolute, LowOfPair, Add, Sub, Set}
 use Rattle.types.specs.declared.Decision.the-variants.{Align, Store}
-use Rattle.elf.specs.Headers.{sectionTable, sectionCount, maxSections}
+use Rattle.elf.specs.Headers.{addressWidth, sectionTable, sectionCount, maxSections}
 use Rattle.elf.specs.Sections.{sectionAt, allocated, isAllocated, symbolTable}
 use Rattle.elf.specs.Entries.{symbolAt, symbolCount, relocationCount, locationOf}
 use Rattle.header.specs.Headers.{maxObject}
@@ -28,7 +28,7 @@ use Rattle.order.specs.Windows.{maxImage}
 use Rattle.lookup.specs.Values.{isGiven, externalValue}
 use Rattle.lookup.specs.Addresses.{addresses, placedAt}
 use Rattle.journal.specs.Journals.{maxEntries, oldAt, count as countOf, held, Sound}
-use Rattle.journal.specs.Plans.{spanOf}
+use Rattle.plans.specs.declared.Span.{Span}
 use Rattle.history.specs.Calls.{Files}
 use Rattle.placing.specs.Placing.{endOf, unit, hasBytes}
 use Rattle.symbols.specs.declared.SymbolValue.{SymbolValue}
@@ -37,10 +37,10 @@ use Rattle.rela.specs.declared.shape.Previous.the-variants.{Entry}
 use Rattle.rela.specs.Sites.{siteAt, count, entry, effect, offset, A, P, found}
 use Rattle.effects.specs.Effects.{isStore, isRefused, stackWidth, needsPair}
 use Rattle.rela.specs.Shape.{end, previous}
-use Rattle.values.specs.Values.{valueAt, S, T}
+use Rattle.values.specs.Values.{valueAt, targetAt}
 use Rattle.values.specs.Pairs.{isPair, howMany}
 use Rattle.rules.specs.Rules.{isResolved, symbol, isData}
-use Rattle.judgement.specs.Judgement.{planOf}
+use Rattle.demands.specs.Laid.{IsSpan}
 
 -- ---- 1 "ledger unsound": `Sound` of the journal
 
@@ -61,11 +61,12 @@ pub record OrderWell (order : List ℕ) : Type 0 where
   pub placements-ascend : (i : ℕ) → suc i < placementCount order → placement order i .index < placement order (suc i) .index
   pub externals-ascend : (i : ℕ) → suc i < externalCount order → external order i .index < external order (suc i) .index
 
--- ---- 3 "window rule broken": "the image covers base up to base + its length; length 0 to 65,536, end at most 2^32"
+-- ---- 3 "window rule broken": "the image covers base up to base + its length; length 0 to 65,536, end at most 2^32", for
+-- addresses of w bits 2^w
 
-pub record WindowWell (start len : ℕ) : Type 0 where
+pub record WindowWell (w start len : ℕ) : Type 0 where
   pub short : len ≤ maxImage
-  pub ends : start + len ≤ 2 ^ 32
+  pub ends : start + len ≤ 2 ^ w
 
 -- ---- 4 "header or file length"
 
@@ -115,7 +116,7 @@ pub record PlacedWell (object a : List ℕ) (start len i : ℕ) : Type 0 where
   -- "an address is a multiple of the row's alignment (0 counts as 1)"
   pub aligned : getD a i 0 % unit (sectionAt object i .alignment) ≡ 0
   -- "the row ends at or below 2^32"
-  pub ends : endOf object a i ≤ 2 ^ 32
+  pub ends : endOf object a i ≤ 2 ^ addressWidth object
   -- "a laid row of size above 0 lies in the window"
   pub in-window : hasBytes (sectionAt object i) ≡ true → (start ≤ getD a i 0) × (endOf object a i ≤ start + len)
   -- "two rows of size above 0 share no address, the higher row being at fault"
@@ -183,7 +184,7 @@ FormWell object x j =
 abbrev pub PairWell : List ℕ → Site → ℕ → Type 0
 PairWell object x j = needsPair (effect object x j) ≡ true → howMany (isPair object x (symbol object x j .value)) (count x) ≡ 1
 
--- ---- 13 "distance odd or too far", for t, which is T, and p, which is P
+-- ---- 13 "distance odd or too far", for addresses of w bits, t, which is T, and p, which is P
 
 -- 16, 17, 44, 45: "the distance is the whole number T - P", "even", and in the field's range
 pub record InReach (r : Range) (z : ℤ) : Type 0 where
@@ -191,21 +192,21 @@ pub record InReach (r : Range) (z : ℤ) : Type 0 where
   pub in-range : Within (r .back) (r .ahead) z
 
 -- 18, 19: "T - P modulo 2^32, which is even". No other type has such a rule.
-abbrev pub Reachable : Calculation → Field → ℕ → ℕ → Type 0
-Reachable Distance f t p = InReach (rangeOf f) (distance t p)
-Reachable BothHalves f t p = Even (pos (minus 32 t p))
-Reachable Absolute f t p = Unit {0}
-Reachable PcRelative f t p = Unit {0}
-Reachable HighPcRelative f t p = Unit {0}
-Reachable HighAbsolute f t p = Unit {0}
-Reachable LowAbsolute f t p = Unit {0}
-Reachable LowOfPair f t p = Unit {0}
-Reachable Add f t p = Unit {0}
-Reachable Sub f t p = Unit {0}
-Reachable Set f t p = Unit {0}
+abbrev pub Reachable : ℕ → Calculation → Field → ℕ → ℕ → Type 0
+Reachable w Distance f t p = InReach (rangeOf f) (distance t p)
+Reachable w BothHalves f t p = Even (pos (minus w t p))
+Reachable w Absolute f t p = Unit {0}
+Reachable w PcRelative f t p = Unit {0}
+Reachable w HighPcRelative f t p = Unit {0}
+Reachable w HighAbsolute f t p = Unit {0}
+Reachable w LowAbsolute f t p = Unit {0}
+Reachable w LowOfPair f t p = Unit {0}
+Reachable w Add f t p = Unit {0}
+Reachable w Sub f t p = Unit {0}
+Reachable w Set f t p = Unit {0}
 
 abbrev pub ReachWell : List ℕ → Site → ℕ → ℕ → Type 0
-ReachWell object x j t = (c : Calculation) (f : Field) (form : Form) (n : ℕ) → effect object x j ≡ Store c f form n → Reachable c f t (P object x j)
+ReachWell object x j t = (c : Calculation) (f : Field) (form : Form) (n : ℕ) → effect object x j ≡ Store c f form n → Reachable (addressWidth object) c f t (P object x j)
 
 -- ---- 14 "padding not on its boundary": "P + A a multiple of the smallest power of two at least A + 2"
 
@@ -238,7 +239,7 @@ module _ (object order : List ℕ) where
   OnePair k = PairWell object (site k) (entryOf k)
 
   abbrev pub Reaches : ℕ → Type 0
-  Reaches k = ReachWell object (site k) (entryOf k) (T (S (valueOf k)) (A object (site k) (entryOf k)))
+  Reaches k = ReachWell object (site k) (entryOf k) (targetAt object order (addresses order) (site k) (entryOf k))
 
   abbrev pub OnBoundary : ℕ → Type 0
   OnBoundary k = BoundaryWell object (site k) (entryOf k)
@@ -247,14 +248,14 @@ module _ (object order : List ℕ) where
 
 pub record Room (object order journal : List ℕ) : Type 0 where
   pub entry-free : countOf journal ≡ maxEntries → ⊥
-  pub bytes-free : oldAt + held journal + spanOf (planOf object order) .size ≤ length journal
+  pub bytes-free : (s : Span) → IsSpan object order s → oldAt + held journal + s .size ≤ length journal
 
 -- ---- all of them
 
 pub record Rules (object order : List ℕ) (f : Files) : Type 0 where
   pub journal-sound : Sound (f .journal) (length (f .image))
   pub order-well : OrderWell order
-  pub window-well : WindowWell (base order) (length (f .image))
+  pub window-well : WindowWell (addressWidth object) (base order) (length (f .image))
   pub header-well : HeaderWell object
   pub table-well : TableWell object
   pub sections-well : (i : ℕ) → i < sectionCount object → SoundSection object i

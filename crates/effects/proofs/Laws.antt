@@ -1,3 +1,2 @@
 -- The laws of the definitions in specs/.
-pub mod Widths
 pub mod Decisions

@@ -1,15 +1,9 @@
--- How many bytes are read or written at once, and which fields are data. Assumes nothing: these are definitions.
+-- Which fields are data. Assumes nothing: these are definitions.
 use mathlib.Core.Bool.{Bool, true, false, not, _||_}
-use Prim.Native.Nat.{ℕ}
-use lib.Dec.{eqb}
 use Rattle.fields.specs.declared.Field.{Field}
 use Rattle.fields.specs.declared.Field.the-variants.{U, I, S, B, J, Cb, Cj, Call, Data}
 use Rattle.types.specs.declared.Calculation.{Calculation}
 use Rattle.effects.specs.Effects.{stacks}
-
--- a number of bytes that is read or written at once
-abbrev pub isWidth : ℕ → Bool
-isWidth n = eqb n 1 || eqb n 2 || eqb n 4 || eqb n 8
 
 -- a field of data
 abbrev pub isDataField : Field → Bool

@@ -17,6 +17,10 @@ symbolSize = 16
 abbrev pub relocationSize : ℕ
 relocationSize = 12
 
+-- how many bits an address has: 32 in a file of class 1 (ELFCLASS32). No other definition says how wide addresses are.
+abbrev pub addressWidth : List ℕ → ℕ
+addressWidth s = 32
+
 -- where the section header table starts, and how many headers it has (document 01: the row table, rows)
 abbrev pub sectionTable : List ℕ → ℕ
 sectionTable s = leAt 4 s 32

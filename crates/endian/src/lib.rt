@@ -1,9 +1,11 @@
-// Numbers in bytes, the lowest byte first.
+// Numbers in bytes, the lowest byte first, and bytes that are copied.
 ghost use mathlib.Core.Path.{_≡_};
+ghost use mathlib.Core.Bool.{true};
 ghost use Prim.Native.Nat.{_+_, _≤_, _<_};
 ghost use lib.ListN.{length};
 ghost use lib.Seq.{sets};
-ghost use Rattle.word.specs.Bytes.{leAt, bytes};
+ghost use Rattle.word.specs.Bytes.{leAt, bytes, part};
+ghost use Rattle.endian.specs.Widths.{isWidth};
 
 // A byte as a wider number.
 fn wide(b: u8) -> u16
@@ -81,4 +83,53 @@ pub fn write64(s: &mut [u8], at: usize, x: u64)
 {
     write32(s, at, (x % 4294967296) as u32);
     write32(s, at + 4, (x / 4294967296) as u32);
+}
+
+// The number that n bytes spell, the lowest first.
+pub fn read_bytes(s: &[u8], at: usize, n: usize) -> u64
+    requires { ⌜ (at + n ≤ length (now s)) × (isWidth n ≡ true) ⌝ }
+    ensures { λ r. ⌜ r ≡ leAt n (now (s .entry)) at ⌝ }
+{
+    if n == 1 {
+        return read8(s, at) as u64;
+    }
+    if n == 2 {
+        return read16(s, at) as u64;
+    }
+    if n == 4 {
+        return read32(s, at) as u64;
+    }
+    read64(s, at)
+}
+
+// Writes a number as n bytes, the lowest first.
+pub fn write_bytes(s: &mut [u8], at: usize, n: usize, x: u64)
+    requires { ⌜ (at + n ≤ length (now s)) × (isWidth n ≡ true) ⌝ }
+    ensures { λ _. ⌜ now (s .exit) ≡ sets (now (s .entry)) at (bytes n x) ⌝ }
+{
+    if n == 1 {
+        write8(s, at, (x % 0x100) as u8);
+        return;
+    }
+    if n == 2 {
+        write16(s, at, (x % 0x1_0000) as u16);
+        return;
+    }
+    if n == 4 {
+        write32(s, at, (x % 0x1_0000_0000) as u32);
+        return;
+    }
+    write64(s, at, x);
+}
+
+// Copies n bytes of `src` from `from` on to `dst` from `at` on, upwards.
+pub fn copy(dst: &mut [u8], at: usize, src: &[u8], from: usize, n: usize)
+    requires { ⌜ (at + n ≤ length (now dst)) × (from + n ≤ length (now src)) ⌝ }
+    ensures { λ _. ⌜ now (dst .exit) ≡ sets (now (dst .entry)) at (part (now (src .entry)) from n) ⌝ }
+{
+    let mut i: usize = 0;
+    while i < n {
+        dst[at + i] = src[from + i];
+        i += 1;
+    }
 }

@@ -1,66 +1,22 @@
-// The fitter: install and rollback over lent bytes of object, order, image and journal.
+// The library: the calls for other languages.
 ghost use mathlib.Core.Path.{_≡_};
-ghost use lib.ListN.{length};
 ghost use mathlib.Core.Bool.{true};
-ghost use Rattle.journal.specs.Journals.{sound};
-ghost use Rattle.history.specs.Calls.{install as «the-install», rollback as «the-rollback»};
-ghost use Rattle.judgement.specs.Judgement.{judgement};
-ghost use Rattle.judgement.specs.Facts.{Fitting};
-ghost use Rattle.judge.specs.Answers.{answerOf, packed};
-use judge::Answer;
+ghost use Prim.Native.Nat.{_≤_};
+ghost use lib.ListN.{length};
+ghost use lib.Seq.{sets};
+ghost use Rattle.plans.specs.Answers.{packed};
+ghost use Rattle.history.specs.Calls.{calling};
+ghost use Rattle.history.specs.Histories.{Start};
+ghost use Rattle.replay.specs.Lists.{callCount, callAt, isCall, isList};
+ghost use Rattle.replay.specs.Replays.{replay as «the-replay»};
+ghost use Rattle.replay.specs.Facts.{leftBy, codesOf};
+ghost use Rattle.demands.specs.Demands.{ourInstall, ourRollback};
+ghost use Rattle.fitter.specs.Replayed.{Demand3Of};
+use install::install;
+use install::rollback;
 use judge::code_of;
-use judge::is_done;
-use judge::judge;
-use order::Counts;
-use order::Reading;
-use undo::RolledBack;
-
-// Check 15, and then the writing: the span's old bytes are recorded, and the sections laid.
-fn fit(object: &[u8], order: &[u8], counts: Counts, image: &mut [u8], journal: &mut [u8]) -> Answer
-    requires { ⌜ Fitting (now object) (now order) counts (length (now image)) × (sound (now journal) (length (now image)) ≡ true) ⌝ }
-    ensures { λ r. ⌜ record { answer = answerOf r; after = record { image = now (image .exit); journal = now (journal .exit) } }
-        ≡ «the-install» judgement (now (object .entry)) (now (order .entry)) (record { image = now (image .entry); journal = now (journal .entry) }) ⌝ }
-{
-    let addresses = lookup::address_array(order, counts);
-    let span = spans::span_of(object, addresses, counts.base);
-    if !journal::has_room(journal, span.size) {
-        return Answer::JournalFull;
-    }
-    undo::save(image, journal, span);
-    lay::lay(object, order, counts, image);
-    Answer::Done
-}
-
-// Installs an object by an order (document 01: a fit). Nothing is written before the last check has passed.
-pub fn install(object: &[u8], order: &[u8], image: &mut [u8], journal: &mut [u8]) -> Answer
-    ensures { λ r. ⌜ record { answer = answerOf r; after = record { image = now (image .exit); journal = now (journal .exit) } }
-        ≡ «the-install» judgement (now (object .entry)) (now (order .entry)) (record { image = now (image .entry); journal = now (journal .entry) }) ⌝ }
-{
-    if !journal::is_sound(journal, image.len()) {
-        return Answer::JournalUnsound;
-    }
-    let answer = judge(object, order, image.len());
-    if !is_done(answer) {
-        return answer;
-    }
-    match order::read_order(order) {
-        Reading::Malformed => answer,
-        Reading::WellFormed(counts) => fit(object, order, counts, image, journal),
-    }
-}
-
-// Undoes the newest standing install (document 01: a taking-back).
-pub fn rollback(image: &mut [u8], journal: &mut [u8]) -> Answer
-    ensures { λ r. ⌜ record { answer = answerOf r; after = record { image = now (image .exit); journal = now (journal .exit) } }
-        ≡ «the-rollback» (record { image = now (image .entry); journal = now (journal .entry) }) ⌝ }
-{
-    match undo::rollback(image, journal) {
-        RolledBack::Done => Answer::Done,
-        RolledBack::JournalUnsound => Answer::JournalUnsound,
-        RolledBack::ImageTooLong => Answer::WindowBroken,
-        RolledBack::NothingStands => Answer::NothingStands,
-    }
-}
+use replay::FIRST_AT;
+use replay::List;
 
 // `install` for callers in other languages. The four buffers do not overlap.
 #[no_mangle]
@@ -70,9 +26,9 @@ pub extern "C" fn aktinoph_fit(
     image: &mut [u8],
     ledger: &mut [u8],
 ) -> u64
-    ensures { λ r. ⌜ (r ≡ packed («the-install» judgement (now (object .entry)) (now (order .entry)) (record { image = now (image .entry); journal = now (ledger .entry) }) .answer))
+    ensures { λ r. ⌜ (r ≡ packed (ourInstall (now (object .entry)) (now (order .entry)) (record { image = now (image .entry); journal = now (ledger .entry) }) .answer))
         × (record { image = now (image .exit); journal = now (ledger .exit) }
-        ≡ «the-install» judgement (now (object .entry)) (now (order .entry)) (record { image = now (image .entry); journal = now (ledger .entry) }) .after) ⌝ }
+        ≡ ourInstall (now (object .entry)) (now (order .entry)) (record { image = now (image .entry); journal = now (ledger .entry) }) .after) ⌝ }
 {
     code_of(install(object, order, image, ledger))
 }
@@ -80,9 +36,79 @@ pub extern "C" fn aktinoph_fit(
 // `rollback` for callers in other languages. The two buffers do not overlap.
 #[no_mangle]
 pub extern "C" fn aktinoph_take_back(image: &mut [u8], ledger: &mut [u8]) -> u64
-    ensures { λ r. ⌜ (r ≡ packed («the-rollback» (record { image = now (image .entry); journal = now (ledger .entry) }) .answer))
+    ensures { λ r. ⌜ (r ≡ packed (ourRollback (record { image = now (image .entry); journal = now (ledger .entry) }) .answer))
         × (record { image = now (image .exit); journal = now (ledger .exit) }
-        ≡ «the-rollback» (record { image = now (image .entry); journal = now (ledger .entry) }) .after) ⌝ }
+        ≡ ourRollback (record { image = now (image .entry); journal = now (ledger .entry) }) .after) ⌝ }
 {
     code_of(rollback(image, ledger))
+}
+
+// Makes the call that stands at a place of a list.
+fn make_call(calls: &[u8], at: usize, image: &mut [u8], ledger: &mut [u8]) -> u64
+    requires { ⌜ isCall (now calls) at ≡ true ⌝ }
+    ensures { λ r. ⌜ (r ≡ packed (calling ourInstall ourRollback (record { image = now (image .entry); journal = now (ledger .entry) }) (callAt (now (calls .entry)) at) .answer))
+        × (record { image = now (image .exit); journal = now (ledger .exit) }
+        ≡ calling ourInstall ourRollback (record { image = now (image .entry); journal = now (ledger .entry) }) (callAt (now (calls .entry)) at) .after) ⌝ }
+{
+    if !replay::is_fit(calls, at) {
+        return aktinoph_take_back(image, ledger);
+    }
+    let object = replay::object_of(calls, at);
+    let order = replay::order_of(calls, at);
+    aktinoph_fit(object, order, image, ledger)
+}
+
+// Makes the n calls of a list one after the other, and puts their answers into the first places.
+fn make_calls(calls: &[u8], n: usize, image: &mut [u8], ledger: &mut [u8], answers: &mut [u64])
+    requires { ⌜ (isList (now calls) ≡ true) × (n ≡ callCount (now calls)) × (n ≤ length (now answers)) ⌝ }
+    ensures { λ _. ⌜ (record { image = now (image .exit); journal = now (ledger .exit) }
+        ≡ leftBy ourInstall ourRollback (now (calls .entry)) (record { image = now (image .entry); journal = now (ledger .entry) }) n)
+        × (now (answers .exit) ≡ sets (now (answers .entry)) 0 (codesOf ourInstall ourRollback (now (calls .entry)) (record { image = now (image .entry); journal = now (ledger .entry) }) n)) ⌝ }
+{
+    let mut at = FIRST_AT;
+    let mut i: usize = 0;
+    while i < n {
+        answers[i] = make_call(calls, at, image, ledger);
+        at = replay::call_end(calls, at);
+        i += 1;
+    }
+}
+
+// Runs a list of n calls where there are places for their answers, and says whether it did.
+fn replay_list(
+    calls: &[u8],
+    n: usize,
+    image: &mut [u8],
+    ledger: &mut [u8],
+    answers: &mut [u64],
+) -> u64
+    requires { ⌜ (isList (now calls) ≡ true) × (n ≡ callCount (now calls)) ⌝ }
+    ensures { λ r. ⌜ record { ran = r; answers = now (answers .exit); after = record { image = now (image .exit); journal = now (ledger .exit) } }
+        ≡ «the-replay» ourInstall ourRollback (now (calls .entry)) (now (answers .entry)) (record { image = now (image .entry); journal = now (ledger .entry) }) ⌝ }
+{
+    if answers.len() < n {
+        return 0;
+    }
+    make_calls(calls, n, image, ledger, answers);
+    1
+}
+
+// A list of calls, made one after the other, for callers in other languages: 1 where it was run, with the answers in the first
+// places, and 0 where the bytes are no list or there are fewer places than calls, with nothing changed. The buffers do not overlap.
+#[no_mangle]
+pub extern "C" fn aktinoph_replay(
+    calls: &[u8],
+    image: &mut [u8],
+    ledger: &mut [u8],
+    answers: &mut [u64],
+) -> u64
+    ensures { λ r. ⌜ record { ran = r; answers = now (answers .exit); after = record { image = now (image .exit); journal = now (ledger .exit) } }
+        ≡ «the-replay» ourInstall ourRollback (now (calls .entry)) (now (answers .entry)) (record { image = now (image .entry); journal = now (ledger .entry) }) ⌝ }
+    ensures { λ r. ⌜ (r ≡ 1 → Start (record { image = now (image .entry); journal = now (ledger .entry) })
+        → Demand3Of (now (calls .entry)) (record { image = now (image .entry); journal = now (ledger .entry) }) (now (answers .exit)) (record { image = now (image .exit); journal = now (ledger .exit) })) ⌝ }
+{
+    match replay::read_list(calls) {
+        List::Malformed => 0,
+        List::Calls(n) => replay_list(calls, n, image, ledger, answers),
+    }
 }

@@ -6,36 +6,28 @@ use mathlib.Core.List.{List, [], _∷_}
 use lib.ListN.{length}
 use lib.Dec.{eqb}
 use Rattle.order.specs.Windows.{lengthAllowed}
-use Rattle.journal.specs.Plans.{Piece, Verdict, refused, plan, Judge, overwritten, spanOf}
+use Rattle.plans.specs.Answers.{Answer, says, done}
+use Rattle.plans.specs.Plans.{Piece, Verdict, refused, plan, Judge, overwritten, spanOf}
 use Rattle.journal.specs.Journals.{count, held, sound, noRoom}
 use Rattle.history.specs.Writes.{saved, restoring, releasing}
 
 -- ---- answers: document 01, "When the fitter says no"
 
--- a number and a place
-pub record Answer : Type 0 where
-  pub number : ℕ
-  pub place : ℕ
-
--- "done"
-abbrev pub done : Answer
-done = record { number = 0; place = 0 }
-
 -- "ledger unsound"
 abbrev pub journalUnsound : Answer
-journalUnsound = record { number = 1; place = 0 }
+journalUnsound = says 1 0
 
 -- "window rule broken"
 abbrev pub windowBroken : Answer
-windowBroken = record { number = 3; place = 0 }
+windowBroken = says 3 0
 
 -- "n is 16, or 136 + k + span above ledger length"
 abbrev pub journalFull : Answer
-journalFull = record { number = 15; place = 0 }
+journalFull = says 15 0
 
 -- "no fit stands (taking-back only)"
 abbrev pub noneStands : Answer
-noneStands = record { number = 16; place = 0 }
+noneStands = says 16 0
 
 -- ---- what a call is handed, and leaves
 
@@ -64,7 +56,7 @@ installed ps f =
 
 -- by the verdict
 unfoldable pub settle : Files → Verdict → Outcome Files
-settle f (refused n p) = refuse (record { number = n; place = p }) f
+settle f (refused a) = refuse a f
 settle f (plan ps) =
     cond (noRoom (count (f .journal)) (held (f .journal)) (spanOf ps .size) (length (f .journal)))
     (refuse journalFull f)

@@ -8,10 +8,11 @@ use mathlib.Core.List.{List, [], _∷_, _++_}
 use lib.ListN.{length, take, replicate}
 use Rattle.word.specs.Bytes.{part}
 use Rattle.order.specs.Windows.{maxImage}
-use Rattle.journal.specs.declared.Span.{Span}
-use Rattle.journal.specs.Plans.{Piece, Verdict, refused, plan, Judge, overwritten, spanOf}
+use Rattle.plans.specs.declared.Span.{Span}
+use Rattle.plans.specs.Plans.{Piece, Verdict, refused, plan, Judge, overwritten, spanOf}
 use Rattle.journal.specs.Journals.{oldAt, count, entries, held, total, Sound, noRoom}
-use Rattle.history.specs.Calls.{done, journalFull, noneStands, Files, Outcome, refuse, succeed, Call, Install, Rollback, answers, run}
+use Rattle.plans.specs.Answers.{Answer, done}
+use Rattle.history.specs.Calls.{journalFull, noneStands, Files, Outcome, refuse, succeed, Call, Install, Rollback, answers, run}
 
 -- ---- the history
 
@@ -60,7 +61,7 @@ olds start (x ∷ older) = olds start older ++ part (laid start older) (spanOf (
 -- broken. If one is broken, the answer is its number and place and nothing changes. Otherwise the answer is 0, place 0, and the fit stands
 -- as the newest"
 unfoldable pub stand : History → List ℕ → List ℕ → Verdict → Outcome History
-stand h object order (refused n p) = refuse (record { number = n; place = p }) h
+stand h object order (refused a) = refuse a h
 stand h object order (plan ps) =
     cond (noRoom (countOf h) (heldOf h) (spanOf ps .size) (h .room))
     (refuse journalFull h)
@@ -124,19 +125,35 @@ alone (x ∷ older) = alone older ++ Install (x .object) (x .order) ∷ []
 abbrev pub standingAlone : Judge → Files → List Call → List Call
 standingAlone judge start calls = alone (historyOf judge start calls .standing)
 
--- demand 3, of a list of calls, each made by `step`
-pub record Holds (step : Files → Call → Outcome Files) (judge : Judge) (start : Files) (calls : List Call) : Type 0 where
+-- lists of numbers of some kind: all of them, or those that are bytes
+abbrev pub Kind : Type 1
+Kind = List ℕ → Type 0
+
+-- an image and a journal of a kind, a call whose object and order are of a kind, and a list of such calls
+abbrev pub FilesAre : Kind → Files → Type 0
+FilesAre K f = K (f .image) × K (f .journal)
+
+abbrev pub CallIs : Kind → Call → Type 0
+CallIs K (Install object order) = K object × K order
+CallIs K Rollback = Unit {0}
+
+abbrev pub CallsAre : Kind → List Call → Type 0
+CallsAre K [] = Unit {0}
+CallsAre K (c ∷ cs) = CallIs K c × CallsAre K cs
+
+-- Demand 3, of a list of calls: each is made by `step`; these were the answers, and this is left. What may be asked for next is of a kind.
+pub record Holds (step : Files → Call → Outcome Files) (judge : Judge) (K : Kind) (start : Files) (calls : List Call) (got : List Answer) (left : Files) : Type 0 where
   -- "Every call in the list had the answer that document 01's history gives it."
-  pub answered : answers step start calls ≡ answers (told judge) (begin start) calls
+  pub answered : got ≡ answers (told judge) (begin start) calls
   -- image, n, k and entries are the history's, and the journal is sound
-  pub as-told : AsTold (historyOf judge start calls) (filesAfter step start calls)
+  pub as-told : AsTold (historyOf judge start calls) left
   -- "A taking-back is refused exactly when no fit stands."
-  pub refused-if-none : historyOf judge start calls .standing ≡ [] → step (filesAfter step start calls) Rollback .answer ≡ noneStands
-  pub done-if-some : (historyOf judge start calls .standing ≡ [] → ⊥) → step (filesAfter step start calls) Rollback .answer ≡ done
+  pub refused-if-none : historyOf judge start calls .standing ≡ [] → step left Rollback .answer ≡ noneStands
+  pub done-if-some : (historyOf judge start calls .standing ≡ [] → ⊥) → step left Rollback .answer ≡ done
   -- "The standing fits alone, asked for in their order from the same start, are all done"
   pub alone-done : answers step start (standingAlone judge start calls) ≡ replicate (countOf (historyOf judge start calls)) done
   -- "and lead to the same image, n, k and first n entries,"
-  pub alone-alike : Alike (filesAfter step start (standingAlone judge start calls)) (filesAfter step start calls)
+  pub alone-alike : Alike (filesAfter step start (standingAlone judge start calls)) left
   -- "and any next call gets the same answer after either list"; any further list of calls the same answers
-  pub next : (c : Call) → step (filesAfter step start calls) c .answer ≡ step (filesAfter step start (standingAlone judge start calls)) c .answer
-  pub further : (more : List Call) → answers step (filesAfter step start calls) more ≡ answers step (filesAfter step start (standingAlone judge start calls)) more
+  pub next : (c : Call) → CallIs K c → step left c .answer ≡ step (filesAfter step start (standingAlone judge start calls)) c .answer
+  pub further : (more : List Call) → CallsAre K more → answers step left more ≡ answers step (filesAfter step start (standingAlone judge start calls)) more

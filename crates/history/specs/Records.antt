@@ -4,7 +4,7 @@ use mathlib.Core.Path.{_≡_}
 use Prim.Native.Nat.{ℕ, _+_, _-_, _≤_, _<_}
 use lib.ListN.{length, getD, drop, replicate}
 use Rattle.word.specs.Bytes.{part}
-use Rattle.journal.specs.declared.Span.{Span}
+use Rattle.plans.specs.declared.Span.{Span}
 use Rattle.journal.specs.Journals.{maxEntries, oldAt, count, held, entry, blank}
 use Rattle.history.specs.Writes.{newest, heldBelow}
 use Rattle.history.specs.Calls.{Files}

@@ -4,8 +4,8 @@ use Prim.Native.Nat.{ℕ, _+_, _-_}
 use mathlib.Core.List.{List, [], _∷_}
 use lib.ListN.{replicate}
 use Rattle.word.specs.Bytes.{bytes, part}
-use Rattle.journal.specs.declared.Span.{Span}
-use Rattle.journal.specs.Plans.{Piece, piece, overwritten}
+use Rattle.plans.specs.declared.Span.{Span}
+use Rattle.plans.specs.Plans.{Piece, piece, overwritten}
 use Rattle.journal.specs.Journals.{countAt, entryAt, heldAt, oldAt, count, entry, held, blank, entryBytes}
 
 -- "A fit appends the span's old bytes": these, the entry, k, n

@@ -1,5 +1,4 @@
 -- The laws of the definitions in specs/.
 pub mod Sound
-pub mod Span
 pub mod Pieces
 pub mod Format

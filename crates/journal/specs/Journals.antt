@@ -15,33 +15,40 @@ use lib.ListN.{length}
 use lib.Dec.{leb, ltb, eqb}
 use Rattle.word.specs.Bytes.{leAt, bytes}
 use Rattle.word.specs.First.{everywhere, tabulate}
-use Rattle.journal.specs.declared.Span.{Span}
+use Rattle.plans.specs.declared.Span.{Span}
 
 -- ---- the format
 
 abbrev pub maxEntries : ℕ
 maxEntries = 16
 
+-- the bytes of a number, and of an entry, which is two numbers
+abbrev pub numberSize : ℕ
+numberSize = 4
+
+abbrev pub entrySize : ℕ
+entrySize = 2 * numberSize
+
 -- where n, entry i, k and the old bytes stand
 abbrev pub countAt : ℕ
 countAt = 0
 
 abbrev pub entryAt : ℕ → ℕ
-entryAt i = 4 + 8 * i
+entryAt i = countAt + numberSize + entrySize * i
 
 abbrev pub heldAt : ℕ
-heldAt = 132
+heldAt = entryAt maxEntries
 
 abbrev pub oldAt : ℕ
-oldAt = 136
+oldAt = heldAt + numberSize
 
 -- n, the number of standing installs
 abbrev pub count : List ℕ → ℕ
-count j = leAt 4 j countAt
+count j = leAt numberSize j countAt
 
 -- entry i: the span of an install
 unfoldable pub entry : List ℕ → ℕ → Span
-entry j i = record { start = leAt 4 j (entryAt i); size = leAt 4 j (entryAt i + 4) }
+entry j i = record { start = leAt numberSize j (entryAt i); size = leAt numberSize j (entryAt i + numberSize) }
 
 -- the 16 entries
 unfoldable pub entries : List ℕ → List Span
@@ -49,14 +56,14 @@ entries j = tabulate (entry j) maxEntries
 
 -- k, the number of old bytes
 abbrev pub held : List ℕ → ℕ
-held j = leAt 4 j heldAt
+held j = leAt numberSize j heldAt
 
 -- an entry with nothing in it, and the bytes of an entry
 abbrev pub blank : Span
 blank = record { start = 0; size = 0 }
 
 abbrev pub entryBytes : Span → List ℕ
-entryBytes s = bytes 4 (s .start) ++ bytes 4 (s .size)
+entryBytes s = bytes numberSize (s .start) ++ bytes numberSize (s .size)
 
 -- the sum of the spans' lengths
 unfoldable pub total : List Span → ℕ

@@ -3,23 +3,31 @@ ghost use mathlib.Core.Path.{_≡_};
 ghost use Prim.Native.Nat.{_+_, _≤_, _<_};
 ghost use mathlib.Core.Bool.{not, _&&_, _||_};
 ghost use lib.ListN.{length};
-ghost use Rattle.journal.specs.Journals.{maxEntries, oldAt, count, held, entry, isBlank, endsWithin, sound, noRoom};
+ghost use Rattle.journal.specs.Journals.{maxEntries, entryAt, oldAt, count, held, entry, isBlank, endsWithin, sound, noRoom};
+use plans::Span;
 
-pub const MAX_ENTRIES: usize = 16;
+const MAX_ENTRIES: usize = 16;
+
+// The bytes of a number, and of an entry, which is two numbers.
+pub const NUMBER_SIZE: usize = 4;
+
+const ENTRY_SIZE: usize = 2 * NUMBER_SIZE;
 
 // Where n, the first entry, k and the old bytes stand.
 pub const COUNT_AT: usize = 0;
 
-pub const ENTRIES_AT: usize = 4;
+const ENTRIES_AT: usize = COUNT_AT + NUMBER_SIZE;
 
-pub const HELD_AT: usize = 132;
+pub const HELD_AT: usize = ENTRIES_AT + ENTRY_SIZE * MAX_ENTRIES;
 
-pub const OLD_AT: usize = 136;
+pub const OLD_AT: usize = HELD_AT + NUMBER_SIZE;
 
-// A run of bytes of the image (document 01: start and length).
-pub struct Span {
-    pub start: u32,
-    pub size: u32,
+// Where entry i stands.
+pub fn entry_at(i: usize) -> usize
+    requires { ⌜ i < maxEntries ⌝ }
+    ensures { λ r. ⌜ r ≡ entryAt i ⌝ }
+{
+    ENTRIES_AT + ENTRY_SIZE * i
 }
 
 // Entry i.
@@ -27,10 +35,10 @@ pub fn read_entry(journal: &[u8], i: usize) -> Span
     requires { ⌜ (i < maxEntries) × (oldAt ≤ length (now journal)) ⌝ }
     ensures { λ r. ⌜ r ≡ entry (now (journal .entry)) i ⌝ }
 {
-    let at = ENTRIES_AT + 8 * i;
+    let at = entry_at(i);
     Span {
         start: endian::read32(journal, at),
-        size: endian::read32(journal, at + 4),
+        size: endian::read32(journal, at + NUMBER_SIZE),
     }
 }
 

@@ -1,16 +1,13 @@
 -- Document 01's number and place for each answer. Assumes nothing: these are definitions.
-use Prim.Native.Nat.{ℕ, _+_, _*_}
+use Prim.Native.Nat.{ℕ}
 use mathlib.Core.Bool.{cond}
 use mathlib.Core.List.{List}
 use lib.Dec.{eqb}
-use Rattle.history.specs.Calls.{Answer as Numbered, done}
-use Rattle.journal.specs.Plans.{Verdict, refused, plan}
+use Rattle.plans.specs.Answers.{Answer as Numbered, says, done}
+use Rattle.plans.specs.Plans.{Verdict, refused, plan}
 use Rattle.judge.specs.declared.Answer.{Answer}
 use Rattle.judge.specs.declared.Answer.the-variants.{Done, JournalUnsound, OrderMalformed, WindowBroken, BadHeader, BadSection, PlacementsDiffer, WrongExternal, Misplaced, RelocationShape, SymbolUnresolved, WrongInstruction, NotOnePair, OutOfReach, PaddingOffBoundary, JournalFull, NothingStands}
 use Rattle.judgement.specs.Judgement.{planOf}
-
-abbrev says : ℕ → ℕ → Numbered
-says n p = record { number = n; place = p }
 
 abbrev pub answerOf : Answer → Numbered
 answerOf Done = done
@@ -33,8 +30,4 @@ answerOf NothingStands = says 16 0
 
 -- the verdict that an answer stands for: a plan where all is well, else the refusal with its number and place
 abbrev pub verdictOf : List ℕ → List ℕ → Answer → Verdict
-verdictOf object order a = cond (eqb (answerOf a .number) 0) (plan (planOf object order)) (refused (answerOf a .number) (answerOf a .place))
-
--- an answer as one number, for callers in other languages: the number in the low eight bits, the place in the upper 32
-abbrev pub packed : Numbered → ℕ
-packed a = a .number + 4294967296 * a .place
+verdictOf object order a = cond (eqb (answerOf a .number) 0) (plan (planOf object order)) (refused (answerOf a))

@@ -7,7 +7,8 @@ ghost use Rattle.place.specs.Placements.{placementCheck};
 ghost use Rattle.rules.specs.Search.{number, isBroken};
 ghost use Rattle.judgement.specs.Judgement.{judgement};
 ghost use Rattle.judgement.specs.Facts.{Readable, Named, Placeable};
-ghost use Rattle.judge.specs.Answers.{answerOf, verdictOf, packed};
+ghost use Rattle.plans.specs.Answers.{says, packed};
+ghost use Rattle.judge.specs.Answers.{answerOf, verdictOf};
 use order::Counts;
 use order::Reading;
 use place::Fault;
@@ -40,7 +41,7 @@ pub enum Answer {
 // The answer for a relocation that breaks a rule.
 fn refusal(finding: Finding, k: u32) -> Answer
     requires { ⌜ isBroken finding ≡ true ⌝ }
-    ensures { λ r. ⌜ answerOf r ≡ record { number = number finding; place = k } ⌝ }
+    ensures { λ r. ⌜ answerOf r ≡ says (number finding) k ⌝ }
 {
     match finding {
         Finding::Kept => Answer::Done,
@@ -152,7 +153,7 @@ pub fn is_done(answer: Answer) -> bool
 
 // A number and a place as one number: the number in the low eight bits, the place in the upper 32.
 fn pack(number: u8, place: u32) -> u64
-    ensures { λ r. ⌜ r ≡ packed (record { number = number; place = place }) ⌝ }
+    ensures { λ r. ⌜ r ≡ packed (says number place) ⌝ }
 {
     number as u64 + 4294967296 * place as u64
 }

@@ -10,6 +10,7 @@ use Rattle.order.specs.declared.Reading.the-variants.{WellFormed}
 use Rattle.order.specs.Orders.{base, reading}
 use Rattle.order.specs.Windows.{windowAllowed}
 use Rattle.lookup.specs.Addresses.{addresses}
+use Rattle.elf.specs.Headers.{addressWidth}
 use Rattle.elf.specs.Sections.{sectionAt}
 use Rattle.validate.specs.declared.ObjectCheck.the-variants.{Passed}
 use Rattle.validate.specs.Rules.{objectCheck}
@@ -24,7 +25,7 @@ use Rattle.rules.specs.Search.{relocationCheck}
 -- checks 2 to 5
 pub record Readable (object order : List ℕ) (counts : Counts) (len : ℕ) : Type 0 where
   pub reading-is : reading order ≡ WellFormed counts
-  pub window : windowAllowed (base order) len ≡ true
+  pub window : windowAllowed (addressWidth object) (base order) len ≡ true
   pub object-is : objectCheck object ≡ Passed
 
 -- checks 2 to 7

@@ -8,9 +8,10 @@ use Rattle.order.specs.Windows.{windowAllowed}
 use Rattle.lookup.specs.Addresses.{addresses}
 use Rattle.validate.specs.declared.ObjectCheck.{ObjectCheck}
 use Rattle.validate.specs.declared.ObjectCheck.the-variants.{Passed, BadHeader, BadSection}
-use Rattle.elf.specs.Headers.{sectionCount}
+use Rattle.elf.specs.Headers.{addressWidth, sectionCount}
 use Rattle.validate.specs.Rules.{objectCheck}
-use Rattle.journal.specs.Plans.{Piece, Verdict, refused, plan, Judge}
+use Rattle.plans.specs.Answers.{says}
+use Rattle.plans.specs.Plans.{Piece, Verdict, refused, plan, Judge}
 use Rattle.place.specs.declared.Fault.{Fault}
 use Rattle.place.specs.declared.Fault.the-variants.{Nowhere, At}
 use Rattle.place.specs.Placements.{placementCheck}
@@ -27,18 +28,18 @@ use Rattle.spans.specs.Pieces.{pieces}
 -- 4 "header or file length"; 5 "row table (place 0) or row rule"
 abbrev pub afterObject : ObjectCheck → Verdict → Verdict
 afterObject Passed next = next
-afterObject BadHeader next = refused 4 0
-afterObject (BadSection i) next = refused 5 i
+afterObject BadHeader next = refused (says 4 0)
+afterObject (BadSection i) next = refused (says 5 i)
 
 -- 6, 7, 8
 abbrev pub afterFault : ℕ → Fault → Verdict → Verdict
 afterFault n Nowhere next = next
-afterFault n (At place) next = refused n place
+afterFault n (At place) next = refused (says n place)
 
 -- 9 to 14
 abbrev pub afterRelocations : RelocationCheck → Verdict → Verdict
 afterRelocations AllKept next = next
-afterRelocations (Broken finding k) next = refused (number finding) k
+afterRelocations (Broken finding k) next = refused (says (number finding) k)
 
 -- ---- the plan: the bytes of each loaded section after its relocations, "each at its address less that order's base"
 
@@ -52,7 +53,7 @@ judgement object order len =
     -- 2 "order bytes malformed"
     cond (wellFormed order)
     -- 3 "window rule broken"
-    (cond (windowAllowed (base order) len)
+    (cond (windowAllowed (addressWidth object) (base order) len)
     (afterObject (objectCheck object)
     -- 6 "placements differ from allocated rows"
     (afterFault 6 (placementCheck object order)
@@ -62,5 +63,5 @@ judgement object order len =
     (afterFault 8 (placingCheck object (addresses order) (base order) len)
     (afterRelocations (relocationCheck object order (addresses order))
     (plan (planOf object order)))))))
-    (refused 3 0))
-    (refused 2 0)
+    (refused (says 3 0)))
+    (refused (says 2 0))

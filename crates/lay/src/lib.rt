@@ -7,12 +7,13 @@ ghost use lib.Seq.{sets};
 ghost use Rattle.lookup.specs.Addresses.{addresses as «the-addresses»};
 ghost use Rattle.elf.specs.Headers.{sectionCount};
 ghost use Rattle.elf.specs.Sections.{sectionAt, loaded};
-ghost use Rattle.journal.specs.Plans.{overwritten};
+ghost use Rattle.plans.specs.Plans.{overwritten};
 ghost use Rattle.stores.specs.Sections.{relocated};
 ghost use Rattle.judgement.specs.Judgement.{planOf};
 ghost use Rattle.judgement.specs.Facts.{Fitting, withSection};
 use lookup::Addresses;
 use order::Counts;
+use placing::has_bytes;
 
 // Lays section t into the image from `at` on.
 fn lay_at(
@@ -45,7 +46,7 @@ fn lay_one(
     ensures { λ _. ⌜ now (image .exit) ≡ withSection (now (object .entry)) (now (order .entry)) t (now (image .entry)) ⌝ }
 {
     let h = elf::read_section(object, t);
-    if !elf::is_loaded(h) | (h.size == 0) {
+    if !has_bytes(h) {
         return;
     }
     let at = addresses[t] - counts.base.0;

@@ -11,6 +11,6 @@ maxImage = 65536
 unfoldable pub lengthAllowed : ℕ → Bool
 lengthAllowed len = leb len maxImage
 
--- check 3 of an install
-unfoldable pub windowAllowed : ℕ → ℕ → Bool
-windowAllowed base len = lengthAllowed len && leb (base + len) (2 ^ 32)
+-- check 3 of an install, where addresses have w bits
+unfoldable pub windowAllowed : ℕ → ℕ → ℕ → Bool
+windowAllowed w base len = lengthAllowed len && leb (base + len) (2 ^ w)

@@ -122,7 +122,7 @@ pub fn length_allowed(len: usize) -> bool
 
 // Check 3 of an install: the image's length, and that the window ends at or below 2^32.
 pub fn window_allowed(base: Address, len: usize) -> bool
-    ensures { λ r. ⌜ r ≡ windowAllowed (base .0) len ⌝ }
+    ensures { λ r. ⌜ r ≡ windowAllowed 32 (base .0) len ⌝ }
 {
     if MAX_IMAGE < len {
         return false;

@@ -17,12 +17,14 @@ ghost use Rattle.values.specs.Values.{S};
 ghost use Rattle.effects.specs.Effects.{takesPair};
 ghost use Rattle.rules.specs.Search.{relocationCheck};
 ghost use Rattle.rela.specs.Facts.{There, InTable, Placed};
-ghost use Rattle.effects.specs.Widths.{isWidth, isDataField, onData};
+ghost use Rattle.effects.specs.Widths.{isDataField, onData};
 ghost use Rattle.stores.specs.Patches.{highPart, lowPart, patched};
 ghost use Rattle.stores.specs.Sections.{sumAt, distanceAt, pairDistance, applied, after, relaOf, relocated};
 ghost use Rattle.stores.specs.Facts.{Checked};
 use effects::takes_pair;
 use encode::put_field;
+use endian::read_bytes;
+use endian::write_bytes;
 use fields::Field;
 use fields::Width;
 use lookup::Addresses;
@@ -44,25 +46,24 @@ use types::decide;
 use values::pairs::Pair;
 use values::pairs::hi20_pair;
 use values::place_of;
-use values::read_bytes;
 use values::target_of;
 use word::Address;
 
 // Both halves of a number, where AUIPC or LUI and the instruction after it have them.
 fn both_halves(x: u32) -> u64
-    ensures { λ r. ⌜ r ≡ highPart x + lowPart x ⌝ }
+    ensures { λ r. ⌜ r ≡ highPart 32 x + lowPart 32 x ⌝ }
 {
     high_part(x) + low_part(x)
 }
 
 fn high_part(x: u32) -> u64
-    ensures { λ r. ⌜ (r ≡ highPart x) × (r < 2 ^ 32) ⌝ }
+    ensures { λ r. ⌜ (r ≡ highPart 32 x) × (r < 2 ^ 32) ⌝ }
 {
     4096 * hi20(x) as u64
 }
 
 fn low_part(x: u32) -> u64
-    ensures { λ r. ⌜ (r ≡ lowPart x) × (r < 2 ^ 12) ⌝ }
+    ensures { λ r. ⌜ (r ≡ lowPart 32 x) × (r < 2 ^ 12) ⌝ }
 {
     lo12(x) as u64
 }
@@ -88,7 +89,7 @@ fn data_width(field: Field) -> Width
 // What a relocation leaves of the bytes w: x is S + A in two's complement, p is P, d the paired high half's T - P.
 fn patch(calculation: Calculation, field: Field, w: u64, x: u64, p: Address, d: u32) -> u64
     requires { ⌜ onData calculation field ≡ true ⌝ }
-    ensures { λ r. ⌜ r ≡ patched calculation field w (signed 64 x) (p .0) d ⌝ }
+    ensures { λ r. ⌜ r ≡ patched 32 calculation field w (signed 64 x) (p .0) d ⌝ }
 {
     let t = Address((x % 0x1_0000_0000) as u32);
     let distance = arith::sub32(t.0, p.0 as u64);
@@ -105,26 +106,6 @@ fn patch(calculation: Calculation, field: Field, w: u64, x: u64, p: Address, d: 
         Calculation::Sub => sub(data_width(field), w, x),
         Calculation::Set => set(data_width(field), w, x),
     }
-}
-
-// Writes a number as n bytes, the lowest first.
-fn write_bytes(s: &mut [u8], at: usize, n: usize, x: u64)
-    requires { ⌜ (at + n ≤ length (now s)) × (isWidth n ≡ true) ⌝ }
-    ensures { λ _. ⌜ now (s .exit) ≡ sets (now (s .entry)) at (bytes n x) ⌝ }
-{
-    if n == 1 {
-        endian::write8(s, at, (x % 0x100) as u8);
-        return;
-    }
-    if n == 2 {
-        endian::write16(s, at, (x % 0x1_0000) as u16);
-        return;
-    }
-    if n == 4 {
-        endian::write32(s, at, (x % 0x1_0000_0000) as u32);
-        return;
-    }
-    endian::write64(s, at, x);
 }
 
 // S + A in two's complement.
@@ -263,11 +244,7 @@ fn copy(from: &[u8], part: &mut [u8])
     ensures { λ _. ⌜ now (part .exit) ≡ now (from .entry) ⌝ }
 {
     let n = from.len();
-    let mut i: usize = 0;
-    while i < n {
-        part[i] = from[i];
-        i += 1;
-    }
+    endian::copy(part, 0, from, 0, n);
 }
 
 // Applies the relocations of a site in file order.

@@ -6,7 +6,7 @@ use lib.ListN.{getD}
 use lib.Dec.{leb, ltb, eqb}
 use Rattle.word.specs.First.{everywhere}
 use Rattle.elf.specs.declared.Section.{Section}
-use Rattle.elf.specs.Headers.{sectionCount}
+use Rattle.elf.specs.Headers.{addressWidth, sectionCount}
 use Rattle.elf.specs.Sections.{sectionAt, allocated, loaded}
 use Rattle.place.specs.declared.Fault.{Fault}
 use Rattle.place.specs.Placements.{lowest}
@@ -22,9 +22,9 @@ unit alignment = cond (eqb alignment 0) 1 alignment
 unfoldable pub aligned : List ℕ → List ℕ → ℕ → Bool
 aligned object addresses i = eqb (getD addresses i 0 % unit (sectionAt object i .alignment)) 0
 
--- "the row ends at or below 2^32"
+-- "the row ends at or below 2^32", the end of memory
 unfoldable pub endsInMemory : List ℕ → List ℕ → ℕ → Bool
-endsInMemory object addresses i = leb (endOf object addresses i) (2 ^ 32)
+endsInMemory object addresses i = leb (endOf object addresses i) (2 ^ addressWidth object)
 
 -- it has bytes in the image: "a laid row of size above 0"
 unfoldable pub hasBytes : Section → Bool

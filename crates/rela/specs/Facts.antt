@@ -4,17 +4,17 @@ use mathlib.Core.Bool.{true}
 use mathlib.Core.List.{List}
 use Prim.Native.Nat.{ℕ, _+_, _^_, _≤_, _<_}
 use lib.ListN.{length, getD}
-use Rattle.elf.specs.Headers.{sectionCount}
+use Rattle.elf.specs.Headers.{addressWidth, sectionCount}
 use Rattle.elf.specs.Sections.{sectionAt, allocated}
 use Rattle.elf.specs.Entries.{symbolCount}
 use Rattle.rela.specs.declared.sites.Site.{Site}
 use Rattle.rela.specs.Sites.{count, entry}
 
--- a site whose RELA section and target lie in the file, and whose target ends at or below 2^32
+-- a site whose RELA section and target lie in the file, and whose target ends in memory
 pub record SoundSite (object : List ℕ) (x : Site) : Type 0 where
   pub entries : x .rela .offset .0 + x .rela .size ≤ length object
   pub bytes : x .target .offset .0 + x .target .size ≤ length object
-  pub placed : x .address .0 + x .target .size ≤ 2 ^ 32
+  pub placed : x .address .0 + x .target .size ≤ 2 ^ addressWidth object
 
 -- and one of its relocations
 pub record There (object : List ℕ) (x : Site) (j : ℕ) : Type 0 where
@@ -25,6 +25,6 @@ pub record There (object : List ℕ) (x : Site) (j : ℕ) : Type 0 where
 pub record InTable (object : List ℕ) (x : Site) (j : ℕ) : Type 0 where
   pub inside : 0 < entry object x j .symbol → entry object x j .symbol < symbolCount object
 
--- every section that is relocated ends at or below 2^32
+-- every section that is relocated ends in memory
 pub record Placed (object addresses : List ℕ) : Type 0 where
-  pub ends : (i : ℕ) → i < sectionCount object → allocated (sectionAt object i) ≡ true → getD addresses i 0 + sectionAt object i .size ≤ 2 ^ 32
+  pub ends : (i : ℕ) → i < sectionCount object → allocated (sectionAt object i) ≡ true → getD addresses i 0 + sectionAt object i .size ≤ 2 ^ addressWidth object

@@ -9,7 +9,7 @@ ghost use Rattle.validate.specs.Facts.{SoundObject};
 ghost use Rattle.order.specs.Orders.{reading};
 ghost use Rattle.rules.specs.Search.{relocationCheck};
 ghost use Rattle.rela.specs.Facts.{Placed};
-ghost use Rattle.journal.specs.Plans.{plan};
+ghost use Rattle.plans.specs.Plans.{plan};
 ghost use Rattle.judgement.specs.Judgement.{planOf, judgement};
 use super::lines;
 use lookup::Addresses;

@@ -4,7 +4,7 @@
 //     each case    kind u32: 0 a rollback, 1 a save, 2 a rollback of what the case before left
 //                  length of image u32, of journal u32; how many first bytes of each are given u32 u32; span u32 u32
 //                  the bytes given; the others are their places modulo 251
-use journal::Span;
+use plans::Span;
 use undo::RolledBack;
 ghost use Prim.Native.Nat.{_<_, _^_};
 

@@ -86,27 +86,27 @@ isOne NotOne = false
 unfoldable pub pairWell : List ℕ → Site → ℕ → Bool
 pairWell object x j = not (needsPair (effect object x j)) || isOne (pairOf object x (symbol object x j .value))
 
--- ---- check 13, for t, which is T, and p, which is P
+-- ---- check 13, for addresses of w bits, t, which is T, and p, which is P
 
 -- 16, 17, 44, 45: "the distance is the whole number T - P", "even", and in the field's range; 18, 19: "T - P modulo 2^32, which is even"
-abbrev pub reachesWell : Calculation → Field → ℕ → ℕ → Bool
-reachesWell Distance f t p = reaches (rangeOf f) (distance t p)
-reachesWell BothHalves f t p = even (pos (minus 32 t p))
-reachesWell Absolute f t p = true
-reachesWell PcRelative f t p = true
-reachesWell HighPcRelative f t p = true
-reachesWell HighAbsolute f t p = true
-reachesWell LowAbsolute f t p = true
-reachesWell LowOfPair f t p = true
-reachesWell Add f t p = true
-reachesWell Sub f t p = true
-reachesWell Set f t p = true
+abbrev pub reachesWell : ℕ → Calculation → Field → ℕ → ℕ → Bool
+reachesWell w Distance f t p = reaches (rangeOf f) (distance t p)
+reachesWell w BothHalves f t p = even (pos (minus w t p))
+reachesWell w Absolute f t p = true
+reachesWell w PcRelative f t p = true
+reachesWell w HighPcRelative f t p = true
+reachesWell w HighAbsolute f t p = true
+reachesWell w LowAbsolute f t p = true
+reachesWell w LowOfPair f t p = true
+reachesWell w Add f t p = true
+reachesWell w Sub f t p = true
+reachesWell w Set f t p = true
 
-abbrev pub distanceWell : Decision → ℕ → ℕ → Bool
-distanceWell (Store c f form n) t p = reachesWell c f t p
-distanceWell Marker t p = true
-distanceWell Align t p = true
-distanceWell Refused t p = true
+abbrev pub distanceWell : ℕ → Decision → ℕ → ℕ → Bool
+distanceWell w (Store c f form n) t p = reachesWell w c f t p
+distanceWell w Marker t p = true
+distanceWell w Align t p = true
+distanceWell w Refused t p = true
 
 -- ---- check 14: "P + A a multiple of the smallest power of two at least A + 2"
 

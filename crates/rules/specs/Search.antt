@@ -4,6 +4,7 @@ use mathlib.Core.Bool.{Bool, true, false, cond}
 use mathlib.Core.List.{List}
 use lib.Dec.{ltb}
 use Rattle.word.specs.First.{first}
+use Rattle.elf.specs.Headers.{addressWidth}
 use Rattle.elf.specs.Entries.{relocationCount, locationOf}
 use Rattle.rela.specs.declared.sites.Site.{Site}
 use Rattle.rules.specs.declared.Finding.{Finding}
@@ -11,7 +12,7 @@ use Rattle.rules.specs.declared.Finding.the-variants.{Kept, BadShape, Ba
 use Rattle.rules.specs.declared.RelocationCheck.{RelocationCheck}
 use Rattle.rules.specs.declared.RelocationCheck.the-variants.{Passed, Broken}
 use Rattle.rela.specs.Sites.{siteAt, entry, effect, A, P}
-use Rattle.values.specs.Values.{valueAt, S, T}
+use Rattle.values.specs.Values.{valueAt, targetAt}
 use Rattle.rela.specs.Shape.{shapeWell}
 use Rattle.rules.specs.Rules.{symbolWell, formWell, pairWell, distanceWell, boundaryWell}
 
@@ -29,12 +30,11 @@ number OffBoundary = 14
 unfoldable pub finding : List ℕ → List ℕ → List ℕ → Site → ℕ → Finding
 finding object order addresses x j =
     let value = valueAt object order addresses x j in
-    let t = T (S value) (A object x j) in
     cond (shapeWell object x j)
     (cond (symbolWell object x j value)
     (cond (formWell object x j)
     (cond (pairWell object x j)
-    (cond (distanceWell (effect object x j) t (P object x j))
+    (cond (distanceWell (addressWidth object) (effect object x j) (targetAt object order addresses x j) (P object x j))
     (cond (boundaryWell (effect object x j) (P object x j) (A object x j)) Kept OffBoundary)
     OutOfReach) NoPair) BadForm) BadSymbol) BadShape
 

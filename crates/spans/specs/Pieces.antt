@@ -5,7 +5,7 @@ use mathlib.Core.Bool.{cond}
 use mathlib.Core.List.{List, [], _∷_, _++_}
 use lib.ListN.{getD}
 use Rattle.elf.specs.Sections.{sectionAt}
-use Rattle.journal.specs.Plans.{Piece, piece}
+use Rattle.plans.specs.Plans.{Piece, piece}
 use Rattle.placing.specs.Placing.{hasBytes}
 
 -- the laid bytes of the sections below i, in section order: of "a laid row of size above 0", "each at its address less that order's base"

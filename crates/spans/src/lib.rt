@@ -7,9 +7,9 @@ ghost use Rattle.validate.specs.Facts.{SoundObject};
 ghost use Rattle.placing.specs.Placing.{hasBytes};
 ghost use Rattle.spans.specs.Spans.{highest, lowestByte, spanOf};
 use elf::Section;
-use journal::Span;
 use lookup::Addresses;
 use placing::has_bytes;
+use plans::Span;
 use word::Address;
 
 fn larger(a: u64, b: u64) -> u64

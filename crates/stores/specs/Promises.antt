@@ -2,7 +2,7 @@
 use mathlib.Core.Path.{_≡_}
 use mathlib.Core.Bool.{Bool, cond}
 use mathlib.Core.List.{List}
-use Prim.Native.Nat.{ℕ, zero, suc, _/_, _^_}
+use Prim.Native.Nat.{ℕ, zero, suc, _/_, _%_, _^_}
 use lib.Dec.{eqb}
 use lib.IntN.{ℤ, pos, _+ℤ_, _-ℤ_}
 use Rattle.word.specs.Bytes.{leAt}
@@ -17,8 +17,9 @@ use Rattle.types.specs.declared.Decision.the-variants.{Marker, Align, Store, Re
 use Rattle.riscv.specs.Halves.{low}
 use Rattle.riscv.specs.Ranges.{distance}
 use Rattle.rela.specs.declared.sites.Site.{Site}
-use Rattle.rela.specs.Sites.{count, effect, offset, A, P, found}
-use Rattle.values.specs.Values.{S, T, valueAt}
+use Rattle.elf.specs.Headers.{addressWidth}
+use Rattle.rela.specs.Sites.{count, effect, offset, P, found}
+use Rattle.values.specs.Values.{targetAt}
 use Rattle.stores.specs.Patches.{highPart}
 use Rattle.stores.specs.Sections.{sumAt, pairDistance}
 
@@ -50,46 +51,51 @@ stackAt object order addresses x at v zero = pos v
 stackAt object order addresses x at v (suc j) =
     stackOn (effect object x j) (eqb (offset object x j) at) (stackAt object order addresses x at v j) (sumAt object order addresses x j)
 
--- ---- what is read out of the bytes w of a relocation, as one number. t is T, p is P, d the paired high half's T - P, total the stack's number.
+-- ---- what is read out of the bytes b of a relocation, as one number, where addresses have w bits. t is T, p is P, d the paired high half's
+-- T - P, total the stack's number. LUI and AUIPC leave 32 bits that the machine extends to w by their sign.
 
-abbrev pub Said : Calculation → Field → ℕ → ℕ → ℕ → ℕ → ℤ → Type 0
--- 1: T
-Said Absolute f w t p d total = read (layout f) w ≡ t
+-- a number of 32 bits, extended by its sign to w bits
+abbrev pub extended : ℕ → ℕ → ℕ
+extended w u = residue w (signed 32 u)
+
+abbrev pub Said : ℕ → Calculation → Field → ℕ → ℕ → ℕ → ℕ → ℤ → Type 0
+-- 1: T, as far as the field has bits
+Said w Absolute f b t p d total = read (layout f) b ≡ t % 2 ^ valueBits f
 -- 57: T - P modulo 2^32
-Said PcRelative f w t p d total = read (layout f) w ≡ minus 32 t p
+Said w PcRelative f b t p d total = read (layout f) b ≡ minus w t p % 2 ^ valueBits f
 -- 16, 17, 44, 45: the signed distance is T - P, whole
-Said Distance f w t p d total = signed (valueBits f) (read (layout f) w) ≡ distance t p
+Said w Distance f b t p d total = signed (valueBits f) (read (layout f) b) ≡ distance t p
 -- 18, 19: high half and low half, each read out of its own instruction, add up to T - P modulo 2^32
-Said BothHalves f w t p d total = residue 32 (pos (read formatU w) +ℤ signed 12 (read formatI (w / 2 ^ 32))) ≡ minus 32 t p
+Said w BothHalves f b t p d total = residue w (signed 32 (read formatU b) +ℤ signed 12 (read formatI (b / 2 ^ 32))) ≡ minus w t p
 -- 23, 26: the high half of T - P; of T
-Said HighPcRelative f w t p d total = read (layout f) w ≡ highPart (minus 32 t p)
-Said HighAbsolute f w t p d total = read (layout f) w ≡ highPart t
+Said w HighPcRelative f b t p d total = extended w (read (layout f) b) ≡ highPart w (minus w t p)
+Said w HighAbsolute f b t p d total = extended w (read (layout f) b) ≡ highPart w t
 -- 27, 28: the low half of T, from -2,048 to 2,047
-Said LowAbsolute f w t p d total = signed 12 (read (layout f) w) ≡ low 32 t
+Said w LowAbsolute f b t p d total = signed 12 (read (layout f) b) ≡ low w t
 -- 24, 25: that of the paired high half's T - P
-Said LowOfPair f w t p d total = signed 12 (read (layout f) w) ≡ low 32 d
+Said w LowOfPair f b t p d total = signed 12 (read (layout f) b) ≡ low w d
 -- 33..40, 52..56: what the whole stack says, modulo the width
-Said Add f w t p d total = read (layout f) w ≡ residue (valueBits f) total
-Said Sub f w t p d total = read (layout f) w ≡ residue (valueBits f) total
-Said Set f w t p d total = read (layout f) w ≡ residue (valueBits f) total
+Said w Add f b t p d total = read (layout f) b ≡ residue (valueBits f) total
+Said w Sub f b t p d total = read (layout f) b ≡ residue (valueBits f) total
+Said w Set f b t p d total = read (layout f) b ≡ residue (valueBits f) total
 
 -- a store at an offset of a section that was `before` and is `final`: what is read, and that the bits outside the field are the object's
-abbrev pub Stored : Decision → List ℕ → List ℕ → ℕ → ℕ → ℕ → ℕ → (ℕ → ℤ) → Type 0
-Stored (Store c f form n) before final at t p d total =
-    Said c f (leAt n final at) t p d (total (read (layout f) (leAt n before at)))
+abbrev pub Stored : ℕ → Decision → List ℕ → List ℕ → ℕ → ℕ → ℕ → ℕ → (ℕ → ℤ) → Type 0
+Stored w (Store c f form n) before final at t p d total =
+    Said w c f (leAt n final at) t p d (total (read (layout f) (leAt n before at)))
     × (outside (layout f) (leAt n final at) ≡ outside (layout f) (leAt n before at))
-Stored Marker before final at t p d total = Unit {0}
-Stored Align before final at t p d total = Unit {0}
-Stored Refused before final at t p d total = Unit {0}
+Stored w Marker before final at t p d total = Unit {0}
+Stored w Align before final at t p d total = Unit {0}
+Stored w Refused before final at t p d total = Unit {0}
 
 -- relocation j, read out of the final bytes
 unfoldable pub ReadsBack : List ℕ → List ℕ → List ℕ → Site → List ℕ → ℕ → Type 0
 ReadsBack object order addresses x final j =
-    Stored (effect object x j) (found object x) final (offset object x j) (T (S (valueAt object order addresses x j)) (A object x j)) (P object x j)
+    Stored (addressWidth object) (effect object x j) (found object x) final (offset object x j) (targetAt object order addresses x j) (P object x j)
     (pairDistance object order addresses x j) (λ v. stackAt object order addresses x (offset object x j) v (count x))
 
 -- ---- two halves of one number
 
--- a field that holds a high half and one that holds a low half, read out of the bytes w and v, add up to a number modulo 2^32
-abbrev pub AddUp : Field → ℕ → Field → ℕ → ℕ → Type 0
-AddUp f w g v number = residue 32 (pos (read (layout f) w) +ℤ signed 12 (read (layout g) v)) ≡ number
+-- a field that holds a high half and one that holds a low half, read out of the bytes b and v, add up to a number "modulo 2^32", which is 2^w
+abbrev pub AddUp : ℕ → Field → ℕ → Field → ℕ → ℕ → Type 0
+AddUp w f b g v number = residue w (signed 32 (read (layout f) b) +ℤ signed 12 (read (layout g) v)) ≡ number

@@ -8,7 +8,7 @@ use lib.IntN.{ℤ, pos, _+ℤ_}
 use Rattle.word.specs.Bytes.{leAt, bytes}
 use Rattle.word.specs.First.{first}
 use Rattle.word.specs.Whole.{minus}
-use Rattle.elf.specs.Headers.{sectionCount}
+use Rattle.elf.specs.Headers.{addressWidth, sectionCount}
 use Rattle.elf.specs.Sections.{sectionAt, countingRela}
 use Rattle.elf.specs.Entries.{bytesOf}
 use Rattle.types.specs.declared.Decision.{Decision}
@@ -17,25 +17,25 @@ use Rattle.rela.specs.declared.sites.Site.{Site}
 use Rattle.values.specs.declared.pairs.Pair.{Pair}
 use Rattle.values.specs.declared.pairs.Pair.the-variants.{At, NotOne}
 use Rattle.rela.specs.Sites.{siteAt, count, effect, offset, A, P, found}
-use Rattle.values.specs.Values.{S, T, valueAt}
+use Rattle.values.specs.Values.{S, valueAt, targetAt}
 use Rattle.values.specs.Pairs.{pairOf}
 use Rattle.rules.specs.Rules.{symbol}
 use Rattle.stores.specs.Patches.{patched}
 
--- what a decision leaves of a section's bytes: the n bytes at an offset, as one number, are patched
-abbrev pub stored : Decision → ℕ → ℤ → ℕ → ℕ → List ℕ → List ℕ
-stored (Store c f form n) at x p d s = sets s at (bytes n (patched c f (leAt n s at) x p d))
-stored Marker at x p d s = s
-stored Align at x p d s = s
-stored Refused at x p d s = s
+-- what a decision leaves of a section's bytes, where addresses have w bits: the n bytes at an offset, as one number, are patched
+abbrev pub stored : ℕ → Decision → ℕ → ℤ → ℕ → ℕ → List ℕ → List ℕ
+stored w (Store c f form n) at x p d s = sets s at (bytes n (patched w c f (leAt n s at) x p d))
+stored w Marker at x p d s = s
+stored w Align at x p d s = s
+stored w Refused at x p d s = s
 
 module _ (object order addresses : List ℕ) (x : Site) where
-  -- S + A, "not reduced first", and T - P modulo 2^32 of relocation j
+  -- S + A, "not reduced first", and T - P "modulo 2^32" of relocation j
   unfoldable pub sumAt : ℕ → ℤ
   sumAt j = pos (S (valueAt object order addresses x j)) +ℤ A object x j
 
   unfoldable pub distanceAt : ℕ → ℕ
-  distanceAt j = minus 32 (T (S (valueAt object order addresses x j)) (A object x j)) (P object x j)
+  distanceAt j = minus (addressWidth object) (targetAt object order addresses x j) (P object x j)
 
   -- "the partner's T - P", never that of its own P; 0, which means nothing, without a partner
   abbrev pub distanceOf : Pair → ℕ
@@ -47,7 +47,7 @@ module _ (object order addresses : List ℕ) (x : Site) where
 
   -- relocation j applied to a section's bytes
   unfoldable pub applied : ℕ → List ℕ → List ℕ
-  applied j s = stored (effect object x j) (offset object x j) (sumAt j) (P object x j) (pairDistance j) s
+  applied j s = stored (addressWidth object) (effect object x j) (offset object x j) (sumAt j) (P object x j) (pairDistance j) s
 
   -- "as found in the object", and then each relocation in file order on what those before it left
   unfoldable pub after : ℕ → List ℕ

@@ -14,8 +14,9 @@ use Rattle.types.specs.declared.Calculation.the-variants.{HighAbsolute, LowAbso
 use Rattle.types.specs.declared.Decision.the-variants.{Store}
 use Rattle.rela.specs.declared.sites.Site.{Site}
 use Rattle.values.specs.declared.pairs.Pair.the-variants.{At}
-use Rattle.rela.specs.Sites.{count, effect, offset, A}
-use Rattle.values.specs.Values.{S, T, valueAt}
+use Rattle.elf.specs.Headers.{addressWidth}
+use Rattle.rela.specs.Sites.{count, effect, offset}
+use Rattle.values.specs.Values.{targetAt}
 use Rattle.rela.specs.Shape.{end}
 use Rattle.values.specs.Pairs.{pairOf}
 use Rattle.rules.specs.Rules.{symbol}
@@ -29,13 +30,13 @@ touches object x j b = leb (offset object x j) b && ltb b (end object x j)
 unfoldable pub untouched : List ℕ → Site → ℕ → Bool
 untouched object x b = everywhere (λ j. not (touches object x j b)) (count x)
 
--- "the high half and the low half laid for one address or distance add up to it modulo 2^32"
+-- "the high half and the low half laid for one address or distance add up to it modulo 2^32": modulo 2^w, where addresses have w bits
 pub record Halves (object order addresses : List ℕ) (x : Site) (final : List ℕ) : Type 0 where
   -- 26 with 27 or 28: for one address T, anywhere in the section
   pub address : (i j : ℕ) → i < count x → j < count x → (f g : Field) (a b : Form) (m n : ℕ) → effect object x i ≡ Store HighAbsolute f a m → effect object x j ≡ Store LowAbsolute g b n
-      → T (S (valueAt object order addresses x i)) (A object x i) ≡ T (S (valueAt object order addresses x j)) (A object x j)
-      → AddUp f (leAt m final (offset object x i)) g (leAt n final (offset object x j)) (T (S (valueAt object order addresses x i)) (A object x i))
+      → targetAt object order addresses x i ≡ targetAt object order addresses x j
+      → AddUp (addressWidth object) f (leAt m final (offset object x i)) g (leAt n final (offset object x j)) (targetAt object order addresses x i)
   -- 23 with 24 or 25: there is one pair, and the two add up to its distance
   pub distance : (j : ℕ) → j < count x → (g : Field) (b : Form) (n : ℕ) → effect object x j ≡ Store LowOfPair g b n
       → (k : ℕ) × (k < count x) × (pairOf object x (symbol object x j .value) ≡ At k)
-      × AddUp U (leAt 4 final (offset object x k)) g (leAt n final (offset object x j)) (distanceAt object order addresses x k)
+      × AddUp (addressWidth object) U (leAt 4 final (offset object x k)) g (leAt n final (offset object x j)) (distanceAt object order addresses x k)

@@ -7,6 +7,7 @@ use lib.Dec.{ltb, eqb}
 use Rattle.word.specs.Places.{address}
 use Rattle.word.specs.Whole.{plus}
 use Rattle.elf.specs.declared.Symbol.{Symbol}
+use Rattle.elf.specs.Headers.{addressWidth}
 use Rattle.elf.specs.Sections.{sectionAt, isAllocated, symbolTable}
 use Rattle.elf.specs.Entries.{SHN_UNDEF, SHN_ABS, STB_WEAK, STT_TLS, STT_GNU_IFUNC, symbolAt, symbolCount}
 use Rattle.lookup.specs.declared.Value.{Value}
@@ -25,7 +26,7 @@ ofUndefined y NotGiven = cond (eqb (y .binding) STB_WEAK) (Resolved (address 0))
 -- order's value, else 0 if weak". "Anything else" does not resolve.
 unfoldable pub ofSection : List ℕ → List ℕ → List ℕ → ℕ → Symbol → SymbolValue
 ofSection object order addresses k y =
-    cond (isAllocated object (y .section)) (Resolved (address (plus 32 (getD addresses (y .section) 0) (y .value .0))))
+    cond (isAllocated object (y .section)) (Resolved (address (plus (addressWidth object) (getD addresses (y .section) 0) (y .value .0))))
     (cond (eqb (y .section) SHN_ABS) (Resolved (address (y .value .0)))
     (cond (eqb (y .section) SHN_UNDEF) (ofUndefined y (externalValue order k)) Unresolved))
 

@@ -6,7 +6,7 @@ use mathlib.Core.List.{List, [], _∷_, _++_}
 use lib.ListN.{length, take}
 use lib.Dec.{ltb}
 use Rattle.io.specs.Digits.{glyph}
-use Rattle.history.specs.Calls.{Answer}
+use Rattle.plans.specs.Answers.{Answer}
 
 -- n in decimal, without zeros in front, where `most` digits hold it
 unfoldable pub decimalIn : ℕ → ℕ → List ℕ

@@ -39,7 +39,7 @@ pub fn append(out: &mut [u8], at: usize, bytes: &[u8]) -> usize
     ensures { λ r. ⌜ Appended (now (out .entry)) at (now (bytes .entry)) r (now (out .exit)) ⌝ }
 {
     let n = bytes.len();
-    undo::copy(out, at, bytes, 0, n);
+    endian::copy(out, at, bytes, 0, n);
     at + n
 }
 

@@ -1,5 +1,6 @@
 -- Document 01's number and place for each answer of `rollback`. Assumes nothing: these are definitions.
-use Rattle.history.specs.Calls.{Answer, done, journalUnsound, windowBroken, noneStands}
+use Rattle.plans.specs.Answers.{Answer, done}
+use Rattle.history.specs.Calls.{journalUnsound, windowBroken, noneStands}
 use Rattle.undo.specs.declared.RolledBack.{RolledBack}
 use Rattle.undo.specs.declared.RolledBack.the-variants.{Done, JournalUnsound, ImageTooLong, NothingStands}
 

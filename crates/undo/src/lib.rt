@@ -3,17 +3,17 @@ ghost use mathlib.Core.Path.{_≡_};
 ghost use Prim.Native.Nat.{_+_, _≤_, _<_};
 ghost use lib.ListN.{length, replicate};
 ghost use lib.Seq.{sets};
-ghost use Rattle.word.specs.Bytes.{part};
 ghost use Rattle.journal.specs.Journals.{maxEntries, oldAt, entryAt, entryBytes};
 ghost use Rattle.history.specs.Writes.{saved};
 ghost use Rattle.history.specs.Facts.{Savable, Undoable};
 ghost use Rattle.history.specs.Calls.{rolledBack, rollback as «rolled-back»};
 ghost use Rattle.undo.specs.Answers.{answerOf};
 use journal::COUNT_AT;
-use journal::ENTRIES_AT;
 use journal::HELD_AT;
+use journal::NUMBER_SIZE;
 use journal::OLD_AT;
-use journal::Span;
+use journal::entry_at;
+use plans::Span;
 
 // What a rollback answers.
 pub enum RolledBack {
@@ -21,18 +21,6 @@ pub enum RolledBack {
     JournalUnsound,
     ImageTooLong,
     NothingStands,
-}
-
-// Copies n bytes of `src` from `from` on to `dst` from `at` on, upwards.
-pub fn copy(dst: &mut [u8], at: usize, src: &[u8], from: usize, n: usize)
-    requires { ⌜ (at + n ≤ length (now dst)) × (from + n ≤ length (now src)) ⌝ }
-    ensures { λ _. ⌜ now (dst .exit) ≡ sets (now (dst .entry)) at (part (now (src .entry)) from n) ⌝ }
-{
-    let mut i: usize = 0;
-    while i < n {
-        dst[at + i] = src[from + i];
-        i += 1;
-    }
 }
 
 // Writes n zero bytes from `at` on, upwards.
@@ -52,9 +40,9 @@ fn write_entry(journal: &mut [u8], i: usize, span: Span)
     requires { ⌜ (i < maxEntries) × (oldAt ≤ length (now journal)) ⌝ }
     ensures { λ _. ⌜ now (journal .exit) ≡ sets (now (journal .entry)) (entryAt i) (entryBytes span) ⌝ }
 {
-    let at = ENTRIES_AT + 8 * i;
+    let at = entry_at(i);
     endian::write32(journal, at, span.start);
-    endian::write32(journal, at + 4, span.size);
+    endian::write32(journal, at + NUMBER_SIZE, span.size);
 }
 
 // Records a span of the image: its old bytes, then its entry, then k, then n.
@@ -64,7 +52,7 @@ pub fn save(image: &[u8], journal: &mut [u8], span: Span)
 {
     let n = endian::read32(journal, COUNT_AT);
     let k = endian::read32(journal, HELD_AT);
-    copy(
+    endian::copy(
         journal,
         OLD_AT + k as usize,
         image,
@@ -85,7 +73,7 @@ fn undo(image: &mut [u8], journal: &mut [u8])
     let i = endian::read32(journal, COUNT_AT) - 1;
     let span = journal::read_entry(journal, i as usize);
     let k = endian::read32(journal, HELD_AT) - span.size;
-    copy(
+    endian::copy(
         image,
         span.start as usize,
         journal,

@@ -7,7 +7,8 @@ use Rattle.symbols.specs.declared.SymbolValue.{SymbolValue}
 use Rattle.symbols.specs.declared.SymbolValue.the-variants.{Resolved, Unresolved}
 use Rattle.symbols.specs.Values.{symbolValue}
 use Rattle.rela.specs.declared.sites.Site.{Site}
-use Rattle.rela.specs.Sites.{entry}
+use Rattle.elf.specs.Headers.{addressWidth}
+use Rattle.rela.specs.Sites.{entry, A}
 
 -- S of relocation j, if its symbol resolves
 abbrev pub valueAt : List ℕ → List ℕ → List ℕ → Site → ℕ → SymbolValue
@@ -18,6 +19,10 @@ abbrev pub S : SymbolValue → ℕ
 S (Resolved v) = v .0
 S Unresolved = 0
 
--- "S + A is reduced modulo 2^32, then called T"
-abbrev pub T : ℕ → ℤ → ℕ
-T s a = residue 32 (pos s +ℤ a)
+-- "S + A is reduced modulo 2^32, then called T": modulo 2^w, where addresses have w bits
+abbrev pub T : ℕ → ℕ → ℤ → ℕ
+T w s a = residue w (pos s +ℤ a)
+
+-- T of relocation j
+abbrev pub targetAt : List ℕ → List ℕ → List ℕ → Site → ℕ → ℕ
+targetAt object order addresses x j = T (addressWidth object) (S (valueAt object order addresses x j)) (A object x j)

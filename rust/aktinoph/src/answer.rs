@@ -14,7 +14,7 @@ pub enum Answer {
     /// 0: done.
     Done,
     /// 1: the ledger is not sound.
-    JournalUnsound,
+    LedgerUnsound,
     /// 2: the order's bytes are malformed.
     OrderMalformed,
     /// 3: the image is too long, or the window ends above 2^32.
@@ -44,21 +44,25 @@ pub enum Answer {
     /// 14: this ALIGN relocation's padding does not end on its boundary.
     PaddingOffBoundary(u32),
     /// 15: the ledger has 16 fits, or no room for the old bytes.
-    JournalFull,
+    LedgerFull,
     /// 16: no fit stands. Only a taking-back answers this.
     NothingStands,
 }
 
 impl Answer {
-    /// The answer behind what an exported function returns: the number in the
-    /// low eight bits, the place in the upper 32. The functions' contracts
-    /// allow no other codes than those of the cases, so that another one means
-    /// a library that is not this one, and panics.
-    pub(crate) fn from_code(code: u64) -> Answer {
+    /// The answer behind a code, as the exported functions return it and as
+    /// [`replay_bytes`](crate::replay_bytes) stores it: the number in the low
+    /// eight bits, the place in the upper 32.
+    ///
+    /// # Panics
+    ///
+    /// Where it is the code of no answer. The functions' contracts rule that
+    /// out, so that such a code is not from this library.
+    pub fn from_code(code: u64) -> Answer {
         let place = (code >> 32) as u32;
         let answer = match code as u32 {
             0 => Answer::Done,
-            1 => Answer::JournalUnsound,
+            1 => Answer::LedgerUnsound,
             2 => Answer::OrderMalformed,
             3 => Answer::WindowBroken,
             4 => Answer::BadHeader,
@@ -72,9 +76,9 @@ impl Answer {
             12 => Answer::NotOnePair(place),
             13 => Answer::OutOfReach(place),
             14 => Answer::PaddingOffBoundary(place),
-            15 => Answer::JournalFull,
+            15 => Answer::LedgerFull,
             16 => Answer::NothingStands,
-            _ => panic!("the library answered {code:#x}, which its contract rules out"),
+            _ => panic!("{code:#x} is the code of no answer"),
         };
         assert_eq!(answer.place(), place, "{answer:?} has no place");
         answer
@@ -84,7 +88,7 @@ impl Answer {
     pub fn number(self) -> u32 {
         match self {
             Answer::Done => 0,
-            Answer::JournalUnsound => 1,
+            Answer::LedgerUnsound => 1,
             Answer::OrderMalformed => 2,
             Answer::WindowBroken => 3,
             Answer::BadHeader => 4,
@@ -98,7 +102,7 @@ impl Answer {
             Answer::NotOnePair(_) => 12,
             Answer::OutOfReach(_) => 13,
             Answer::PaddingOffBoundary(_) => 14,
-            Answer::JournalFull => 15,
+            Answer::LedgerFull => 15,
             Answer::NothingStands => 16,
         }
     }
@@ -138,7 +142,7 @@ impl Answer {
     fn words(self) -> &'static str {
         match self {
             Answer::Done => "done",
-            Answer::JournalUnsound => "the ledger is not sound",
+            Answer::LedgerUnsound => "the ledger is not sound",
             Answer::OrderMalformed => "the order's bytes are malformed",
             Answer::WindowBroken => "the image is too long, or the window ends above 2^32",
             Answer::BadHeader => "the ELF header or the object's length is not allowed",
@@ -153,7 +157,7 @@ impl Answer {
             Answer::NotOnePair(_) => "not exactly one PCREL_HI20 for this PCREL_LO12",
             Answer::OutOfReach(_) => "the distance is odd or too far",
             Answer::PaddingOffBoundary(_) => "the padding does not end on its boundary",
-            Answer::JournalFull => "the ledger has 16 fits, or no room for the old bytes",
+            Answer::LedgerFull => "the ledger has 16 fits, or no room for the old bytes",
             Answer::NothingStands => "no fit stands",
         }
     }
@@ -224,13 +228,13 @@ mod tests {
     }
 
     #[test]
-    #[should_panic(expected = "which its contract rules out")]
+    #[should_panic(expected = "is the code of no answer")]
     fn a_number_that_is_none() {
         Answer::from_code(17);
     }
 
     #[test]
-    #[should_panic(expected = "which its contract rules out")]
+    #[should_panic(expected = "is the code of no answer")]
     fn bits_between_number_and_place() {
         Answer::from_code(0x100);
     }

@@ -1,4 +1,4 @@
-//! The two exported functions of the static library, as `include/aktinoph.h`
+//! The exported functions of the static library, as `include/aktinoph.h`
 //! declares them. This is the only module with unsafe code.
 
 extern "C" {
@@ -18,6 +18,17 @@ extern "C" {
         image_len: usize,
         ledger: *mut u8,
         ledger_len: usize,
+    ) -> u64;
+
+    fn aktinoph_replay(
+        calls: *const u8,
+        calls_len: usize,
+        image: *mut u8,
+        image_len: usize,
+        ledger: *mut u8,
+        ledger_len: usize,
+        answers: *mut u64,
+        answers_len: usize,
     ) -> u64;
 }
 
@@ -47,6 +58,28 @@ pub(crate) fn take_back(image: &mut [u8], ledger: &mut [u8]) -> u64 {
             image.len(),
             ledger.as_mut_ptr(),
             ledger.len(),
+        )
+    }
+}
+
+pub(crate) fn replay(
+    calls: &[u8],
+    image: &mut [u8],
+    ledger: &mut [u8],
+    answers: &mut [u64],
+) -> u64 {
+    // SAFETY: as in `fit`: three mutable slices, which overlap nothing, and
+    // one that is only read. The length of `answers` counts numbers.
+    unsafe {
+        aktinoph_replay(
+            calls.as_ptr(),
+            calls.len(),
+            image.as_mut_ptr(),
+            image.len(),
+            ledger.as_mut_ptr(),
+            ledger.len(),
+            answers.as_mut_ptr(),
+            answers.len(),
         )
     }
 }

@@ -2,9 +2,10 @@
 //!
 //! [`fit`] lays an RV32 ELF object into a memory image, with relocations
 //! applied, and records the old bytes in a ledger. [`take_back`] undoes the
-//! newest fit that stands. Every call is answered, for any bytes of any
-//! length, and an [`Answer`] other than [`Answer::Done`] means that image and
-//! ledger are as they were, byte for byte.
+//! newest fit that stands. [`replay`] makes a list of such calls, one after the
+//! other. Every call is answered, for any bytes of any length, and an
+//! [`Answer`] other than [`Answer::Done`] means that image and ledger are as
+//! they were, byte for byte.
 //!
 //! ```
 //! # fn main() -> Result<(), Box<dyn std::error::Error>> {
@@ -32,10 +33,12 @@
 #![deny(unsafe_code)]
 
 mod answer;
+mod calls;
 #[allow(unsafe_code)]
 mod ffi;
 
 pub use answer::{Answer, Refusal};
+pub use calls::Calls;
 
 /// The ledger's bytes before the old bytes. A ledger of this many zero bytes
 /// and room for old bytes is one in which no fit stands.
@@ -49,10 +52,69 @@ pub fn fit(object: &[u8], order: &[u8], image: &mut [u8], ledger: &mut [u8]) -> 
 }
 
 /// Takes the newest standing fit back: writes its old bytes into the image.
-/// It answers [`Answer::Done`], [`Answer::JournalUnsound`],
+/// It answers [`Answer::Done`], [`Answer::LedgerUnsound`],
 /// [`Answer::WindowBroken`] for an image that is too long, or
 /// [`Answer::NothingStands`].
 #[must_use = "a refused taking-back changes nothing"]
 pub fn take_back(image: &mut [u8], ledger: &mut [u8]) -> Answer {
     Answer::from_code(ffi::take_back(image, ledger))
+}
+
+/// Makes the calls of a list in their order, and gives the answer of each. A
+/// refused call changes nothing, and the next one is made all the same.
+///
+/// ```
+/// # fn main() -> Result<(), Box<dyn std::error::Error>> {
+/// use aktinoph::{Answer, Calls};
+///
+/// let object = std::fs::read("../../objects/clang-switch/clang-switch.o")?;
+/// let order = std::fs::read("../../objects/clang-switch/order")?;
+/// let mut image = vec![0xA5; 1024];
+/// let mut ledger = vec![0; aktinoph::LEDGER_HEAD + image.len()];
+///
+/// let mut calls = Calls::new();
+/// calls.fit(&object, &order).take_back().take_back();
+/// let answers = aktinoph::replay(&calls, &mut image, &mut ledger);
+/// assert_eq!(answers, [Answer::Done, Answer::Done, Answer::NothingStands]);
+/// assert!(image.iter().all(|byte| *byte == 0xA5));
+/// # Ok(())
+/// # }
+/// ```
+#[must_use = "a refused call changes nothing"]
+pub fn replay(calls: &Calls, image: &mut [u8], ledger: &mut [u8]) -> Vec<Answer> {
+    let mut answers = vec![0; calls.len()];
+    let is_run = replay_bytes(calls.as_bytes(), image, ledger, &mut answers);
+    assert!(is_run, "the library ran a list, as its contract says");
+    answers.into_iter().map(Answer::from_code).collect()
+}
+
+/// [`replay`] of any bytes, which need not be those of a [`Calls`], as the
+/// library offers it.
+///
+/// It gives true where the calls were made: their answers are the codes in the
+/// first places of `answers`, which [`Answer::from_code`] reads, and the other
+/// places are as they were. It gives false where the bytes are malformed or
+/// `answers` has fewer places than the list has calls: then no call was made,
+/// and image, ledger and answers are as they were.
+///
+/// ```
+/// use aktinoph::Answer;
+///
+/// let (mut image, mut ledger) = ([], [0; aktinoph::LEDGER_HEAD]);
+/// let mut answers = [99; 2];
+/// let take_back = [1, 0, 0, 0, 2, 0, 0, 0];
+/// assert!(aktinoph::replay_bytes(&take_back, &mut image, &mut ledger, &mut answers));
+/// assert_eq!(Answer::from_code(answers[0]), Answer::NothingStands);
+/// assert_eq!(answers[1], 99);
+/// assert!(!aktinoph::replay_bytes(&take_back[1..], &mut image, &mut ledger, &mut answers));
+/// assert!(!aktinoph::replay_bytes(&take_back, &mut image, &mut ledger, &mut []));
+/// ```
+#[must_use = "a list that is not run changes nothing"]
+pub fn replay_bytes(
+    calls: &[u8],
+    image: &mut [u8],
+    ledger: &mut [u8],
+    answers: &mut [u64],
+) -> bool {
+    ffi::replay(calls, image, ledger, answers) == 1
 }

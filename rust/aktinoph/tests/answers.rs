@@ -1,7 +1,7 @@
 //! Document 01's answers: their numbers and places, what the C header calls
 //! them, and in which words they are written.
 
-use aktinoph::{Answer, LEDGER_HEAD};
+use aktinoph::{Answer, Calls, LEDGER_HEAD};
 
 /// The header's name, the answer, its number and place, and its words.
 type Row = (&'static str, Answer, u32, u32, &'static str);
@@ -9,7 +9,7 @@ type Row = (&'static str, Answer, u32, u32, &'static str);
 #[rustfmt::skip]
 const ANSWERS: [Row; 17] = [
     ("AKTINOPH_DONE", Answer::Done, 0, 0, "done"),
-    ("AKTINOPH_JOURNAL_UNSOUND", Answer::JournalUnsound, 1, 0,
+    ("AKTINOPH_LEDGER_UNSOUND", Answer::LedgerUnsound, 1, 0,
      "the ledger is not sound"),
     ("AKTINOPH_ORDER_MALFORMED", Answer::OrderMalformed, 2, 0,
      "the order's bytes are malformed"),
@@ -37,7 +37,7 @@ const ANSWERS: [Row; 17] = [
      "relocation 7: the distance is odd or too far"),
     ("AKTINOPH_PADDING_OFF_BOUNDARY", Answer::PaddingOffBoundary(8), 14, 8,
      "relocation 8: the padding does not end on its boundary"),
-    ("AKTINOPH_JOURNAL_FULL", Answer::JournalFull, 15, 0,
+    ("AKTINOPH_LEDGER_FULL", Answer::LedgerFull, 15, 0,
      "the ledger has 16 fits, or no room for the old bytes"),
     ("AKTINOPH_NOTHING_STANDS", Answer::NothingStands, 16, 0,
      "no fit stands"),
@@ -98,10 +98,33 @@ fn header_names_and_numbers() {
     }
 }
 
+/// The number that the header defines by this name, once.
+fn defined(name: &str) -> usize {
+    let lines = HEADER
+        .lines()
+        .filter_map(|line| line.strip_prefix("#define "));
+    let numbers = lines.filter_map(|line| line.strip_prefix(name)?.strip_prefix(' '));
+    let numbers: Vec<&str> = numbers.collect();
+    assert_eq!(numbers.len(), 1, "{name}");
+    numbers[0].parse().expect("a number")
+}
+
 /// "count n ...; 16 entries of start u32 and length u32 ...; count k"
 #[test]
 fn bytes_before_the_old_bytes() {
     assert_eq!(LEDGER_HEAD, 136);
-    let defined = |line: &&str| **line == *"#define AKTINOPH_LEDGER_HEAD 136";
-    assert_eq!(HEADER.lines().filter(defined).count(), 1);
+    assert_eq!(defined("AKTINOPH_LEDGER_HEAD"), LEDGER_HEAD);
+}
+
+/// The header's kinds of calls are those that a list has.
+#[test]
+fn kinds_of_calls() {
+    let mut calls = Calls::new();
+    calls.fit(&[], &[]);
+    assert_eq!(calls.as_bytes()[4..8], [1, 0, 0, 0]);
+    assert_eq!(defined("AKTINOPH_CALL_FIT"), 1);
+    let mut calls = Calls::new();
+    calls.take_back();
+    assert_eq!(calls.as_bytes()[4..8], [2, 0, 0, 0]);
+    assert_eq!(defined("AKTINOPH_CALL_TAKE_BACK"), 2);
 }

@@ -3,13 +3,13 @@
 use std::fs;
 use std::path::Path;
 
-use aktinoph::Refusal;
+use aktinoph::{Answer, Refusal};
 
 fn repository() -> &'static Path {
     Path::new(concat!(env!("CARGO_MANIFEST_DIR"), "/../.."))
 }
 
-/// The README's lines, with nothing between them but an assertion.
+/// The README's lines, with nothing between them but assertions.
 #[rustfmt::skip]
 fn as_shown(object: Vec<u8>, order: Vec<u8>, laid: &[u8]) -> Result<(), Refusal> {
     let mut image = vec![0xA5; 1024];
@@ -18,6 +18,12 @@ fn as_shown(object: Vec<u8>, order: Vec<u8>, laid: &[u8]) -> Result<(), Refusal>
     aktinoph::fit(&object, &order, &mut image, &mut ledger).check()?;      // Err: "relocation 7: the distance is odd or too far"
     assert_eq!(image, laid);
     aktinoph::take_back(&mut image, &mut ledger).check()?;
+    assert_eq!(image, vec![0xA5; 1024]);
+
+    let mut calls = aktinoph::Calls::new();
+    calls.fit(&object, &order).take_back().take_back();
+    let answers = aktinoph::replay(&calls, &mut image, &mut ledger);      // Done, Done, NothingStands
+    assert_eq!(answers, [Answer::Done, Answer::Done, Answer::NothingStands]);
     assert_eq!(image, vec![0xA5; 1024]);
     Ok(())
 }

@@ -7,8 +7,9 @@ use std::ptr::null_mut;
 use std::slice;
 
 const PAGE: usize = 4_096;
-/// The bytes between the two pages: enough for four buffers that are too long.
-pub const ROOM: usize = 80 * PAGE;
+/// The bytes between the two pages: enough for a list of calls with buffers
+/// that are too long.
+pub const ROOM: usize = 256 * PAGE;
 /// How many bytes beside a buffer are watched.
 pub const GUARD: usize = 64;
 
@@ -129,6 +130,15 @@ impl Drop for Arena {
         // borrows from the arena any more.
         unsafe { munmap(self.first.sub(PAGE).cast(), ROOM + 2 * PAGE) };
     }
+}
+
+/// Bytes as numbers of eight bytes each. They begin at a multiple of eight, as
+/// a buffer of whole numbers does in every layout.
+pub fn numbers(bytes: &mut [u8]) -> &mut [u64] {
+    // SAFETY: any eight bytes are a number.
+    let (before, numbers, behind) = unsafe { bytes.align_to_mut() };
+    assert!(before.is_empty() && behind.is_empty(), "whole numbers");
+    numbers
 }
 
 /// Bytes that differ from their neighbours.

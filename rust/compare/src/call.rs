@@ -148,7 +148,7 @@ impl Library {
     }
 }
 
-fn held(holds: bool, wrong: impl Fn() -> String) -> Result<(), String> {
+pub(crate) fn held(holds: bool, wrong: impl Fn() -> String) -> Result<(), String> {
     match holds {
         true => Ok(()),
         false => Err(wrong()),

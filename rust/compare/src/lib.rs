@@ -11,21 +11,25 @@ pub mod call;
 pub mod fault;
 pub mod history;
 pub mod inputs;
+pub mod replay;
 
 use call::{Command, Library};
 use inputs::Pool;
+use replay::Replays;
 use testing::random::Random;
 
 /// How often each number was answered.
 pub type Counts = [u64; 17];
 
-/// Random calls and histories. A seed stands for one call or one history.
+/// Random calls, histories and lists. A seed stands for one of them.
 pub struct Compare {
     library: Library,
+    replays: Replays,
     pool: Pool,
     pub fits: Counts,
     pub rollbacks: Counts,
     pub histories: history::Seen,
+    pub lists: replay::Seen,
 }
 
 impl Compare {
@@ -33,10 +37,12 @@ impl Compare {
     pub fn new() -> Compare {
         Compare {
             library: Library::new(),
+            replays: Replays::new(),
             pool: Pool::new(),
             fits: Counts::default(),
             rollbacks: Counts::default(),
             histories: history::Seen::default(),
+            lists: replay::Seen::default(),
         }
     }
 
@@ -56,5 +62,11 @@ impl Compare {
     pub fn history(&mut self, seed: u64) -> Result<(), String> {
         let random = &mut Random::new(seed);
         history::play(&mut self.library, random, &mut self.histories)
+    }
+
+    /// One random list by both fitters, or what differs.
+    pub fn list(&mut self, seed: u64) -> Result<(), String> {
+        let random = &mut Random::new(seed);
+        replay::play(&mut self.replays, &self.pool, random, &mut self.lists)
     }
 }

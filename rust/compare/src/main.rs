@@ -1,5 +1,5 @@
 //! Compares the static library with the reference for as long as asked, on
-//! random calls and histories from a seed on.
+//! random calls, histories and lists of calls from a seed on.
 
 #![forbid(unsafe_code)]
 
@@ -10,7 +10,8 @@ use compare::{fault, Compare};
 
 const USAGE: &str = "usage: compare [--seconds SECONDS] [--seed SEED] [--cases CASES]";
 
-/// One seed in this many is a history, the others are calls.
+/// One seed in this many is a history, and the one after it a list; the others
+/// are calls.
 const HISTORY_EVERY: u64 = 50;
 
 struct Options {
@@ -65,6 +66,7 @@ fn run(options: &Options) -> Result<String, (u64, String)> {
         fault::seed(seed);
         let done = match seed % HISTORY_EVERY {
             0 => compare.history(seed),
+            1 => compare.list(seed),
             _ => compare.call(seed),
         };
         done.map_err(|what| (seed, what))?;
@@ -74,11 +76,15 @@ fn run(options: &Options) -> Result<String, (u64, String)> {
         "{cases} cases from seed {} on, no difference\n\
          fits by answer:         {:?}\n\
          takings-back by answer: {:?}\n\
-         in histories:           {:?}, at most {} standing",
+         in histories:           {:?}, at most {} standing\n\
+         in lists:               {:?}, {} run, {} not",
         options.seed,
         compare.fits,
         compare.rollbacks,
         compare.histories.answers,
-        compare.histories.most_standing
+        compare.histories.most_standing,
+        compare.lists.answers,
+        compare.lists.run,
+        compare.lists.not_run
     ))
 }

@@ -18,7 +18,7 @@ fn counts_its_cases() {
         text.starts_with("120 cases from seed 7 on, no difference\n"),
         "{text}"
     );
-    // Seeds 50 and 100 are histories.
+    // Seeds 50 and 100 are histories, 51 and 101 lists.
     let line = |start: &str| {
         text.lines()
             .find(|line| line.starts_with(start))
@@ -31,8 +31,9 @@ fn counts_its_cases() {
             .map(|count| count.parse::<u64>().expect("a count"))
             .sum()
     };
-    assert_eq!(sum(line("fits")) + sum(line("takings-back")), 118);
+    assert_eq!(sum(line("fits")) + sum(line("takings-back")), 116);
     assert!(sum(line("in histories")) > 0);
+    assert!(line("in lists").ends_with(", 2 run, 0 not"));
 }
 
 #[test]

@@ -14,12 +14,14 @@
 //! | The laid bytes and their span | [`plan`] | |
 //! | When the fitter says no | [`checks`] | all, in order |
 //! | The history behind demand 3 | [`history`] | |
+//! | A list of calls, as bytes | [`calls`] | |
 //!
 //! The words are the field's; the comment at each definition has document
 //! 01's term. Quoted sentences in comments are document 01's.
 
 #![forbid(unsafe_code)]
 
+pub mod calls;
 pub mod checks;
 pub mod fields;
 pub mod history;
@@ -34,6 +36,7 @@ pub mod relocate;
 pub mod relocation;
 pub mod symbol;
 
+pub use calls::replay;
 pub use checks::{install, judge, rollback};
 pub use journal::Span;
 pub use plan::{Piece, Plan};

@@ -52,3 +52,25 @@ pub fn write_number(bytes: &mut [u8], number: u64) {
     let count = bytes.len();
     bytes.copy_from_slice(&all[..count]);
 }
+
+/// The bytes of a format that are not read yet.
+pub(crate) struct Unread<'a>(pub(crate) &'a [u8]);
+
+impl<'a> Unread<'a> {
+    pub(crate) fn next_u32(&mut self) -> Option<u32> {
+        let number = u32_at(self.0, 0)?;
+        self.0 = &self.0[4..];
+        Some(number)
+    }
+
+    pub(crate) fn next_bytes(&mut self, count: u32) -> Option<&'a [u8]> {
+        let (next, rest) = self.0.split_at_checked(count as usize)?;
+        self.0 = rest;
+        Some(next)
+    }
+
+    /// "no byte left over"
+    pub(crate) fn end(self) -> Option<()> {
+        self.0.is_empty().then_some(())
+    }
+}

@@ -1,6 +1,6 @@
 //! The order's format (check 2) and the window (check 3).
 
-use crate::numbers::{u32_at, Address, Whole, ADDRESS_END};
+use crate::numbers::{Address, Unread, Whole, ADDRESS_END};
 use crate::object::MAX_SECTIONS;
 use crate::symbol::MAX_SYMBOLS;
 use crate::MAX_BYTES;
@@ -34,10 +34,7 @@ impl Order {
         let base = rest.window_base()?;
         let placements = rest.ascending_pairs(MAX_SECTIONS as u32)?;
         let external_values = rest.ascending_pairs(MAX_SYMBOLS)?;
-        // "no byte left over"
-        if !rest.0.is_empty() {
-            return None;
-        }
+        rest.end()?;
         let placement = |(section, address)| Placement {
             section,
             address: Address(address),
@@ -51,17 +48,8 @@ impl Order {
     }
 }
 
-/// The order's bytes that are not read yet. "sections in a fixed order, each
-/// after its u32 count"
-struct Unread<'a>(&'a [u8]);
-
+/// "sections in a fixed order, each after its u32 count"
 impl Unread<'_> {
-    fn next_u32(&mut self) -> Option<u32> {
-        let number = u32_at(self.0, 0)?;
-        self.0 = &self.0[4..];
-        Some(number)
-    }
-
     /// "window base (count 1; one u32)"
     fn window_base(&mut self) -> Option<Address> {
         let count = self.next_u32()?;

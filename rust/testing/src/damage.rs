@@ -125,7 +125,7 @@ fn boundary(random: &mut Random, near: usize) -> u32 {
 }
 
 /// One bit, one byte, one number, or the length.
-fn wound_bytes(random: &mut Random, bytes: &mut Vec<u8>) {
+pub fn wound_bytes(random: &mut Random, bytes: &mut Vec<u8>) {
     let length = bytes.len();
     match random.below(6) {
         0 if length > 0 => bytes[random.below(length)] ^= 1 << random.below(8),

@@ -1,17 +1,31 @@
 //! The shared vectors: `vectors/README.md` has their format.
 
 use std::fs;
+use std::io;
 use std::path::Path;
 
+/// A line's number and its words.
+pub type Line = (usize, Vec<String>);
+
 /// The lines of a vector file with their numbers, split at spaces.
-pub fn lines(name: &str) -> Vec<(usize, Vec<String>)> {
+pub fn lines(name: &str) -> Vec<Line> {
+    read_lines("../../vectors", name).expect("the vectors are in the repository")
+}
+
+/// The same of the file that is shared beside the repository, where it is
+/// there.
+pub fn shared_lines(name: &str) -> Option<Vec<Line>> {
+    read_lines("../../../shared/vectors", name).ok()
+}
+
+fn read_lines(folder: &str, name: &str) -> io::Result<Vec<Line>> {
     let path = Path::new(env!("CARGO_MANIFEST_DIR"))
-        .join("../../vectors")
+        .join(folder)
         .join(name);
-    let text = fs::read_to_string(&path).expect("the vectors are in the repository");
+    let text = fs::read_to_string(path)?;
     let split = |line: &str| line.split(' ').map(str::to_string).collect();
     let numbered = text.lines().enumerate();
-    numbered.map(|(at, line)| (at + 1, split(line))).collect()
+    Ok(numbered.map(|(at, line)| (at + 1, split(line))).collect())
 }
 
 /// "Bytes are in hexadecimal, `-` is no byte"

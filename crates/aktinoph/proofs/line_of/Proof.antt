@@ -1,7 +1,7 @@
--- `aktinoph::line_of` meets its contract: number and place are read out of the one number again. Assumes nothing.
+-- `aktinoph::line_of` meets its contract: number and place are read out of the one number. Assumes nothing.
 use mathlib.Core.Path.{ap, _∙_}
+use Rattle.plans.specs.Answers.{Answer}
 use Rattle.text.specs.Lines.{line}
-use Rattle.judge.proofs.Laws.Answers.{unpacked}
 use borrow.Author.Needs.{needs}
 use Rattle.aktinoph.proofs.line_of.Statement.{statement}
 use Rattle.aktinoph.proofs.line_of.Tie as tie
@@ -9,7 +9,7 @@ use Rattle.aktinoph.proofs.line_of.Tie as tie
 returns : tie.Need-returns
 returns c = (
   c .answer-line .ensures .0,
-  λ answer e. c .answer-line .ensures .1 ∙ ap line (unpacked answer (c .before .before .args .code) e),
+  λ answer reads. c .answer-line .ensures .1 ∙ ap line (λ i. record { number = reads .number-is i; place = reads .place-is i }),
 )
 
 pub line-of-spec : {M : Type 1} → statement M

@@ -8,7 +8,7 @@ use Rattle.checks.proofs.is_in_reach.Tie as tie
 returns : tie.Need-returns
 returns c =
     let a = c .before .before .before .before .args in
-    c .reaches-well .ensures ∙ sym (ap (λ d. distanceWell d (a .t .0) (a .p .0)) (c .before .before .decision .given .1))
+    c .reaches-well .ensures ∙ sym (ap (λ d. distanceWell 32 d (a .t .0) (a .p .0)) (c .before .before .decision .given .1))
 
 pub is-in-reach-spec : {M : Type 1} → statement M
 is-in-reach-spec =

@@ -10,7 +10,7 @@ use Rattle.checks.proofs.reaches_well.Tie as tie
 returns : tie.Need-returns
 returns c =
     let a = c .before .before .before .before .args in
-    c .in-reach .ensures ∙ ap (λ r. reaches r (distance (a .t .0) (a .p .0))) (c .before .range-of .ensures) ∙ sym (ap (λ k. reachesWell k (a .field) (a .t .0) (a .p .0)) (c .before .before .enum-told .given .1))
+    c .in-reach .ensures ∙ ap (λ r. reaches r (distance (a .t .0) (a .p .0))) (c .before .range-of .ensures) ∙ sym (ap (λ k. reachesWell 32 k (a .field) (a .t .0) (a .p .0)) (c .before .before .enum-told .given .1))
 
 returns-2 : tie.Need-returns-2
 unfolding even

@@ -1,8 +1,8 @@
 -- The demands at document 01's judgement. Assumes nothing.
-use mathlib.Core.Logic.{inl, inr}
+use mathlib.Core.Logic.{_⊎_, inl, inr}
 use mathlib.Core.Path.{_≡_, refl, sym, ap, subst, _∙_}
 use mathlib.Core.Bool.{Bool, true, false, not, cond}
-use mathlib.Core.List.{List}
+use mathlib.Core.List.{List, [], _∷_}
 use Prim.Native.Nat.{ℕ, _≤_, _<_}
 use native.Mathlib.Omega.{arith}
 use lib.ListN.{length}
@@ -10,21 +10,25 @@ use lib.Dec.{leb, eqb}
 use borrow.Author.Tests.{leb-true, le-leb, eqb-true, eqb-false}
 use Rattle.word.proofs.Laws.Tests.{clash}
 use Rattle.order.specs.Orders.{base, wellFormed}
+use Rattle.elf.specs.Headers.{addressWidth}
 use Rattle.order.specs.Windows.{lengthAllowed, windowAllowed}
 use Rattle.lookup.specs.Addresses.{addresses}
 use Rattle.validate.specs.declared.ObjectCheck.{ObjectCheck}
 use Rattle.validate.specs.declared.ObjectCheck.the-variants.{Passed, BadHeader, BadSection}
 use Rattle.validate.specs.Rules.{objectCheck}
 use Rattle.journal.specs.Journals.{count, held, Sound, sound, noRoom}
-use Rattle.journal.specs.Plans.{Piece, Verdict, refused, plan, spanOf}
-use Rattle.history.specs.Calls.{Answer, done, journalUnsound, windowBroken, noneStands, journalFull, Files, refuse, succeed, installed, settle, install, rolledBack, rollback, Install, Rollback, calling}
+use Rattle.plans.specs.Plans.{Piece, Verdict, refused, plan, overwritten, spanOf}
+use Rattle.plans.specs.Answers.{Answer, says, done}
+use Rattle.history.specs.Calls.{journalUnsound, windowBroken, noneStands, journalFull, Files, refuse, succeed, installed, settle, install, rolledBack, rollback, Install, Rollback, calling}
 use Rattle.journal.proofs.Laws.Sound.{test-sound, sound-test}
+use Rattle.history.specs.Histories.{Standing, begin, laid, historyOf, Kind}
 use Rattle.history.specs.Records.{Appended, Released}
 use Rattle.history.proofs.Laws.Install.{held-small, plan-savable}
 use Rattle.history.proofs.Laws.Rollback.{undoable, done-with}
 use Rattle.history.proofs.Laws.Records.{installed-appends, releases}
 use Rattle.history.proofs.Laws.Corollaries.{refusal-keeps}
-use Rattle.history.proofs.Laws.History.{history-holds}
+use Rattle.history.proofs.Laws.Agree.{Stands, length-laid}
+use Rattle.history.proofs.Laws.History.{run-over, agrees-after, history-holds}
 use Rattle.place.specs.declared.Fault.{Fault}
 use Rattle.place.specs.declared.Fault.the-variants.{Nowhere, At}
 use Rattle.place.specs.Placements.{placementCheck}
@@ -34,14 +38,15 @@ use Rattle.rules.specs.declared.RelocationCheck.{RelocationCheck}
 use Rattle.rules.specs.declared.RelocationCheck.the-variants.{Passed as AllKept, Broken}
 use Rattle.rules.specs.Search.{number, relocationCheck}
 use Rattle.place.proofs.Laws.Theorems.{nothing-to-place as «none-placed»}
+use Rattle.judgement.specs.Facts.{Fitting}
 use Rattle.judgement.specs.Judgement.{afterObject, afterFault, afterRelocations, planOf, judgement}
 use Rattle.judgement.proofs.Laws.Judgement.{broken-is, some-number, Fits, plan-fits}
 use Rattle.judgement.proofs.Laws.Laying.{length-fits, length-short, plan-inside, lays-inside}
 use Rattle.demands.specs.Rules.{Rules}
 use Rattle.demands.specs.First.{nil, rule, Checks, none, one, HoldBelow, AllHold, FirstBroken, table}
-use Rattle.demands.specs.Laid.{Laid}
-use Rattle.demands.specs.Demands.{rollbackTable, Demand1, Demand2, Demand3, Journalled, ours, ours-back}
-use Rattle.demands.proofs.Laws.First.{none-broken, one-first, AllAbove, above, Told, later, at-once, broken-once}
+use Rattle.demands.specs.Laid.{IsSpan, Laid}
+use Rattle.demands.specs.Demands.{rollbackTable, Demand1, Demand2, Journalled, StandAsLaid, Demand3, ourInstall, ourRollback}
+use Rattle.demands.proofs.Laws.First.{none-broken, one-first, Numbers, named-number, Told, later, at-once, broken-once}
 use Rattle.demands.proofs.Laws.Told.{told}
 use Rattle.demands.proofs.Laws.Laid.{laid-well}
 use Rattle.demands.proofs.Laws.Spans.{is-span}
@@ -119,76 +124,106 @@ hold-rules object order f r = (
 
 -- ---- an answer by its number and place
 
-pub numbers-above : (object order : List ℕ) (f : Files) → AllAbove (table object order f)
+-- the numbers of an install, and of a rollback
+abbrev pub OfInstall : ℕ → Type 0
+OfInstall n = (0 < n) × (n ≤ 15)
+
+abbrev pub OfRollback : ℕ → Type 0
+OfRollback n = (n ≡ 1) ⊎ ((n ≡ 3) ⊎ (n ≡ 16))
+
+pub numbers-are : (object order : List ℕ) (f : Files) → Numbers OfInstall (table object order f)
 unfolding table
-numbers-above object order f = (
-  (omega arith, tt),
-  (
-    (omega arith, tt),
-    (
-      (omega arith, tt),
+numbers-are object order f =
+    let up : (n : ℕ) → 0 < n → n ≤ 15 → OfInstall n = λ n l h. (l, h) in
+    let one : (n : ℕ) → 0 < n → n ≤ 15 → OfInstall n × Unit {0} = λ n l h. (up n l h, tt) in (
+      one 1 (omega arith) (omega arith),
       (
-        (omega arith, tt),
+        one 2 (omega arith) (omega arith),
         (
-          (omega arith, tt),
+          one 3 (omega arith) (omega arith),
           (
-            (omega arith, tt),
+            one 4 (omega arith) (omega arith),
             (
-              (omega arith, tt),
+              one 5 (omega arith) (omega arith),
               (
-                (omega arith, tt),
+                one 5 (omega arith) (omega arith),
                 (
-                  (omega arith, tt),
-                  ((omega arith, (omega arith, (omega arith, (omega arith, (omega arith, (omega arith, tt)))))), ((omega arith, tt), tt)),
+                  one 6 (omega arith) (omega arith),
+                  (
+                    one 7 (omega arith) (omega arith),
+                    (
+                      one 8 (omega arith) (omega arith),
+                      (
+                        (
+                          up 9 (omega arith) (omega arith),
+                          (
+                            up 10 (omega arith) (omega arith),
+                            (up 11 (omega arith) (omega arith), (up 12 (omega arith) (omega arith), (up 13 (omega arith) (omega arith), one 14 (omega arith) (omega arith)))),
+                          ),
+                        ),
+                        (one 15 (omega arith) (omega arith), tt),
+                      ),
+                    ),
+                  ),
                 ),
               ),
             ),
           ),
         ),
       ),
-    ),
-  ),
-)
+    )
 
-same-answer : (a : Answer) (n p : ℕ) → a .number ≡ n → a .place ≡ p → a ≡ record { number = n; place = p }
-same-answer a n p e d = λ i. record { number = e i; place = d i }
+pub above : (object order : List ℕ) (f : Files) (a : Answer) → FirstBroken (table object order f) a → 0 < a .number
+above object order f a b = named-number OfInstall (table object order f) a (numbers-are object order f) b .0
+
+pub rollback-numbers : (f : Files) → Numbers OfRollback (rollbackTable f)
+unfolding rollbackTable
+rollback-numbers f = ((inl refl, tt), ((inr (inl refl), tt), ((inr (inr refl), tt), tt)))
+
+pub rollback-above : (f : Files) (a : Answer) → FirstBroken (rollbackTable f) a → 0 < a .number
+rollback-above f a b = go (named-number OfRollback (rollbackTable f) a (rollback-numbers f) b)
+  where
+    go : OfRollback (a .number) → 0 < a .number
+    go (inl e) = omega arith
+    go (inr (inl e)) = omega arith
+    go (inr (inr e)) = omega arith
 
 -- by what is told, an answer that is not done has a number above 0
-not-zero : (c : Checks) (a : Answer) → AllAbove c → Told c a → (a ≡ done → ⊥) → a .number ≡ 0 → ⊥
+not-zero : (c : Checks) (a : Answer) → (FirstBroken c a → 0 < a .number) → Told c a → (a ≡ done → ⊥) → a .number ≡ 0 → ⊥
 not-zero c a up (inl t) not-done e = not-done (t .0)
-not-zero c a up (inr b) not-done e = omega (arith, above c (a .number) (a .place) up b)
+not-zero c a up (inr b) not-done e = omega (arith, up b)
 
-first-of : (c : Checks) (a : Answer) → Told c a → (a ≡ done → ⊥) → FirstBroken c (a .number) (a .place)
+first-of : (c : Checks) (a : Answer) → Told c a → (a ≡ done → ⊥) → FirstBroken c a
 first-of c a (inl t) not-done = absurd (not-done (t .0))
 first-of c a (inr b) not-done = b
 
-done-all : (c : Checks) (a : Answer) → AllAbove c → Told c a → a ≡ done → AllHold c
+done-all : (c : Checks) (a : Answer) → (FirstBroken c a → 0 < a .number) → Told c a → a ≡ done → AllHold c
 done-all c a up (inl t) e = t .1
-done-all c a up (inr b) e = absurd (omega (arith, above c (a .number) (a .place) up b, ap (λ x. x .number) e))
+done-all c a up (inr b) e = absurd (omega (arith, up b, ap (λ x. x .number) e))
 
 all-done : (c : Checks) (a : Answer) → Told c a → AllHold c → a ≡ done
 all-done c a (inl t) h = t .0
-all-done c a (inr b) h = absurd (none-broken c (a .number) (a .place) h b)
+all-done c a (inr b) h = absurd (none-broken c a h b)
 
-named : (c : Checks) (a : Answer) → Told c a → (n p : ℕ) → FirstBroken c n p → a ≡ record { number = n; place = p }
-named c a (inl t) n p b = absurd (none-broken c n p (t .1) b)
-named c a (inr d) n p b = let same = one-first c (a .number) n (a .place) p d b in same-answer a n p (same .0) (same .1)
+named : (c : Checks) (a : Answer) → Told c a → (b : Answer) → FirstBroken c b → a ≡ b
+named c a (inl t) b broken = absurd (none-broken c b (t .1) broken)
+named c a (inr first) b broken = one-first c a b first broken
 
 -- ---- what a done install leaves
 
 -- the judgement refuses with a number above 0
-refused-above : (object order : List ℕ) (len n p : ℕ) → judgement object order len ≡ refused n p → 0 < n
+refused-above : (object order : List ℕ) (len : ℕ) (a : Answer) → judgement object order len ≡ refused a → 0 < a .number
 unfolding judgement
-refused-above object order len n p h =
-    go (wellFormed order) (windowAllowed (base order) len) (objectCheck object) (placementCheck object order) (externalCheck object order)
+refused-above object order len answer h =
+    go (wellFormed order) (windowAllowed (addressWidth object) (base order) len) (objectCheck object) (placementCheck object order) (externalCheck object order)
     (placingCheck object (addresses order) (base order) len) (relocationCheck object order (addresses order)) refl h
   where
-    by : (m q : ℕ) → 0 < m → refused m q ≡ refused n p → 0 < n
-    by m q l e = let same : m ≡ n = cc in omega arith
+    by : (m q : ℕ) → 0 < m → refused (says m q) ≡ refused answer → 0 < answer .number
+    by m q l e = let same : says m q ≡ answer = cc in omega (arith, ap (λ x. x .number) same)
 
     go : (a b : Bool) (c : ObjectCheck) (d e f : Fault) (g : RelocationCheck) → relocationCheck object order (addresses order) ≡ g
-        → cond a (cond b (afterObject c (afterFault 6 d (afterFault 7 e (afterFault 8 f (afterRelocations g (plan (planOf object order))))))) (refused 3 0)) (refused 2 0) ≡ refused n p
-        → 0 < n
+        → cond a (cond b (afterObject c (afterFault 6 d (afterFault 7 e (afterFault 8 f (afterRelocations g (plan (planOf object order))))))) (refused (says 3 0))) (refused (says 2 0)) ≡ refused answer
+        → 0 < answer .number
     go false b c d e f g q h = by 2 0 (omega arith) h
     go true false c d e f g q h = by 3 0 (omega arith) h
     go true true BadHeader d e f g q h = by 4 0 (omega arith) h
@@ -209,8 +244,8 @@ pub record Done (object order : List ℕ) (f : Files) : Type 0 where
   pub room-is : noRoom (count (f .journal)) (held (f .journal)) (spanOf (planOf object order) .size) (length (f .journal)) ≡ false
   pub after-is : install judgement object order f .after ≡ installed (planOf object order) f
 
-pub wrong-number : {A : Type 0} (n p : ℕ) → 0 < n → _≡_ {A = Answer} (record { number = n; place = p }) done → A
-wrong-number n p l e = absurd (omega (arith, ap (λ x. x .number) e))
+pub wrong-number : {A : Type 0} (a : Answer) → 0 < a .number → a ≡ done → A
+wrong-number a l e = absurd (omega (arith, ap (λ x. x .number) e))
 
 pub done-leaves : (object order : List ℕ) (f : Files) → install judgement object order f .answer ≡ done → Done object order f
 unfolding install settle
@@ -235,12 +270,12 @@ done-leaves object order f e = go (sound (f .journal) (length (f .image))) refl 
 
     go : (b : Bool) → sound (f .journal) len ≡ b → (v : Verdict) → judgement object order len ≡ v
         → cond (not b) (refuse journalUnsound f) (settle f v) .answer ≡ done → Done object order f
-    go false s v q h = wrong-number 1 0 (omega arith) h
-    go true s (refused n p) q h = wrong-number n p (refused-above object order len n p q) h
+    go false s v q h = wrong-number journalUnsound (omega arith) h
+    go true s (refused a) q h = wrong-number a (refused-above object order len a q) h
     go true s (plan ps) q h = within (room ps) refl h
       where
         within : (r : Bool) → room ps ≡ r → cond r (refuse journalFull f) (succeed (installed ps f)) .answer ≡ done → Done object order f
-        within true r h = wrong-number 15 0 (omega arith) h
+        within true r h = wrong-number journalFull (omega arith) h
         within false r h = left ps (plan-fits object order len ps q) s q r
 
 -- ---- a rollback
@@ -273,44 +308,40 @@ rollback-told f = go (sound (f .journal) len) refl (leb len 65536) refl (eqb (co
         let some : count (f .journal) ≡ 0 → ⊥ = eqb-false (count (f .journal)) 0 r in
         inl (refl, (at-once 1 (test-sound (f .journal) len p), (at-once 3 (leb-true len 65536 q), (at-once 16 (omega arith), tt))))
 
-pub rollback-above : (f : Files) → AllAbove (rollbackTable f)
-unfolding rollbackTable
-rollback-above f = ((omega arith, tt), ((omega arith, tt), ((omega arith, tt), tt)))
-
 -- ---- demand 1
 
-pub demand-1 : Demand1 ours ours-back
+pub demand-1 : Demand1 ourInstall ourRollback
 unfolding calling
 demand-1 =
     record {
-      install-refused = λ object order f r. first-of (table object order f) (ours object order f .answer) (told object order f) r;
-      rollback-refused = λ f r. first-of (rollbackTable f) (ours-back f .answer) (rollback-told f) r;
-      rollback-holds = λ f e. done-all (rollbackTable f) (ours-back f .answer) (rollback-above f) (rollback-told f) e;
-      rollback-done = λ f h. all-done (rollbackTable f) (ours-back f .answer) (rollback-told f) h;
-      rollback-first = λ f n p b. named (rollbackTable f) (ours-back f .answer) (rollback-told f) n p b;
+      install-refused = λ object order f r. first-of (table object order f) (ourInstall object order f .answer) (told object order f) r;
+      rollback-refused = λ f r. first-of (rollbackTable f) (ourRollback f .answer) (rollback-told f) r;
+      rollback-holds = λ f e. done-all (rollbackTable f) (ourRollback f .answer) (rollback-above f _) (rollback-told f) e;
+      rollback-done = λ f h. all-done (rollbackTable f) (ourRollback f .answer) (rollback-told f) h;
+      rollback-first = λ f a b. named (rollbackTable f) (ourRollback f .answer) (rollback-told f) a b;
       install-kept = λ object order f r.
           refusal-keeps judgement f (Install object order)
-          (not-zero (table object order f) (ours object order f .answer) (numbers-above object order f) (told object order f) r);
-      rollback-kept = λ f r. refusal-keeps judgement f Rollback (not-zero (rollbackTable f) (ours-back f .answer) (rollback-above f) (rollback-told f) r);
+          (not-zero (table object order f) (ourInstall object order f .answer) (above object order f _) (told object order f) r);
+      rollback-kept = λ f r. refusal-keeps judgement f Rollback (not-zero (rollbackTable f) (ourRollback f .answer) (rollback-above f _) (rollback-told f) r);
     }
 
 -- ---- demand 2
 
-rules-of : (object order : List ℕ) (f : Files) → ours object order f .answer ≡ done → Rules object order f
-rules-of object order f e = rules-hold object order f (done-all (table object order f) (ours object order f .answer) (numbers-above object order f) (told object order f) e)
+rules-of : (object order : List ℕ) (f : Files) → ourInstall object order f .answer ≡ done → Rules object order f
+rules-of object order f e = rules-hold object order f (done-all (table object order f) (ourInstall object order f .answer) (above object order f _) (told object order f) e)
 
-laid-of : (object order : List ℕ) (f : Files) → Done object order f → Laid object order (f .image) (ours object order f .after .image)
+laid-of : (object order : List ℕ) (f : Files) → Done object order f → Laid object order (f .image) (ourInstall object order f .after .image)
 unfolding installed
 laid-of object order f d =
     subst (Laid object order (f .image)) (sym (ap (λ g. g .image) (d .after-is))) (laid-well object order (d .fits .counts) (f .image) (d .fits .fitting))
 
-pub demand-2 : Demand2 ours
+pub demand-2 : Demand2 ourInstall
 demand-2 =
     record {
       done-holds = rules-of;
-      holds-done = λ object order f r. all-done (table object order f) (ours object order f .answer) (told object order f) (hold-rules object order f r);
-      refused-first = λ object order f r. first-of (table object order f) (ours object order f .answer) (told object order f) r;
-      first-refused = λ object order f n p b. named (table object order f) (ours object order f .answer) (told object order f) n p b;
+      holds-done = λ object order f r. all-done (table object order f) (ourInstall object order f .answer) (told object order f) (hold-rules object order f r);
+      refused-first = λ object order f r. first-of (table object order f) (ourInstall object order f .answer) (told object order f) r;
+      first-refused = λ object order f a b. named (table object order f) (ourInstall object order f .answer) (told object order f) a b;
       laid = λ object order f e. laid-of object order f (done-leaves object order f e);
       nothing-to-place = λ object order f e z t h.
           «none-placed» object order (done-leaves object order f e .fits .fitting .placeable .named .placements) z (omega (arith, rules-of object order f e .table-well .few)) t h;
@@ -318,7 +349,7 @@ demand-2 =
 
 -- ---- what a done call leaves in the journal
 
-appends-of : (object order : List ℕ) (f : Files) → ours object order f .answer ≡ done → Appended f (ours object order f .after) (spanOf (planOf object order))
+appends-of : (object order : List ℕ) (f : Files) → ourInstall object order f .answer ≡ done → Appended f (ourInstall object order f .after) (spanOf (planOf object order))
 appends-of object order f e =
     let d = done-leaves object order f e in
     let len = length (f .image) in
@@ -329,7 +360,7 @@ appends-of object order f e =
     (length-fits object order (d .fits .counts) len fitting) (d .room-is) (plan-inside object order (d .fits .counts) len fitting))
     (length-short object order (d .fits .counts) len fitting))
 
-releases-of : (f : Files) → AllHold (rollbackTable f) → Released f (ours-back f .after)
+releases-of : (f : Files) → AllHold (rollbackTable f) → Released f (ourRollback f .after)
 unfolding rollbackTable lengthAllowed
 releases-of f h1 =
     let h3 = h1 .1 in
@@ -343,7 +374,7 @@ releases-of f h1 =
     subst (Released f) (ap (λ o. o .after) after-is)
     (releases (f .image) (f .journal) (undoable (f .image) (f .journal) s some) (omega (arith, held-small (f .journal) len s short)))
 
-pub journalled : Journalled ours ours-back
+pub journalled : Journalled ourInstall ourRollback
 journalled =
     record {
       appends = λ object order f e.
@@ -354,5 +385,24 @@ journalled =
 
 -- ---- demand 3, whole: every start, every list of calls
 
-pub demand-3 : Demand3 ours ours-back
-demand-3 = history-holds judgement lays-inside
+-- each fit that stands is laid as demand 2 says, over what those before it left
+stand-as-laid : (start : List ℕ) (room : ℕ) (xs : List Standing) → Stands judgement start room xs → StandAsLaid start xs
+unfolding laid
+stand-as-laid start room [] t = tt
+stand-as-laid start room (x ∷ xs) t =
+    let fits = plan-fits (x .object) (x .order) (length start) (x .pieces) (t .0) in
+    let here : Fitting (x .object) (x .order) (fits .counts) (length (laid start xs)) =
+    subst (Fitting (x .object) (x .order) (fits .counts)) (sym (length-laid start xs)) (fits .fitting) in (
+      subst (λ ps. Laid (x .object) (x .order) (laid start xs) (overwritten (laid start xs) ps)) (fits .plan-is) (laid-well (x .object) (x .order) (fits .counts) (laid start xs) here),
+      subst (λ ps. IsSpan (x .object) (x .order) (spanOf ps)) (fits .plan-is) (is-span (x .object) (x .order) (fits .counts) (length start) (fits .fitting)),
+      stand-as-laid start room xs (t .2),
+    )
+
+pub demand-3 : (K : Kind) → Demand3 K ourInstall ourRollback
+demand-3 K start b s calls k =
+    let h = historyOf judgement start calls in
+    record {
+      holds = history-holds judgement lays-inside K start s calls;
+      stand-as-laid = subst (λ l. StandAsLaid l (h .standing)) (run-over judgement calls (begin start) .0)
+          (stand-as-laid (h .start) (h .room) (h .standing) (agrees-after judgement lays-inside start s calls .shape .stands));
+    }

@@ -14,7 +14,7 @@ use Rattle.elf.specs.Sections.{sectionAt, loaded}
 use Rattle.order.specs.declared.Counts.{Counts}
 use Rattle.order.specs.Orders.{base}
 use Rattle.lookup.specs.Addresses.{addresses}
-use Rattle.journal.specs.Plans.{overwritten}
+use Rattle.plans.specs.Plans.{overwritten}
 use Rattle.placing.specs.Placing.{hasBytes, endOf}
 use Rattle.placing.proofs.Laws.Theorems.{disjoint}
 use Rattle.judgement.specs.Judgement.{planOf}

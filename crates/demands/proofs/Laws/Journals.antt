@@ -8,7 +8,7 @@ use lib.ListN.{length, getD}
 use lib.Seq.{ext-getD}
 use Rattle.word.specs.Bytes.{leAt}
 use Rattle.word.proofs.Laws.Bytes.{Bytes}
-use Rattle.journal.specs.declared.Span.{Span}
+use Rattle.plans.specs.declared.Span.{Span}
 use Rattle.journal.specs.Journals.{maxEntries, countAt, entryAt, heldAt, oldAt, count, held, entry}
 use Rattle.demands.specs.Laid.{IsSpan}
 use Rattle.demands.proofs.Laws.Lists.{same-number}

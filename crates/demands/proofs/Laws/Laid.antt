@@ -11,23 +11,23 @@ use borrow.Author.Tests.{leb-true, ltb-true, ltb-false, eqb-true, eq-eqb}
 use Rattle.word.proofs.Laws.Tests.{and-left, and-right, clash}
 use Rattle.word.proofs.Laws.First.{first-is, everywhere-is}
 use Rattle.word.proofs.Laws.Whole.{residue-lt}
-use Rattle.elf.specs.Headers.{sectionCount}
+use Rattle.elf.specs.Headers.{addressWidth, sectionCount}
 use Rattle.elf.specs.Sections.{sectionAt, countingRela}
 use Rattle.elf.specs.Entries.{bytesOf}
 use Rattle.order.specs.declared.Counts.{Counts}
 use Rattle.lookup.specs.Addresses.{addresses}
-use Rattle.journal.specs.Plans.{overwritten}
+use Rattle.plans.specs.Plans.{overwritten}
 use Rattle.placing.specs.Placing.{hasBytes}
 use Rattle.types.specs.declared.Calculation.the-variants.{HighAbsolute, LowAbsolute}
 use Rattle.types.specs.declared.Decision.{Decision}
 use Rattle.types.specs.declared.Decision.the-variants.{Marker, Align, Store, Refused}
 use Rattle.riscv.specs.Halves.{low}
 use Rattle.rela.specs.declared.sites.Site.{Site}
-use Rattle.rela.specs.Sites.{siteAt, count, entry, effect, offset, A, P, found}
+use Rattle.rela.specs.Sites.{siteAt, count, entry, effect, offset, P, found}
 use Rattle.effects.specs.Effects.{isStore, touched}
 use Rattle.rela.specs.Shape.{end, staysInside}
 use Rattle.effects.proofs.Laws.Decisions.{store-width, width-some}
-use Rattle.values.specs.Values.{valueAt, S, T}
+use Rattle.values.specs.Values.{targetAt}
 use Rattle.rules.proofs.Laws.Search.{kept-rules}
 use Rattle.stores.specs.Facts.{Checked}
 use Rattle.stores.specs.Sections.{pairDistance, relaOf, relocated, after}
@@ -66,7 +66,7 @@ unfolding ReadsBack
 nothing-read object order addresses x final j none = go (effect object x j) none
   where
     go : (d : Decision) → (isStore d ≡ true → ⊥)
-        → Stored d (found object x) final (offset object x j) (T (S (valueAt object order addresses x j)) (A object x j)) (P object x j) (pairDistance object order addresses x j)
+        → Stored (addressWidth object) d (found object x) final (offset object x j) (targetAt object order addresses x j) (P object x j) (pairDistance object order addresses x j)
         (λ v. stackAt object order addresses x (offset object x j) v (count x))
     go (Store c f form n) none = absurd (none refl)
     go Marker none = tt
@@ -169,7 +169,7 @@ module _ (object order : List ℕ) (counts : Counts) (image : List ℕ) (fit : F
         addresses-whole = λ p i q j r s f g b d m n e u same.
             let high = says object order a (siteOf object order p) (sectionIn object order final (sectionAt object p .info)) (back p (r .there) (r .counts)) i (r .entry) (Store HighAbsolute f b m) e in
             let low-half = says object order a (siteOf object order q) (sectionIn object order final (sectionAt object q .info)) (back q (s .there) (s .counts)) j (s .entry) (Store LowAbsolute g d n) u in
-            add-up f g (bytesAt object order final p i m) (bytesAt object order final q j n) (target object order p i) (residue-lt 32 _) (high .0) (low-half .0 ∙ ap (low 32) (sym same));
+            add-up (addressWidth object) f g (bytesAt object order final p i m) (bytesAt object order final q j n) (target object order p i) (residue-lt (addressWidth object) _) (high .0) (low-half .0 ∙ ap (low (addressWidth object)) (sym same));
         distances-whole = λ i j r g b n e.
             halves-of object order a (siteOf object order i) (sectionIn object order final (sectionAt object i .info)) (back i (r .there) (r .counts)) (is-checked i (r .there) (r .counts)) .distance j (r .entry) g b n e;
       }

@@ -1,4 +1,4 @@
--- Calls on bytes leave bytes: the two calls that the fitter's contracts name meet all that is said of them. Assumes nothing.
+-- Calls on bytes leave bytes: our two calls meet all that is said of each by itself. Assumes nothing.
 use mathlib.Core.Path.{_≡_, refl, subst}
 use mathlib.Core.Bool.{Bool, true, false, not, cond}
 use mathlib.Core.List.{List, [], _∷_, _++_}
@@ -11,17 +11,18 @@ use lib.IntN.{ℤ}
 use lib.Dec.{ltb, eqb}
 use Rattle.word.specs.Bytes.{leAt, bytes}
 use Rattle.word.proofs.Laws.Bytes.{Bytes}
-use Rattle.elf.specs.Headers.{sectionCount}
+use Rattle.elf.specs.Headers.{addressWidth, sectionCount}
 use Rattle.elf.specs.Sections.{sectionAt}
 use Rattle.elf.specs.Entries.{bytesOf}
 use Rattle.order.specs.Orders.{base}
 use Rattle.order.specs.Windows.{lengthAllowed}
 use Rattle.lookup.specs.Addresses.{addresses}
-use Rattle.journal.specs.declared.Span.{Span}
+use Rattle.plans.specs.declared.Span.{Span}
 use Rattle.journal.specs.Journals.{oldAt, blank, entryBytes, count, held, sound, noRoom}
-use Rattle.journal.specs.Plans.{Piece, piece, Verdict, refused, plan, overwritten, spanOf}
+use Rattle.plans.specs.Plans.{Piece, piece, Verdict, refused, plan, overwritten, spanOf}
 use Rattle.history.specs.Writes.{saving, saved, restoring, releasing, newest, heldBelow}
 use Rattle.history.specs.Calls.{Files, Outcome, installed, settle, install, rolledBack, rollback}
+use Rattle.history.specs.Histories.{FilesAre}
 use Rattle.history.proofs.Laws.Corollaries.{either}
 use Rattle.placing.specs.Placing.{hasBytes}
 use Rattle.spans.specs.Pieces.{pieces}
@@ -33,7 +34,7 @@ use Rattle.stores.specs.Patches.{patched}
 use Rattle.stores.specs.Sections.{stored, sumAt, pairDistance, applied, after, relaOf, relocated}
 use Rattle.judgement.specs.Judgement.{planOf, judgement}
 use Rattle.judgement.proofs.Laws.Judgement.{plan-fits}
-use Rattle.demands.specs.Demands.{AreBytes, OnBytes, Meets, ours, ours-back}
+use Rattle.demands.specs.Demands.{AreBytes, Meets, ourInstall, ourRollback}
 use Rattle.demands.proofs.Laws.Lists.{bytes-part}
 use Rattle.demands.proofs.Laws.Demands.{demand-1, demand-2, journalled}
 
@@ -89,13 +90,13 @@ all-snoc (piece a u ∷ ps) at v c b = (c .0, all-snoc ps at v (c .1) b)
 
 -- ---- what an install lays
 
-bytes-stored : (d : Decision) (at : ℕ) (x : ℤ) (p e : ℕ) (s : List ℕ) → Bytes s → Bytes (stored d at x p e s)
-bytes-stored (Store c f form n) at x p e s b =
-    let w : ℕ = patched c f (leAt n s at) x p e in
-    bytes-sets s at (bytes n w) b (bytes-bytes n w)
-bytes-stored Marker at x p e s b = b
-bytes-stored Align at x p e s b = b
-bytes-stored Refused at x p e s b = b
+bytes-stored : (w : ℕ) (d : Decision) (at : ℕ) (x : ℤ) (p e : ℕ) (s : List ℕ) → Bytes s → Bytes (stored w d at x p e s)
+bytes-stored w (Store c f form n) at x p e s b =
+    let u : ℕ = patched w c f (leAt n s at) x p e in
+    bytes-sets s at (bytes n u) b (bytes-bytes n u)
+bytes-stored w Marker at x p e s b = b
+bytes-stored w Align at x p e s b = b
+bytes-stored w Refused at x p e s b = b
 
 bytes-own : (object : List ℕ) (t : ℕ) → Bytes object → Bytes (bytesOf object (sectionAt object t))
 unfolding bytesOf
@@ -105,7 +106,7 @@ bytes-after : (object order a : List ℕ) (x : Site) → Bytes object → (j : �
 unfolding after applied bytesOf
 bytes-after object order a x b zero = bytes-part object (x .target .offset .0) (x .target .size) b
 bytes-after object order a x b (suc j) =
-    bytes-stored (effect object x j) (offset object x j) (sumAt object order a x j) (P object x j) (pairDistance object order a x j) (after object order a x j)
+    bytes-stored (addressWidth object) (effect object x j) (offset object x j) (sumAt object order a x j) (P object x j) (pairDistance object order a x j) (after object order a x j)
     (bytes-after object order a x b j)
 
 bytes-relocated : (object order a : List ℕ) (t : ℕ) → Bytes object → Bytes (relocated object order a t)
@@ -141,11 +142,11 @@ bytes-saved image j s bi bj =
     bytes-over j (saving image j s) bj
     (bytes-part image (s .start) (s .size) bi, (bytes-entry s, (bytes-bytes 4 (held j + s .size), (bytes-bytes 4 (count j + 1), tt))))
 
-bytes-installed : (ps : List Piece) (f : Files) → AllBytes ps → OnBytes f → OnBytes (installed ps f)
+bytes-installed : (ps : List Piece) (f : Files) → AllBytes ps → FilesAre AreBytes f → FilesAre AreBytes (installed ps f)
 unfolding installed
 bytes-installed ps f all b = (bytes-over (f .image) ps (b .0) all, bytes-saved (f .image) (f .journal) (spanOf ps) (b .0) (b .1))
 
-bytes-rolled-back : (f : Files) → OnBytes f → OnBytes (rolledBack f)
+bytes-rolled-back : (f : Files) → FilesAre AreBytes f → FilesAre AreBytes (rolledBack f)
 unfolding rolledBack restoring releasing
 bytes-rolled-back f b =
     let j = f .journal in (
@@ -155,27 +156,27 @@ bytes-rolled-back f b =
     )
 
 abbrev LeavesBytes : Outcome Files → Type 0
-LeavesBytes o = OnBytes (o .after)
+LeavesBytes o = FilesAre AreBytes (o .after)
 
-install-bytes : (object order : List ℕ) (f : Files) → AreBytes object → OnBytes f → OnBytes (ours object order f .after)
+install-bytes : (object order : List ℕ) (f : Files) → AreBytes object → FilesAre AreBytes f → FilesAre AreBytes (ourInstall object order f .after)
 unfolding install settle
 install-bytes object order f bo b = either LeavesBytes (not (sound (f .journal) (length (f .image)))) _ _ b (go (judgement object order (length (f .image))) refl)
   where
-    go : (v : Verdict) → judgement object order (length (f .image)) ≡ v → OnBytes (settle f v .after)
-    go (refused n p) e = b
+    go : (v : Verdict) → judgement object order (length (f .image)) ≡ v → FilesAre AreBytes (settle f v .after)
+    go (refused a) e = b
     go (plan ps) e =
         let same : planOf object order ≡ ps = plan-fits object order (length (f .image)) ps e .plan-is in
         either LeavesBytes (noRoom (count (f .journal)) (held (f .journal)) (spanOf ps .size) (length (f .journal))) _ _ b
         (bytes-installed ps f (subst AllBytes same (bytes-plan object order bo)) b)
 
-rollback-bytes : (f : Files) → OnBytes f → OnBytes (ours-back f .after)
+rollback-bytes : (f : Files) → FilesAre AreBytes f → FilesAre AreBytes (ourRollback f .after)
 unfolding rollback
 rollback-bytes f b =
     either LeavesBytes (not (sound (f .journal) (length (f .image)))) _ _ b
     (either LeavesBytes (not (lengthAllowed (length (f .image)))) _ _ b (either LeavesBytes (eqb (count (f .journal)) 0) _ _ b (bytes-rolled-back f b)))
 
--- so that there is a fitter that meets the demands, and by `Only` no other
-pub ours-meets : Meets ours ours-back
+-- so that there is a fitter that meets this, and by `Only` no other
+pub ours-meets : Meets ourInstall ourRollback
 ours-meets =
     record {
       demand-1 = demand-1;

@@ -7,20 +7,21 @@ use native.Mathlib.Omega.{arith}
 use native.Mathlib.Decide.{decLt}
 use lib.ListN.{length, getD}
 use lib.Seq.{ext-getD}
-use Rattle.journal.specs.declared.Span.{Span}
+use Rattle.plans.specs.declared.Span.{Span}
 use Rattle.journal.specs.Journals.{maxEntries, oldAt, count, held, entry, Sound}
 use Rattle.history.specs.Writes.{newest, heldBelow}
-use Rattle.history.specs.Calls.{done, Files, Outcome, InstallCall, RollbackCall}
+use Rattle.plans.specs.Answers.{Answer, done}
+use Rattle.history.specs.Calls.{Files, Outcome, InstallCall, RollbackCall}
+use Rattle.history.specs.Histories.{FilesAre}
 use Rattle.history.specs.Records.{Appended, Released}
 use Rattle.history.proofs.Laws.Rollback.{undoable}
 use Rattle.demands.specs.First.{AllHold, FirstBroken, table}
-use Rattle.demands.specs.Demands.{rollbackTable, AreBytes, OnBytes, Meets}
-use Rattle.demands.proofs.Laws.First.{above}
+use Rattle.demands.specs.Demands.{rollbackTable, AreBytes, Meets}
 use Rattle.demands.proofs.Laws.Told.{told}
 use Rattle.demands.proofs.Laws.Lists.{equal, part-same, drop-same}
 use Rattle.demands.proofs.Laws.Journals.{same-journal, one-span}
 use Rattle.demands.proofs.Laws.Same.{same-image}
-use Rattle.demands.proofs.Laws.Demands.{rules-hold, numbers-above, rollback-told, rollback-above, wrong-number, done-leaves, demand-2}
+use Rattle.demands.proofs.Laws.Demands.{rules-hold, above, rollback-told, rollback-above, wrong-number, done-leaves, demand-2}
 
 -- ---- outcomes
 
@@ -30,7 +31,7 @@ same-outcome o p e a b = λ i. record { answer = e i; after = record { image = a
 -- ---- the journal after a done install
 
 module _ (f g h : Files) (s : Span) (a : Appended f g s) (b : Appended f h s) (long : oldAt ≤ length (f .journal))
-    (bg : OnBytes g) (bh : OnBytes h) where
+    (bg : FilesAre AreBytes g) (bh : FilesAre AreBytes h) where
   entry-same : (i : ℕ) → i < maxEntries → entry (g .journal) i ≡ entry (h .journal) i
   entry-same i l = go (equal i (count (f .journal)))
     where
@@ -54,7 +55,7 @@ module _ (f g h : Files) (s : Span) (a : Appended f g s) (b : Appended f h s) (l
 -- ---- image and journal after a done rollback
 
 module _ (f g h : Files) (a : Released f g) (b : Released f h) (long : oldAt ≤ length (f .journal)) (within : newest (f .journal) .size ≤ held (f .journal))
-    (bg : OnBytes g) (bh : OnBytes h) where
+    (bg : FilesAre AreBytes g) (bh : FilesAre AreBytes h) where
   released-image : g .image ≡ h .image
   released-image = ext-getD 0 (g .image) (h .image) (a .image-length ∙ sym (b .image-length)) (λ i l. go i (decLt i (newest (f .journal) .start)) (decLt i (newest (f .journal) .start + newest (f .journal) .size)))
     where
@@ -89,7 +90,7 @@ module _ (f g h : Files) (a : Released f g) (b : Released f h) (long : oldAt ≤
 
 module _ (i k : InstallCall) (r s : RollbackCall) (m : Meets i r) (w : Meets k s) where
   -- an install
-  module _ (object order : List ℕ) (f : Files) (object-bytes : AreBytes object) (bytes : OnBytes f) where
+  module _ (object order : List ℕ) (f : Files) (object-bytes : AreBytes object) (bytes : FilesAre AreBytes f) where
     done-same : AllHold (table object order f) → i object order f ≡ k object order f
     done-same all =
         let rules = rules-hold object order f all in
@@ -107,21 +108,21 @@ module _ (i k : InstallCall) (r s : RollbackCall) (m : Meets i r) (w : Meets k s
         (m .demand-2 .laid object order f di) (w .demand-2 .laid object order f dk) (bi .0) (bk .0))
         (appended-same f (i object order f .after) (k object order f .after) (si .0) (si .2) (subst (Appended f (k object order f .after)) one (sk .2)) long bi bk)
 
-    refused-same : (n p : ℕ) → FirstBroken (table object order f) n p → i object order f ≡ k object order f
-    refused-same n p broken =
-        let ai = m .demand-2 .first-refused object order f n p broken in
-        let ak = w .demand-2 .first-refused object order f n p broken in
-        let some : 0 < n = above (table object order f) n p (numbers-above object order f) broken in
-        let ki = m .demand-1 .install-kept object order f (λ e. wrong-number n p some (sym ai ∙ e)) in
-        let kk = w .demand-1 .install-kept object order f (λ e. wrong-number n p some (sym ak ∙ e)) in
+    refused-same : (a : Answer) → FirstBroken (table object order f) a → i object order f ≡ k object order f
+    refused-same a broken =
+        let ai = m .demand-2 .first-refused object order f a broken in
+        let ak = w .demand-2 .first-refused object order f a broken in
+        let some : 0 < a .number = above object order f a broken in
+        let ki = m .demand-1 .install-kept object order f (λ e. wrong-number a some (sym ai ∙ e)) in
+        let kk = w .demand-1 .install-kept object order f (λ e. wrong-number a some (sym ak ∙ e)) in
         same-outcome (i object order f) (k object order f) (ai ∙ sym ak) (ap (λ g. g .image) (ki ∙ sym kk)) (ap (λ g. g .journal) (ki ∙ sym kk))
 
     -- "No public call is left unstated": two fitters that meet the demands give the same answer and leave the same bytes
     pub one-install : i object order f ≡ k object order f
-    one-install = ⊎-elim (λ t. done-same (t .1)) (λ b. refused-same _ _ b) (told object order f)
+    one-install = ⊎-elim (λ t. done-same (t .1)) (λ b. refused-same _ b) (told object order f)
 
   -- a rollback
-  module _ (f : Files) (bytes : OnBytes f) where
+  module _ (f : Files) (bytes : FilesAre AreBytes f) where
     back-same : AllHold (rollbackTable f) → r f ≡ s f
     unfolding rollbackTable
     back-same all =
@@ -137,14 +138,14 @@ module _ (i k : InstallCall) (r s : RollbackCall) (m : Meets i r) (w : Meets k s
         let bs = w .rollback-bytes f bytes in
         same-outcome (r f) (s f) (dr ∙ sym ds) (released-image f (r f .after) (s f .after) a b long within br bs) (released-journal f (r f .after) (s f .after) a b long within br bs)
 
-    kept-same : (n p : ℕ) → FirstBroken (rollbackTable f) n p → r f ≡ s f
-    kept-same n p broken =
-        let ar = m .demand-1 .rollback-first f n p broken in
-        let az = w .demand-1 .rollback-first f n p broken in
-        let some : 0 < n = above (rollbackTable f) n p (rollback-above f) broken in
-        let kr = m .demand-1 .rollback-kept f (λ e. wrong-number n p some (sym ar ∙ e)) in
-        let ks = w .demand-1 .rollback-kept f (λ e. wrong-number n p some (sym az ∙ e)) in
+    kept-same : (a : Answer) → FirstBroken (rollbackTable f) a → r f ≡ s f
+    kept-same a broken =
+        let ar = m .demand-1 .rollback-first f a broken in
+        let az = w .demand-1 .rollback-first f a broken in
+        let some : 0 < a .number = rollback-above f a broken in
+        let kr = m .demand-1 .rollback-kept f (λ e. wrong-number a some (sym ar ∙ e)) in
+        let ks = w .demand-1 .rollback-kept f (λ e. wrong-number a some (sym az ∙ e)) in
         same-outcome (r f) (s f) (ar ∙ sym az) (ap (λ g. g .image) (kr ∙ sym ks)) (ap (λ g. g .journal) (kr ∙ sym ks))
 
     pub one-rollback : r f ≡ s f
-    one-rollback = ⊎-elim (λ t. back-same (t .1)) (λ b. kept-same _ _ b) (rollback-told f)
+    one-rollback = ⊎-elim (λ t. back-same (t .1)) (λ b. kept-same _ b) (rollback-told f)

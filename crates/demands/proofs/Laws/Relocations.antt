@@ -21,6 +21,7 @@ use Rattle.types.specs.declared.Calculation.the-variants.{Absolute, PcRelative,
 use Rattle.types.specs.declared.Decision.{Decision}
 use Rattle.types.specs.declared.Decision.the-variants.{Marker, Align, Store, Refused}
 use Rattle.symbols.specs.declared.SymbolValue.{SymbolValue}
+use Rattle.elf.specs.Headers.{addressWidth}
 use Rattle.rela.specs.declared.sites.Site.{Site}
 use Rattle.rela.specs.declared.shape.Previous.{Previous}
 use Rattle.rela.specs.declared.shape.Previous.the-variants.{Nothing, Entry}
@@ -215,49 +216,49 @@ module _ (object : List ℕ) (x : Site) where
 
   -- ---- 13
 
-  reached : (c : Calculation) (f : Field) (t p : ℕ) → reachesWell c f t p ≡ true → Reachable c f t p
+  reached : (w : ℕ) (c : Calculation) (f : Field) (t p : ℕ) → reachesWell w c f t p ≡ true → Reachable w c f t p
   unfolding reaches
-  reached Distance f t p e =
+  reached w Distance f t p e =
       let z : ℤ = distance t p in
       record {
         is-even = even-is z (and-left (even z) (within (rangeOf f .back) (rangeOf f .ahead) z) e);
         in-range = within-is (rangeOf f .back) (rangeOf f .ahead) z (and-right (even z) (within (rangeOf f .back) (rangeOf f .ahead) z) e);
       }
-  reached BothHalves f t p e = even-is (pos (minus 32 t p)) e
-  reached Absolute f t p e = tt
-  reached PcRelative f t p e = tt
-  reached HighPcRelative f t p e = tt
-  reached HighAbsolute f t p e = tt
-  reached LowAbsolute f t p e = tt
-  reached LowOfPair f t p e = tt
-  reached Add f t p e = tt
-  reached Sub f t p e = tt
-  reached Set f t p e = tt
+  reached w BothHalves f t p e = even-is (pos (minus w t p)) e
+  reached w Absolute f t p e = tt
+  reached w PcRelative f t p e = tt
+  reached w HighPcRelative f t p e = tt
+  reached w HighAbsolute f t p e = tt
+  reached w LowAbsolute f t p e = tt
+  reached w LowOfPair f t p e = tt
+  reached w Add f t p e = tt
+  reached w Sub f t p e = tt
+  reached w Set f t p e = tt
 
-  reaches-back : (c : Calculation) (f : Field) (t p : ℕ) → Reachable c f t p → reachesWell c f t p ≡ true
+  reaches-back : (w : ℕ) (c : Calculation) (f : Field) (t p : ℕ) → Reachable w c f t p → reachesWell w c f t p ≡ true
   unfolding reaches
-  reaches-back Distance f t p r =
+  reaches-back w Distance f t p r =
       both _ _ (is-even (distance t p) (r .is-even)) (is-within (rangeOf f .back) (rangeOf f .ahead) (distance t p) (r .in-range))
-  reaches-back BothHalves f t p r = is-even (pos (minus 32 t p)) r
-  reaches-back Absolute f t p r = refl
-  reaches-back PcRelative f t p r = refl
-  reaches-back HighPcRelative f t p r = refl
-  reaches-back HighAbsolute f t p r = refl
-  reaches-back LowAbsolute f t p r = refl
-  reaches-back LowOfPair f t p r = refl
-  reaches-back Add f t p r = refl
-  reaches-back Sub f t p r = refl
-  reaches-back Set f t p r = refl
+  reaches-back w BothHalves f t p r = is-even (pos (minus w t p)) r
+  reaches-back w Absolute f t p r = refl
+  reaches-back w PcRelative f t p r = refl
+  reaches-back w HighPcRelative f t p r = refl
+  reaches-back w HighAbsolute f t p r = refl
+  reaches-back w LowAbsolute f t p r = refl
+  reaches-back w LowOfPair f t p r = refl
+  reaches-back w Add f t p r = refl
+  reaches-back w Sub f t p r = refl
+  reaches-back w Set f t p r = refl
 
-  pub reach-well : (j t : ℕ) → distanceWell (effect object x j) t (P object x j) ≡ true → ReachWell object x j t
-  reach-well j t e c f form n is = reached c f t (P object x j) (ap (λ d. distanceWell d t (P object x j)) (sym is) ∙ e)
+  pub reach-well : (j t : ℕ) → distanceWell (addressWidth object) (effect object x j) t (P object x j) ≡ true → ReachWell object x j t
+  reach-well j t e c f form n is = reached (addressWidth object) c f t (P object x j) (ap (λ d. distanceWell (addressWidth object) d t (P object x j)) (sym is) ∙ e)
 
-  pub well-reach : (j t : ℕ) → ReachWell object x j t → distanceWell (effect object x j) t (P object x j) ≡ true
+  pub well-reach : (j t : ℕ) → ReachWell object x j t → distanceWell (addressWidth object) (effect object x j) t (P object x j) ≡ true
   well-reach j t h = go (effect object x j) h
     where
-      go : (d : Decision) → ((c : Calculation) (f : Field) (form : Form) (n : ℕ) → d ≡ Store c f form n → Reachable c f t (P object x j))
-          → distanceWell d t (P object x j) ≡ true
-      go (Store c f form n) h = reaches-back c f t (P object x j) (h c f form n refl)
+      go : (d : Decision) → ((c : Calculation) (f : Field) (form : Form) (n : ℕ) → d ≡ Store c f form n → Reachable (addressWidth object) c f t (P object x j))
+          → distanceWell (addressWidth object) d t (P object x j) ≡ true
+      go (Store c f form n) h = reaches-back (addressWidth object) c f t (P object x j) (h c f form n refl)
       go Marker h = refl
       go Align h = refl
       go Refused h = refl

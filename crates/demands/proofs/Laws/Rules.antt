@@ -18,14 +18,15 @@ use Rattle.lookup.specs.Values.{isGiven, externalValue}
 use Rattle.order.specs.Windows.{lengthAllowed, windowAllowed}
 use Rattle.lookup.specs.Addresses.{placedAt}
 use Rattle.order.proofs.Laws.Sound.{wellFormed-sound, sound-wellFormed}
-use Rattle.journal.specs.Journals.{count, held, noRoom}
-use Rattle.journal.specs.Plans.{spanOf}
+use Rattle.plans.specs.declared.Span.{Span}
+use Rattle.journal.specs.Journals.{maxEntries, oldAt, count, held, noRoom}
 use Rattle.place.specs.declared.Fault.the-variants.{Nowhere, At}
 use Rattle.place.specs.Placements.{lowest, differs}
 use Rattle.place.specs.Externals.{isUndefined}
 use Rattle.placing.specs.Placing.{endOf, aligned, endsInMemory, hasBytes, inWindow, share, apart, misplaced}
 use Rattle.rela.specs.Sites.{A}
-use Rattle.judgement.specs.Judgement.{planOf}
+use Rattle.demands.specs.Laid.{IsSpan}
+use Rattle.demands.proofs.Laws.Journals.{one-span}
 use Rattle.demands.specs.Rules.{OrderWell, WindowWell, HeaderWell, TableWell, PlacedAsAllocated, Undefined, ValuedIfUndefined, PlacedWell, Room}
 
 -- ---- the lowest place at which a test says broken
@@ -86,17 +87,17 @@ well-order order o =
 
 -- ---- 3
 
-pub window-well : (start len : ℕ) → windowAllowed start len ≡ true → WindowWell start len
+pub window-well : (w start len : ℕ) → windowAllowed w start len ≡ true → WindowWell w start len
 unfolding windowAllowed lengthAllowed
-window-well start len e =
+window-well w start len e =
     record {
-      short = leb-true _ _ (and-left (leb len 65536) (leb (start + len) (2 ^ 32)) e);
-      ends = leb-true _ _ (and-right (leb len 65536) (leb (start + len) (2 ^ 32)) e);
+      short = leb-true _ _ (and-left (leb len 65536) (leb (start + len) (2 ^ w)) e);
+      ends = leb-true _ _ (and-right (leb len 65536) (leb (start + len) (2 ^ w)) e);
     }
 
-pub well-window : (start len : ℕ) → WindowWell start len → windowAllowed start len ≡ true
+pub well-window : (w start len : ℕ) → WindowWell w start len → windowAllowed w start len ≡ true
 unfolding windowAllowed lengthAllowed
-well-window start len w = both _ _ (le-leb _ _ (w .short)) (le-leb _ _ (w .ends))
+well-window w start len k = both _ _ (le-leb _ _ (k .short)) (le-leb _ _ (k .ends))
 
 -- ---- 4 and 5
 
@@ -261,14 +262,21 @@ module _ (object a : List ℕ) (start len i : ℕ) where
 
 -- ---- 15
 
-pub has-room : (object order journal : List ℕ) → noRoom (count journal) (held journal) (spanOf (planOf object order) .size) (length journal) ≡ false → Room object order journal
-unfolding noRoom
-has-room object order journal e =
-    let full : Bool = eqb (count journal) 16 in
-    let short : Bool = ltb (length journal) (136 + held journal + spanOf (planOf object order) .size) in
-    record { entry-free = eqb-false _ _ (neither-left full short e); bytes-free = ltb-false _ _ (neither-right full short e) }
+module _ (object order journal : List ℕ) (s : Span) (is : IsSpan object order s) where
+  pub has-room : noRoom (count journal) (held journal) (s .size) (length journal) ≡ false → Room object order journal
+  unfolding noRoom
+  has-room e =
+      let full : Bool = eqb (count journal) maxEntries in
+      let short : Bool = ltb (length journal) (oldAt + held journal + s .size) in
+      record {
+        entry-free = eqb-false _ _ (neither-left full short e);
+        bytes-free = λ t also.
+            let left : oldAt + held journal + s .size ≤ length journal = ltb-false _ _ (neither-right full short e) in
+            let same : t .size ≡ s .size = ap (λ x. x .size) (one-span object order t s also is) in
+            omega arith;
+      }
 
-pub room-left : (object order journal : List ℕ) → noRoom (count journal) (held journal) (spanOf (planOf object order) .size) (length journal) ≡ true → Room object order journal → ⊥
-unfolding noRoom
-room-left object order journal e r =
-    clash (noRoom (count journal) (held journal) (spanOf (planOf object order) .size) (length journal)) (rw (ne-eqb _ _ (r .entry-free), le-ltb _ _ (r .bytes-free))) e
+  pub room-left : noRoom (count journal) (held journal) (s .size) (length journal) ≡ true → Room object order journal → ⊥
+  unfolding noRoom
+  room-left e r =
+      clash (noRoom (count journal) (held journal) (s .size) (length journal)) (rw (ne-eqb _ _ (r .entry-free), le-ltb _ _ (r .bytes-free s is))) e

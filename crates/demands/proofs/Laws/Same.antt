@@ -11,7 +11,7 @@ use lib.Seq.{ext-getD}
 use Rattle.word.proofs.Laws.Tests.{clash}
 use Rattle.word.proofs.Laws.Bytes.{Bytes}
 use Rattle.word.proofs.Laws.Lists.{length-part}
-use Rattle.elf.specs.Headers.{sectionCount}
+use Rattle.elf.specs.Headers.{addressWidth, sectionCount}
 use Rattle.elf.specs.Sections.{sectionAt, countingRela}
 use Rattle.order.specs.declared.Counts.{Counts}
 use Rattle.lookup.specs.Addresses.{addresses}
@@ -19,13 +19,14 @@ use Rattle.placing.specs.Placing.{hasBytes}
 use Rattle.types.specs.declared.Decision.{Decision}
 use Rattle.types.specs.declared.Decision.the-variants.{Marker, Align, Store, Refused}
 use Rattle.rela.specs.declared.sites.Site.{Site}
-use Rattle.rela.specs.Sites.{siteAt, count, entry, effect, offset, A, P, found}
+use Rattle.rela.specs.Sites.{siteAt, count, entry, effect, offset, P, found}
 use Rattle.rela.specs.Shape.{end}
 use Rattle.effects.specs.Effects.{touched}
-use Rattle.values.specs.Values.{valueAt, S, T}
+use Rattle.values.specs.Values.{targetAt}
 use Rattle.rules.proofs.Laws.Search.{kept-rules}
 use Rattle.stores.specs.Sections.{pairDistance}
 use Rattle.stores.specs.Promises.{stackAt, Stored, ReadsBack}
+use Rattle.elf.proofs.Laws.Headers.{address-wide}
 use Rattle.stores.proofs.Laws.Known.{bytes-known}
 use Rattle.judgement.specs.Facts.{Fitting}
 use Rattle.judgement.proofs.Laws.Laying.{bytes-inside}
@@ -116,11 +117,11 @@ module _ (object order : List ℕ) where
         bsh = bytes-part h (start object order t) (sectionAt object t .size) bh
 
         says : (s : List ℕ) → Laid object order before s → (d : Decision) → effect object x j ≡ d
-            → Stored d (found object x) (sectionIn object order s t) (offset object x j) (T (S (valueAt object order (addresses order) x j)) (A object x j)) (P object x j)
+            → Stored (addressWidth object) d (found object x) (sectionIn object order s t) (offset object x j) (targetAt object order (addresses order) x j) (P object x j)
             (pairDistance object order (addresses order) x j) (λ v. stackAt object order (addresses order) x (offset object x j) v (count x))
         says s l d e =
             subst
-            (λ q. Stored q (found object x) (sectionIn object order s t) (offset object x j) (T (S (valueAt object order (addresses order) x j)) (A object x j)) (P object x j)
+            (λ q. Stored (addressWidth object) q (found object x) (sectionIn object order s t) (offset object x j) (targetAt object order (addresses order) x j) (P object x j)
             (pairDistance object order (addresses order) x j) (λ v. stackAt object order (addresses order) x (offset object x j) v (count x)))
             e (subst (λ u. ReadsBack object order (addresses order) x (sectionIn object order s u) j) (c .relocates) (l .fields i j (c .is)))
 
@@ -130,7 +131,7 @@ module _ (object order : List ℕ) where
             let a = says g lg (Store k f form n) e in
             let z = says h lh (Store k f form n) e in
             same-number sg sh (offset object x j) n b bsg bsh (omega (arith, length-is g (lg .same-length), inside)) (omega (arith, length-is h (lh .same-length), inside))
-            (bytes-known (entry object x j .kind) k f form n e _ _ (spelt-lt n sg (offset object x j) bsg) (spelt-lt n sh (offset object x j) bsh) _ _ _ _ (a .0) (z .0) (a .1 ∙ sym (z .1)))
+            (bytes-known (addressWidth object) (address-wide object) (entry object x j .kind) k f form n e _ _ (spelt-lt n sg (offset object x j) bsg) (spelt-lt n sh (offset object x j) bsh) _ _ _ _ (a .0) (z .0) (a .1 ∙ sym (z .1)))
             (c .low) (omega (arith, c .high))
         go Marker e = let none : end object x j ≡ offset object x j + 0 = ap (λ d. offset object x j + touched d) e in absurd (omega (arith, c .low, c .high))
         go Align e = let none : end object x j ≡ offset object x j + 0 = ap (λ d. offset object x j + touched d) e in absurd (omega (arith, c .low, c .high))

@@ -13,8 +13,8 @@ use Rattle.elf.specs.Sections.{sectionAt}
 use Rattle.order.specs.declared.Counts.{Counts}
 use Rattle.order.specs.Orders.{base}
 use Rattle.lookup.specs.Addresses.{addresses}
-use Rattle.journal.specs.Plans.{Piece, piece, spanOf}
-use Rattle.journal.proofs.Laws.Span.{Laid, span-is}
+use Rattle.plans.specs.Plans.{Piece, piece, spanOf}
+use Rattle.plans.proofs.Laws.Span.{Laid, span-is}
 use Rattle.placing.specs.Placing.{hasBytes}
 use Rattle.spans.specs.Pieces.{pieces}
 use Rattle.stores.specs.Sections.{relocated}

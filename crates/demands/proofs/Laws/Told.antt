@@ -11,7 +11,7 @@ use borrow.Author.Tests.{ltb-true, ltb-false, not-true, not-false}
 use Rattle.word.proofs.Laws.Tests.{never, clash}
 use Rattle.word.specs.First.{first}
 use Rattle.word.proofs.Laws.First.{first-below, first-at}
-use Rattle.elf.specs.Headers.{sectionCount}
+use Rattle.elf.specs.Headers.{addressWidth, sectionCount}
 use Rattle.elf.specs.Entries.{relocationCount}
 use Rattle.header.specs.Headers.{headerAllowed, tableAllowed}
 use Rattle.validate.specs.declared.ObjectCheck.{ObjectCheck}
@@ -23,10 +23,12 @@ use Rattle.validate.proofs.Laws.Tables.{check-table-broken, check-broken, check
 use Rattle.order.specs.Orders.{base, wellFormed}
 use Rattle.lookup.specs.Values.{isGiven, externalValue}
 use Rattle.order.specs.Windows.{windowAllowed}
+use Rattle.order.proofs.Laws.Sound.{countsOf, wellFormed-sound, sound-reading}
 use Rattle.lookup.specs.Addresses.{addresses}
 use Rattle.journal.specs.Journals.{count, held, Sound, sound, noRoom}
-use Rattle.journal.specs.Plans.{Verdict, refused, plan, spanOf}
-use Rattle.history.specs.Calls.{Answer, journalUnsound, journalFull, Files, refuse, succeed, installed, settle, install}
+use Rattle.plans.specs.Plans.{Verdict, refused, plan, spanOf}
+use Rattle.plans.specs.Answers.{Answer, says}
+use Rattle.history.specs.Calls.{journalUnsound, journalFull, Files, refuse, succeed, installed, settle, install}
 use Rattle.journal.proofs.Laws.Sound.{test-sound, sound-test}
 use Rattle.place.specs.declared.Fault.{Fault}
 use Rattle.place.specs.declared.Fault.the-variants.{Nowhere, At}
@@ -42,13 +44,16 @@ use Rattle.rela.specs.Sites.{effect, A, P}
 use Rattle.rules.specs.declared.Finding.{Finding}
 use Rattle.rules.specs.declared.Finding.the-variants.{Kept, BadShape, BadSymbol, BadForm, NoPair, OutOfReach, OffBoundary}
 use Rattle.rules.specs.declared.RelocationCheck.the-variants.{Passed as AllKept, Broken}
-use Rattle.values.specs.Values.{valueAt, S, T}
+use Rattle.values.specs.Values.{valueAt, targetAt}
 use Rattle.rules.specs.Rules.{symbolWell, formWell, pairWell, distanceWell, boundaryWell}
 use Rattle.rules.specs.Search.{number, finding, findingOf, isBroken, relocationCheck}
+use Rattle.judgement.specs.Facts.{Readable, Named, Placeable, Fitting}
 use Rattle.judgement.specs.Judgement.{afterObject, afterFault, afterRelocations, planOf, judgement}
 use Rattle.demands.specs.Rules.{OrderWell, WindowWell, HeaderWell, TableWell, PlacedAsAllocated, ValuedIfUndefined, PlacedIfAllocated, site, entryOf, Shape, SymbolResolves, FormIs, OnePair, Reaches, OnBoundary, Room}
+use Rattle.demands.specs.Laid.{IsSpan}
 use Rattle.demands.specs.First.{Line, nil, rule, Checks, none, check, HoldAt, BrokenAt, one, each, table}
 use Rattle.demands.proofs.Laws.First.{Told, later, at-once, at-each, broken-once, broken-at}
+use Rattle.demands.proofs.Laws.Spans.{is-span}
 use Rattle.demands.proofs.Laws.Rules.{lowest-found, order-well, well-order, window-well, well-window, header-well, well-header, table-well, well-table, matches, no-match, valued, not-valued, placed-well, placed-wrong, has-room, room-left}
 use Rattle.demands.proofs.Laws.Relocations.{shape-well, well-shape, symbol-well, well-symbol, form-well, well-form, pair-well, well-pair, boundary-well, reach-well, well-reach, well-boundary}
 
@@ -67,16 +72,16 @@ module _ (object order : List ℕ) where
   -- what a finding says of relocation k
   abbrev Means : ℕ → Finding → Type 0
   Means k Kept = HoldAt line k
-  Means k BadShape = BrokenAt line 9 k
-  Means k BadSymbol = BrokenAt line 10 k
-  Means k BadForm = BrokenAt line 11 k
-  Means k NoPair = BrokenAt line 12 k
-  Means k OutOfReach = BrokenAt line 13 k
-  Means k OffBoundary = BrokenAt line 14 k
+  Means k BadShape = BrokenAt line (says 9 k)
+  Means k BadSymbol = BrokenAt line (says 10 k)
+  Means k BadForm = BrokenAt line (says 11 k)
+  Means k NoPair = BrokenAt line (says 12 k)
+  Means k OutOfReach = BrokenAt line (says 13 k)
+  Means k OffBoundary = BrokenAt line (says 14 k)
 
   means : (k : ℕ) → Means k (findingOf object order (addresses order) k)
   unfolding findingOf finding
-  means k = go (shapeWell object x j) refl (symbolWell object x j v) refl (formWell object x j) refl (pairWell object x j) refl (distanceWell d t (P object x j)) refl (boundaryWell d (P object x j) (A object x j)) refl
+  means k = go (shapeWell object x j) refl (symbolWell object x j v) refl (formWell object x j) refl (pairWell object x j) refl (distanceWell (addressWidth object) d t (P object x j)) refl (boundaryWell d (P object x j) (A object x j)) refl
     where
       x : Site
       x = site object order k
@@ -91,10 +96,10 @@ module _ (object order : List ℕ) where
       d = effect object x j
 
       t : ℕ
-      t = T (S v) (A object x j)
+      t = targetAt object order (addresses order) x j
 
       go : (a : Bool) → shapeWell object x j ≡ a → (b : Bool) → symbolWell object x j v ≡ b → (c : Bool) → formWell object x j ≡ c → (p : Bool) → pairWell object x j ≡ p
-          → (q : Bool) → distanceWell d t (P object x j) ≡ q → (r : Bool) → boundaryWell d (P object x j) (A object x j) ≡ r
+          → (q : Bool) → distanceWell (addressWidth object) d t (P object x j) ≡ q → (r : Bool) → boundaryWell d (P object x j) (A object x j) ≡ r
           → Means k (cond a (cond b (cond c (cond p (cond q (cond r Kept OffBoundary) OutOfReach) NoPair) BadForm) BadSymbol) BadShape)
       go false e₁ b e₂ c e₃ p e₄ q e₅ r e₆ = inl (refl, λ s. clash _ e₁ (well-shape object x j s))
       go true e₁ false e₂ c e₃ p e₄ q e₅ r e₆ = inr (shape-well object x j e₁, inl (refl, λ s. clash _ e₂ (well-symbol object x j v s)))
@@ -120,7 +125,7 @@ module _ (object order : List ℕ) where
   kept-holds k OutOfReach e m = never (sym e)
   kept-holds k OffBoundary e m = never (sym e)
 
-  broken-breaks : (k : ℕ) (f : Finding) → isBroken f ≡ true → Means k f → BrokenAt line (number f) k
+  broken-breaks : (k : ℕ) (f : Finding) → isBroken f ≡ true → Means k f → BrokenAt line (says (number f) k)
   broken-breaks k Kept e m = never e
   broken-breaks k BadShape e m = m
   broken-breaks k BadSymbol e m = m
@@ -137,10 +142,10 @@ module _ (object order : List ℕ) where
   kept-at : (k : ℕ) → broken k ≡ false → HoldAt line k
   kept-at k e = kept-holds k (findingOf object order (addresses order) k) e (means k)
 
-  broken-here : (k : ℕ) → broken k ≡ true → BrokenAt line (number (findingOf object order (addresses order) k)) k
+  broken-here : (k : ℕ) → broken k ≡ true → BrokenAt line (says (number (findingOf object order (addresses order) k)) k)
   broken-here k e = broken-breaks k (findingOf object order (addresses order) k) e (means k)
 
-  relocations : (f : Files) (tail : Checks) (next : Verdict) → Told tail (settle f next .answer)
+  relocations : (f : Files) (tail : Checks) (next : Verdict) → (relocationCheck object order (addresses order) ≡ AllKept → Told tail (settle f next .answer))
       → Told (check (relocationCount object) line tail) (settle f (afterRelocations (relocationCheck object order (addresses order)) next) .answer)
   unfolding relocationCheck settle
   relocations f tail next t = go (ltb (first broken (relocationCount object)) (relocationCount object)) refl
@@ -153,25 +158,27 @@ module _ (object order : List ℕ) where
 
       go : (b : Bool) → ltb k n ≡ b → Told (check n line tail) (settle f (afterRelocations (cond b (Broken (findingOf object order (addresses order) k) k) AllKept) next) .answer)
       go true e = inr (inl (ltb-true k n e, (λ q l. kept-at q (first-below broken n q l)), broken-here k (first-at broken n (ltb-true k n e))))
-      go false e = later n line tail (settle f next .answer) (λ q l. kept-at q (first-below broken n q (omega (arith, ltb-false k n e)))) t
+      go false e = later n line tail (settle f next .answer) (λ q l. kept-at q (first-below broken n q (omega (arith, ltb-false k n e)))) (t (rw e))
 
--- ---- the other checks, each before any that follow
+-- ---- the other checks, each before any that follow, which may count on it
 
-module _ (f : Files) (tail : Checks) (next : Verdict) (t : Told tail (settle f next .answer)) where
+module _ (f : Files) (tail : Checks) (next : Verdict) where
   -- with place 0 alone
-  alone : (n : ℕ) (R : Type 0) (b : Bool) → (b ≡ true → R) → (b ≡ false → R → ⊥) → Told (one n R tail) (settle f (cond b next (refused n 0)) .answer)
+  alone : (n : ℕ) (R : Type 0) (b : Bool) → (b ≡ true → Told tail (settle f next .answer)) → (b ≡ true → R) → (b ≡ false → R → ⊥)
+      → Told (one n R tail) (settle f (cond b next (refused (says n 0))) .answer)
   unfolding settle
-  alone n R true holds breaks = later 1 (rule n (λ _. R) nil) tail (settle f next .answer) (at-once n (holds refl)) t
-  alone n R false holds breaks = broken-once n tail (breaks refl)
+  alone n R true t holds breaks = later 1 (rule n (λ _. R) nil) tail (settle f next .answer) (at-once n (holds refl)) (t refl)
+  alone n R false t holds breaks = broken-once n tail (breaks refl)
 
   -- at the lowest place
-  at-lowest : (m n : ℕ) (R : ℕ → Type 0) (p : ℕ → Bool) → ((k : ℕ) → p k ≡ false → R k) → ((k : ℕ) → p k ≡ true → R k → ⊥)
+  at-lowest : (m n : ℕ) (R : ℕ → Type 0) (p : ℕ → Bool) → (lowest p m ≡ Nowhere → Told tail (settle f next .answer))
+      → ((k : ℕ) → p k ≡ false → R k) → ((k : ℕ) → p k ≡ true → R k → ⊥)
       → Told (each m n R tail) (settle f (afterFault n (lowest p m) next) .answer)
   unfolding settle
-  at-lowest m n R p holds breaks = go (lowest p m) refl
+  at-lowest m n R p t holds breaks = go (lowest p m) refl
     where
       go : (r : Fault) → lowest p m ≡ r → Told (each m n R tail) (settle f (afterFault n r next) .answer)
-      go Nowhere e = later m (rule n R nil) tail (settle f next .answer) (at-each m n (λ k l. holds k (nowhere-holds p m e k l))) t
+      go Nowhere e = later m (rule n R nil) tail (settle f next .answer) (at-each m n (λ k l. holds k (nowhere-holds p m e k l))) (t e)
       go (At k) e =
           let l = lowest-found p m k e in
           broken-at m n k tail (l .0) (λ q h. holds q (l .1 q h)) (breaks k (l .2))
@@ -188,7 +195,7 @@ module _ (object : List ℕ) where
   not-fine : (j : ℕ) → wrong j ≡ true → SoundSection object j → ⊥
   not-fine j e s = clash (sectionWell object j) (not-true (sectionWell object j) e) (well-section object j s)
 
-  module _ (f : Files) (tail : Checks) (next : Verdict) (t : Told tail (settle f next .answer)) where
+  module _ (f : Files) (tail : Checks) (next : Verdict) (t : objectCheck object ≡ Passed → Told tail (settle f next .answer)) where
     abbrev sections : Checks
     sections = each (sectionCount object) 5 (SoundSection object) tail
 
@@ -220,19 +227,20 @@ module _ (object : List ℕ) where
         go false e₁ b e₂ c e₃ = by BadHeader (rw e₁) (broken-once 4 sectionTable (λ h. clash (headerAllowed object) e₁ (well-header object h)))
         go true e₁ false e₂ c e₃ =
             by (BadSection 0) (rw (e₁, check-table-broken object e₂))
-            (past-header (record { number = 5; place = 0 }) e₁ (broken-once 5 sections (λ h. clash (tableAllowed object) e₂ (well-table object h))))
+            (past-header (says 5 0) e₁ (broken-once 5 sections (λ h. clash (tableAllowed object) e₂ (well-table object h))))
         go true e₁ true e₂ true e₃ =
             let there : k < n = ltb-true k n e₃ in
             let here : wrong k ≡ true = first-at wrong n there in
             by (BadSection k) (rw (e₁, check-broken object k e₂ there (first-below wrong n) (not-true (sectionWell object k) here)))
-            (past-header (record { number = 5; place = k }) e₁
-            (past-table (record { number = 5; place = k }) e₂ (broken-at n 5 k tail there (λ j l. fine j (first-below wrong n j l)) (not-fine k here))))
+            (past-header (says 5 k) e₁
+            (past-table (says 5 k) e₂ (broken-at n 5 k tail there (λ j l. fine j (first-below wrong n j l)) (not-fine k here))))
         go true e₁ true e₂ false e₃ =
             let all : (j : ℕ) → j < n → wrong j ≡ false = λ j l. first-below wrong n j (omega (arith, ltb-false k n e₃)) in
-            by Passed (rw (e₁, check-sound object e₂ all))
+            let passed : objectCheck object ≡ Passed = rw (e₁, check-sound object e₂ all) in
+            by Passed passed
             (past-header (settle f next .answer) e₁
             (past-table (settle f next .answer) e₂
-            (later n (rule 5 (SoundSection object) nil) tail (settle f next .answer) (at-each n 5 (λ j l. fine j (all j l))) t)))
+            (later n (rule 5 (SoundSection object) nil) tail (settle f next .answer) (at-each n 5 (λ j l. fine j (all j l))) (t passed))))
 
 -- ---- all of them
 
@@ -275,47 +283,52 @@ module _ (object order : List ℕ) (f : Files) where
   verdict4 = afterObject (objectCheck object) verdict6
 
   abbrev checks3 : Checks
-  checks3 = one 3 (WindowWell (base order) len) checks4
+  checks3 = one 3 (WindowWell (addressWidth object) (base order) len) checks4
 
   abbrev verdict3 : Verdict
-  verdict3 = cond (windowAllowed (base order) len) verdict4 (refused 3 0)
+  verdict3 = cond (windowAllowed (addressWidth object) (base order) len) verdict4 (refused (says 3 0))
 
-  told15 : Told checks15 (settle f (plan (planOf object order)) .answer)
+  -- each check, where those before it pass
+  told15 : Fitting object order (countsOf order) len → Told checks15 (settle f (plan (planOf object order)) .answer)
   unfolding settle
-  told15 = go (noRoom (count (f .journal)) (held (f .journal)) (spanOf (planOf object order) .size) (length (f .journal))) refl
+  told15 fit = go (noRoom (count (f .journal)) (held (f .journal)) (spanOf (planOf object order) .size) (length (f .journal))) refl
     where
+      is : IsSpan object order (spanOf (planOf object order))
+      is = is-span object order (countsOf order) len fit
+
       go : (b : Bool) → noRoom (count (f .journal)) (held (f .journal)) (spanOf (planOf object order) .size) (length (f .journal)) ≡ b
           → Told checks15 (cond b (refuse journalFull f) (succeed (installed (planOf object order) f)) .answer)
-      go true e = broken-once 15 none (room-left object order (f .journal) e)
-      go false e = inl (refl, (at-once 15 (has-room object order (f .journal) e), tt))
+      go true e = broken-once 15 none (room-left object order (f .journal) (spanOf (planOf object order)) is e)
+      go false e = inl (refl, (at-once 15 (has-room object order (f .journal) (spanOf (planOf object order)) is e), tt))
 
-  told9 : Told checks9 (settle f verdict9 .answer)
-  told9 = relocations object order f checks15 (plan (planOf object order)) told15
+  told9 : Placeable object order (countsOf order) len → Told checks9 (settle f verdict9 .answer)
+  told9 p = relocations object order f checks15 (plan (planOf object order)) (λ r. told15 (record { placeable = p; relocations = r }))
 
-  told8 : Told checks8 (settle f verdict8 .answer)
+  told8 : Named object order (countsOf order) len → Told checks8 (settle f verdict8 .answer)
   unfolding placingCheck
-  told8 =
-      at-lowest f checks9 verdict9 told9 (sectionCount object) 8 (PlacedIfAllocated object order len) (misplaced object (addresses order) (base order) len)
-      (placed-well object (addresses order) (base order) len) (placed-wrong object (addresses order) (base order) len)
+  told8 n =
+      at-lowest f checks9 verdict9 (sectionCount object) 8 (PlacedIfAllocated object order len) (misplaced object (addresses order) (base order) len)
+      (λ p. told9 (record { named = n; placing = p })) (placed-well object (addresses order) (base order) len) (placed-wrong object (addresses order) (base order) len)
 
-  told7 : Told checks7 (settle f verdict7 .answer)
+  told7 : Readable object order (countsOf order) len → placementCheck object order ≡ Nowhere → Told checks7 (settle f verdict7 .answer)
   unfolding externalCheck
-  told7 =
-      at-lowest f checks8 verdict8 told8 (2 ^ 32) 7 (ValuedIfUndefined object order) (λ k. isGiven (externalValue order k) && not (isUndefined object k))
-      (valued object order) (not-valued object order)
+  told7 r p =
+      at-lowest f checks8 verdict8 (2 ^ 32) 7 (ValuedIfUndefined object order) (λ k. isGiven (externalValue order k) && not (isUndefined object k))
+      (λ x. told8 (record { readable = r; placements = p; externals = x })) (valued object order) (not-valued object order)
 
-  told6 : Told checks6 (settle f verdict6 .answer)
+  told6 : Readable object order (countsOf order) len → Told checks6 (settle f verdict6 .answer)
   unfolding placementCheck
-  told6 = at-lowest f checks7 verdict7 told7 (2 ^ 32) 6 (PlacedAsAllocated object order) (differs object order) (matches object order) (no-match object order)
+  told6 r = at-lowest f checks7 verdict7 (2 ^ 32) 6 (PlacedAsAllocated object order) (differs object order) (told7 r) (matches object order) (no-match object order)
 
-  told3 : Told checks3 (settle f verdict3 .answer)
-  told3 =
-      alone f checks4 verdict4 (object-told object f checks6 verdict6 told6) 3 (WindowWell (base order) len) (windowAllowed (base order) len)
-      (window-well (base order) len) (λ e w. clash (windowAllowed (base order) len) e (well-window (base order) len w))
+  told3 : wellFormed order ≡ true → Told checks3 (settle f verdict3 .answer)
+  told3 o =
+      alone f checks4 verdict4 3 (WindowWell (addressWidth object) (base order) len) (windowAllowed (addressWidth object) (base order) len)
+      (λ w. object-told object f checks6 verdict6 (λ p. told6 (record { reading-is = sound-reading order (countsOf order) (wellFormed-sound order o); window = w; object-is = p })))
+      (window-well (addressWidth object) (base order) len) (λ e w. clash (windowAllowed (addressWidth object) (base order) len) e (well-window (addressWidth object) (base order) len w))
 
   told2 : Told (one 2 (OrderWell order) checks3) (settle f (judgement object order len) .answer)
   unfolding judgement
-  told2 = alone f checks3 verdict3 told3 2 (OrderWell order) (wellFormed order) (order-well order) (λ e w. clash (wellFormed order) e (well-order order w))
+  told2 = alone f checks3 verdict3 2 (OrderWell order) (wellFormed order) told3 (order-well order) (λ e w. clash (wellFormed order) e (well-order order w))
 
   -- the answer of an install is what the table says
   pub told : Told (table object order f) (install judgement object order f .answer)

@@ -14,7 +14,7 @@ use Rattle.fields.specs.declared.Width.the-variants.{W32}
 use Rattle.fields.specs.declared.Field.the-variants.{Data}
 use Rattle.fields.specs.Layouts.{read, put}
 use Rattle.fields.specs.Fields.{layout}
-use Rattle.elf.specs.Headers.{sectionCount}
+use Rattle.elf.specs.Headers.{addressWidth, sectionCount}
 use Rattle.elf.specs.Sections.{sectionAt, allocated, loaded, isAllocated, countingRela, relocationsIn}
 use Rattle.elf.specs.Entries.{bytesOf, relocationAt}
 use Rattle.order.specs.Orders.{base, entryAt, ascending, wellFormed}
@@ -23,8 +23,9 @@ use Rattle.order.specs.Windows.{lengthAllowed, windowAllowed}
 use Rattle.lookup.specs.Addresses.{placedAt, addresses}
 use Rattle.journal.specs.Journals.{oldAt, count, entry, entries, total, isBlank, endsWithin, sound, Sound}
 use Rattle.journal.proofs.Laws.Sound.{test-sound}
-use Rattle.journal.specs.Plans.{overwritten}
-use Rattle.history.specs.Calls.{Answer, done, Files, succeed, Install, Rollback, InstallCall, RollbackCall, calling, run}
+use Rattle.plans.specs.Plans.{overwritten}
+use Rattle.plans.specs.Answers.{Answer, says, done}
+use Rattle.history.specs.Calls.{Files, succeed, Install, Rollback, InstallCall, RollbackCall, calling, run}
 use Rattle.history.specs.Records.{Released}
 use Rattle.history.specs.Histories.{Standing, begin, spans, laid, stand, fall, told, Start}
 use Rattle.placing.specs.Placing.{hasBytes}
@@ -40,7 +41,7 @@ use Rattle.demands.specs.Rules.{PlacedAsAllocated}
 use Rattle.demands.specs.First.{AllHold, FirstBroken, table as table-of}
 use Rattle.demands.specs.Laid.{sectionIn}
 use Rattle.demands.proofs.Laws.First.{at-once, at-each}
-use Rattle.demands.specs.Demands.{rollbackTable, Demand1, Demand2, Demand3, Journalled}
+use Rattle.demands.specs.Demands.{rollbackTable, Demand1, Demand2, Demand3, Journalled, AnyList}
 use Rattle.demands.proofs.Laws.Sample.{words, object, order, files, journal-is, header-is, table-is, sections-are, keeps-all}
 use Rattle.demands.proofs.Laws.Demands.{Done, done-leaves, demand-2}
 use Rattle.demands.proofs.Laws.Rules.{order-well, window-well, header-well}
@@ -89,7 +90,7 @@ unfoldable pub bare : List ℕ
 bare = words (1 ∷ 0x20000000 ∷ 0 ∷ 0 ∷ [])
 
 -- section 1 has no address: check 6 at place 1, and never an address of 0
-missing : FirstBroken (table-of object bare files) 6 1
+missing : FirstBroken (table-of object bare files) (says 6 1)
 unfolding table-of object bare files words bytes leAt le wellFormed ascending everywhere windowAllowed lengthAllowed sectionAt allocated isAllocated placedAt valueIn entryAt first
 missing =
     inr (
@@ -97,7 +98,7 @@ missing =
       inr (
         at-once 2 (order-well bare refl),
         inr (
-          at-once 3 (window-well (base bare) (length (files .image)) refl),
+          at-once 3 (window-well (addressWidth object) (base bare) (length (files .image)) refl),
           inr (
             at-once 4 header-is,
             inr (
@@ -114,8 +115,8 @@ missing =
     first-match (suc i) h = absurd (omega arith)
 
 -- one that takes a missing address as zero, or gives no place: "otherwise the first broken rule is named"
-pub names-the-section : (installs : InstallCall) → Demand2 installs → installs object bare files .answer ≡ record { number = 6; place = 1 }
-names-the-section installs d = d .first-refused object bare files 6 1 missing
+pub names-the-section : (installs : InstallCall) → Demand2 installs → installs object bare files .answer ≡ says 6 1
+names-the-section installs d = d .first-refused object bare files (says 6 1) missing
 
 -- one that gives the number alone: the same sentence
 pub gives-no-place : (installs : InstallCall) → Demand2 installs → ((o r : List ℕ) (f : Files) → installs o r f .answer .place ≡ 0) → ⊥
@@ -159,7 +160,7 @@ differs (suc (suc zero)) h e = let z : _≡_ {A = ℕ} 0xA5 0x34 = e in omega ar
 differs (suc (suc (suc zero))) h e = let z : _≡_ {A = ℕ} 0xA5 0x12 = e in omega arith
 differs (suc (suc (suc (suc b)))) h e = omega arith
 
-module _ (installs : InstallCall) (rollsBack : RollbackCall) (d : Demand3 installs rollsBack) where
+module _ (installs : InstallCall) (rollsBack : RollbackCall) (d : Demand3 AnyList installs rollsBack) where
   -- what the two calls leave
   after-fit : Files
   after-fit = installs object order files .after
@@ -170,23 +171,23 @@ module _ (installs : InstallCall) (rollsBack : RollbackCall) (d : Demand3 instal
   -- after the install: its bytes, and one that stands
   laid-over : after-fit .image ≡ overwritten (files .image) (planOf object order)
   unfolding after-fit run calling told laid stands
-  laid-over = d files start-is (Install object order ∷ []) .as-told .image-is ∙ ap (λ o. laid (o .after .start) (o .after .standing)) stood
+  laid-over = d files (tt, tt) start-is (Install object order ∷ []) ((tt, tt), tt) .holds .as-told .image-is ∙ ap (λ o. laid (o .after .start) (o .after .standing)) stood
 
   one-stands : count (after-fit .journal) ≡ 1
   unfolding after-fit run calling told
-  one-stands = d files start-is (Install object order ∷ []) .as-told .count-is ∙ ap (λ o. length (o .after .standing)) stood
+  one-stands = d files (tt, tt) start-is (Install object order ∷ []) ((tt, tt), tt) .holds .as-told .count-is ∙ ap (λ o. length (o .after .standing)) stood
 
   -- after the rollback: the starting image, and none that stands
   as-before : after-both .image ≡ files .image
   unfolding after-fit after-both run calling told fall laid
   as-before =
-      d files start-is (Install object order ∷ Rollback ∷ []) .as-told .image-is
+      d files (tt, tt) start-is (Install object order ∷ Rollback ∷ []) ((tt, tt), (tt, tt)) .holds .as-told .image-is
       ∙ ap (λ o. laid (fall (o .after) (o .after .standing) .after .start) (fall (o .after) (o .after .standing) .after .standing)) stood
 
   none-stands : count (after-both .journal) ≡ 0
   unfolding after-fit after-both run calling told fall
   none-stands =
-      d files start-is (Install object order ∷ Rollback ∷ []) .as-told .count-is
+      d files (tt, tt) start-is (Install object order ∷ Rollback ∷ []) ((tt, tt), (tt, tt)) .holds .as-told .count-is
       ∙ ap (λ o. length (fall (o .after) (o .after .standing) .after .standing)) stood
 
   -- a taking-back that leaves one of the laid bytes: "The image is, byte for byte, the starting image"
@@ -211,7 +212,7 @@ module _ (installs : InstallCall) (rollsBack : RollbackCall) (d : Demand3 instal
   unfolding after-fit run calling told
   never-done wrong =
       wrong after-fit
-      (d files start-is (Install object order ∷ []) .done-if-some
+      (d files (tt, tt) start-is (Install object order ∷ []) ((tt, tt), tt) .holds .done-if-some
       (λ none. omega (arith, ap (λ xs. length xs) (sym (ap (λ o. o .after .standing) stood) ∙ none))))
 
   -- a fit that records nothing: "The ledger counts the standing fits"

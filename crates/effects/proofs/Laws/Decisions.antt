@@ -7,6 +7,7 @@ use native.Mathlib.Omega.{arith}
 use lib.Dec.{eqb}
 use borrow.Author.Tests.{eqb-true}
 use Rattle.word.proofs.Laws.Tests.{and-left, and-right, never}
+use Rattle.endian.specs.Widths.{isWidth}
 use Rattle.fields.specs.declared.Width.{Width}
 use Rattle.fields.specs.declared.Width.the-variants.{W6, W8, W16, W32, W64}
 use Rattle.fields.specs.declared.Field.{Field}
@@ -17,7 +18,7 @@ use Rattle.types.specs.declared.Decision.{Decision}
 use Rattle.types.specs.declared.Decision.the-variants.{Marker, Align, Store, Refused}
 use Rattle.types.specs.Types.{Line, table, among, lookup, decision}
 use Rattle.effects.specs.Effects.{touched}
-use Rattle.effects.specs.Widths.{isWidth, onData}
+use Rattle.effects.specs.Widths.{onData}
 
 -- a test that holds on each line, and of a refusal, holds of every decision
 unfoldable pub holds : (Decision → Bool) → List Line → Bool

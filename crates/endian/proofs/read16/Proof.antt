@@ -7,7 +7,10 @@ use Rattle.endian.proofs.read16.Statement.{statement}
 use Rattle.endian.proofs.read16.Tie as tie
 
 returns : tie.Need-returns
-returns c = let a = c .before .before .before .before .before .args in rw (leAt-split 1 1 (a .s .now) (a .at), leAt-one (a .s .now) (a .at), leAt-one (a .s .now) (a .at + 1)) (omega arith)
+returns c =
+    let s : tie.Start = search in
+    let a = s .args in
+    rw (leAt-split 1 1 (a .s .now) (a .at), leAt-one (a .s .now) (a .at), leAt-one (a .s .now) (a .at + 1)) (omega arith)
 
 pub read16-spec : {M : Type 1} → statement M
 read16-spec =

@@ -6,7 +6,7 @@ use Rattle.endian.proofs.read32.Statement.{statement}
 use Rattle.endian.proofs.read32.Tie as tie
 
 returns : tie.Need-returns
-returns c = rw (leAt-split 2 2 (c .before .before .before .args .s .now) (c .before .before .before .args .at)) (omega arith)
+returns c = let s : tie.Start = search in rw (leAt-split 2 2 (s .args .s .now) (s .args .at)) (omega arith)
 
 pub read32-spec : {M : Type 1} → statement M
 read32-spec =

@@ -5,7 +5,7 @@ use Rattle.endian.proofs.write64.Statement.{statement}
 use Rattle.endian.proofs.write64.Tie as tie
 
 returns : tie.Need-returns
-returns c = let a = c .before .before .before .before .before .before .before .before .before .args in cc (sets-halves 4 (a .s .now) (a .at) (a .x))
+returns c = let s : tie.Start = search in cc (sets-halves 4 (s .args .s .now) (s .args .at) (s .args .x))
 
 pub write64-spec : {M : Type 1} → statement M
 write64-spec =

@@ -6,7 +6,7 @@ use Rattle.files.proofs.write_beside.Statement.{statement}
 use Rattle.files.proofs.write_beside.Tie as tie
 
 returns : tie.Need-returns
-returns c = counts 7 (c .before .before .before .before .before .before .before .before .before .before .before .before .args .name .now) (omega arith)
+returns c = let s : tie.Start = search in counts 7 (s .args .name .now) (omega arith)
 
 returns-2 : tie.Need-returns-2
 returns-2 c = counts _ _ (omega arith)

@@ -1,12 +1,14 @@
 -- `fitter::aktinoph_fit` meets its contract. Assumes nothing.
 use mathlib.Core.Path.{ap, _∙_}
-use Rattle.judge.specs.Answers.{packed}
+use Rattle.plans.specs.Answers.{packed}
 use borrow.Author.Needs.{needs}
 use Rattle.fitter.proofs.aktinoph_fit.Statement.{statement}
 use Rattle.fitter.proofs.aktinoph_fit.Tie as tie
 
 returns : tie.Need-returns
-returns c = (c .code-of .ensures ∙ ap (λ o. packed (o .answer)) (c .before .before .before .before .before .install .ensures), ap (λ o. o .after) (c .before .before .before .before .before .install .ensures))
+returns c =
+    let r : tie.After-install = search in
+    (c .code-of .ensures ∙ ap (λ o. packed (o .answer)) (r .install .ensures), ap (λ o. o .after) (r .install .ensures))
 
 pub aktinoph-fit-spec : {M : Type 1} → statement M
 aktinoph-fit-spec =

@@ -1,12 +1,14 @@
 -- `fitter::aktinoph_take_back` meets its contract. Assumes nothing.
 use mathlib.Core.Path.{ap, _∙_}
-use Rattle.judge.specs.Answers.{packed}
+use Rattle.plans.specs.Answers.{packed}
 use borrow.Author.Needs.{needs}
 use Rattle.fitter.proofs.aktinoph_take_back.Statement.{statement}
 use Rattle.fitter.proofs.aktinoph_take_back.Tie as tie
 
 returns : tie.Need-returns
-returns c = (c .code-of .ensures ∙ ap (λ o. packed (o .answer)) (c .before .before .before .before .before .rollback .ensures), ap (λ o. o .after) (c .before .before .before .before .before .rollback .ensures))
+returns c =
+    let r : tie.After-rollback = search in
+    (c .code-of .ensures ∙ ap (λ o. packed (o .answer)) (r .rollback .ensures), ap (λ o. o .after) (r .rollback .ensures))
 
 pub aktinoph-take-back-spec : {M : Type 1} → statement M
 aktinoph-take-back-spec =

@@ -11,13 +11,13 @@ use borrow.Author.Tests.{le-leb}
 use Rattle.word.specs.Bytes.{part}
 use Rattle.word.proofs.Laws.Lists.{length-part}
 use Rattle.order.specs.Windows.{lengthAllowed}
-use Rattle.journal.specs.Plans.{Piece, Verdict, refused, plan, Judge, LaysInside, Inside, spanOf}
-use Rattle.journal.specs.Journals.{oldAt, count, entries, held, blank, total, Sound, sound, noRoom}
+use Rattle.plans.specs.Plans.{Piece, Verdict, refused, plan, Judge, LaysInside, Inside, spanOf}
+use Rattle.journal.specs.Journals.{maxEntries, oldAt, count, held, entries, blank, total, Sound, sound, noRoom}
 use Rattle.history.specs.Calls.{journalFull, Files, Outcome, refuse, succeed, installed, settle, install, rolledBack, rollback, Call, Install, Rollback, calling, call}
 use Rattle.history.specs.Histories.{Standing, History, spans, laid, olds, stand, fall, told, AsTold}
 use Rattle.journal.proofs.Laws.Sound.{total-append, sound-test}
 use Rattle.history.proofs.Laws.Install.{room-left}
-use Rattle.journal.proofs.Laws.Span.{length-overwritten, span-inside, undone}
+use Rattle.plans.proofs.Laws.Span.{length-overwritten, span-inside, undone}
 use Rattle.history.proofs.Laws.Stack.{AllIn, all-in-append, journalOf, length-journal, count-journal, held-journal, entries-journal, sound-journal}
 use Rattle.history.proofs.Laws.Moves.{old-bytes, pushed, popped}
 
@@ -38,8 +38,8 @@ filesOf base xs free rest = record { image = laid base xs; journal = journalOf (
 -- that free and rest are what they should be, of standing installs that the judgement planned
 pub record Shape (judge : Judge) (base : List ℕ) (room : ℕ) (xs : List Standing) (free : ℕ) (rest : List ℕ) : Type 0 where
   pub short : length base ≤ 65536
-  pub slots : length (spans xs) + free ≡ 16
-  pub space : 136 + total (spans xs) + length rest ≡ room
+  pub slots : length (spans xs) + free ≡ maxEntries
+  pub space : oldAt + total (spans xs) + length rest ≡ room
   pub stands : Stands judge base room xs
 
 -- the files are those of the history
@@ -55,7 +55,7 @@ Agreed judge t o = (o .answer ≡ t .answer) × Agrees judge (t .after) (o .afte
 
 -- ---- lengths
 
-length-laid : (base : List ℕ) (xs : List Standing) → length (laid base xs) ≡ length base
+pub length-laid : (base : List ℕ) (xs : List Standing) → length (laid base xs) ≡ length base
 unfolding laid
 length-laid base [] = refl
 length-laid base (x ∷ xs) = length-overwritten (laid base xs) (x .pieces) ∙ length-laid base xs
@@ -98,11 +98,11 @@ module _ (judge : Judge) (lays : LaysInside judge) (base : List ℕ) (room : ℕ
       → Agrees judge (over (record { object = object; order = order; pieces = ps } ∷ xs)) (installed ps (filesOf base xs free rest))
   unfolding spans laid olds total
   stood xs zero rest w object order ps e ok =
-      let sixteen : length xs ≡ 16 = omega (arith, length-spans xs, w .slots) in
-      absurd (room-left (length xs) (total (spans xs)) (spanOf ps .size) room ok .0 sixteen)
+      let all : length xs ≡ maxEntries = omega (arith, length-spans xs, w .slots) in
+      absurd (room-left (length xs) (total (spans xs)) (spanOf ps .size) room ok .0 all)
   stood xs (suc free) rest w object order ps e ok =
       let n = spanOf ps .size in
-      let fits : 136 + total (spans xs) + n ≤ room = room-left (length xs) (total (spans xs)) n room ok .1 in
+      let fits : oldAt + total (spans xs) + n ≤ room = room-left (length xs) (total (spans xs)) n room ok .1 in
       record {
         free = free;
         rest = drop n rest;
@@ -127,7 +127,7 @@ module _ (judge : Judge) (lays : LaysInside judge) (base : List ℕ) (room : ℕ
       let old = part (laid base xs) (s .start) (s .size) in
       let inside : Inside (length (laid base xs)) (x .pieces) =
       rw (length-laid base xs) (lays (x .object) (x .order) (length base) (x .pieces) (t .0)) in
-      let slots : length (spans xs) + suc free ≡ 16 = omega (arith, simp length-append at (w .slots)) in
+      let slots : length (spans xs) + suc free ≡ maxEntries = omega (arith, simp length-append at (w .slots)) in
       record {
         free = suc free;
         rest = replicate (s .size) 0 ++ rest;
@@ -198,7 +198,7 @@ module _ (judge : Judge) (lays : LaysInside judge) (base : List ℕ) (room : ℕ
       settled : (v : Verdict) → judge object order (length base) ≡ v
           → Agreed judge (stand (over xs) object order v) (settle (filesOf base xs free rest) v)
       unfolding settle stand
-      settled (refused n p) e = (refl, here)
+      settled (refused a) e = (refl, here)
       settled (plan ps) e =
           rw (count-files, held-files, length-files) (roomed ps e (noRoom (length xs) (total (spans xs)) (spanOf ps .size) room) refl)
 

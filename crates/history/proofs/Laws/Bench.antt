@@ -7,10 +7,11 @@ use lib.ListN.{replicate}
 use Rattle.word.specs.Bytes.{le, leAt, bytes, part}
 use Rattle.word.specs.First.{first, everywhere, tabulate}
 use Rattle.order.specs.Windows.{lengthAllowed}
-use Rattle.journal.specs.Plans.{piece, Judge, plan, overwritten, end, lowest, spanOf}
+use Rattle.plans.specs.Plans.{piece, Judge, plan, overwritten, end, lowest, spanOf}
 use Rattle.journal.specs.Journals.{entry, entries, total, isBlank, endsWithin, sound, noRoom}
 use Rattle.history.specs.Writes.{saving, saved, restoring, releasing}
-use Rattle.history.specs.Calls.{done, journalFull, noneStands, Files, installed, settle, install, rolledBack, rollback, Install, Rollback, calling, call, answers, run}
+use Rattle.plans.specs.Answers.{done}
+use Rattle.history.specs.Calls.{journalFull, noneStands, Files, installed, settle, install, rolledBack, rollback, Install, Rollback, calling, call, answers, run}
 
 -- an empty journal of 140 bytes, and the bytes of the bench
 abbrev pub empty : List ℕ

@@ -8,9 +8,10 @@ use mathlib.Core.List.{List, [], _∷_, _++_}
 use lib.ListN.{length}
 use lib.Dec.{eqb}
 use Rattle.order.specs.Windows.{lengthAllowed}
-use Rattle.journal.specs.Plans.{Piece, Verdict, refused, plan, Judge, LaysInside, spanOf}
+use Rattle.plans.specs.Plans.{Piece, Verdict, refused, plan, Judge, LaysInside, spanOf}
 use Rattle.journal.specs.Journals.{count, held, sound, noRoom}
-use Rattle.history.specs.Calls.{Answer, done, Files, Outcome, settle, install, rollback, Call, Install, Rollback, calling, call, answers, run}
+use Rattle.plans.specs.Answers.{Answer, done}
+use Rattle.history.specs.Calls.{Files, Outcome, settle, install, rollback, Call, Install, Rollback, calling, call, answers, run}
 use Rattle.history.specs.Histories.{History, begin, countOf, heldOf, stand, fall, told, Start, filesAfter, historyOf, Alike}
 use Rattle.history.proofs.Laws.Agree.{Agrees, agrees}
 use Rattle.history.proofs.Laws.History.{run-append, kept, same-answers, alike, run-over, agrees-after}
@@ -27,7 +28,7 @@ Keeps f o = (o .answer .number ≡ 0 → ⊥) → o .after ≡ f
 module _ (judge : Judge) (f : Files) where
   settle-keeps : (v : Verdict) → Keeps f (settle f v)
   unfolding settle Keeps
-  settle-keeps (refused n p) = λ r. refl
+  settle-keeps (refused a) = λ r. refl
   settle-keeps (plan ps) =
       either (Keeps f) (noRoom (count (f .journal)) (held (f .journal)) (spanOf ps .size) (length (f .journal))) _ _ (λ r. refl) (λ r. absurd (r refl))
 

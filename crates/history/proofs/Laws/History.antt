@@ -7,10 +7,11 @@ use mathlib.Core.Bool.{Bool, true, false, cond}
 use mathlib.Core.List.{List, [], _∷_, _++_}
 use lib.ListN.{length, drop, length-drop, replicate, replicate-append-replicate}
 use Rattle.word.specs.Bytes.{part}
-use Rattle.journal.specs.Plans.{Verdict, refused, plan, Judge, LaysInside, spanOf}
-use Rattle.journal.specs.Journals.{oldAt, total, noRoom}
-use Rattle.history.specs.Calls.{Answer, done, journalFull, noneStands, Files, Outcome, refuse, succeed, Call, Install, Rollback, calling, call, answers, run}
-use Rattle.history.specs.Histories.{Standing, History, begin, countOf, heldOf, spans, laid, olds, stand, fall, told, Start, filesAfter, historyOf, Alike, alone, standingAlone, Holds}
+use Rattle.plans.specs.Plans.{Verdict, refused, plan, Judge, LaysInside, spanOf}
+use Rattle.journal.specs.Journals.{maxEntries, oldAt, total, noRoom}
+use Rattle.plans.specs.Answers.{Answer, done}
+use Rattle.history.specs.Calls.{journalFull, noneStands, Files, Outcome, refuse, succeed, Call, Install, Rollback, calling, call, answers, run}
+use Rattle.history.specs.Histories.{Standing, History, begin, countOf, heldOf, spans, laid, olds, stand, fall, told, Start, filesAfter, historyOf, Alike, alone, standingAlone, Kind, Holds}
 use Rattle.history.proofs.Laws.Stack.{empty}
 use Rattle.history.proofs.Laws.Agree.{Stands, Agrees, agrees, agrees-told}
 
@@ -22,7 +23,7 @@ module _ {S : Type 0} (step : S → Call → Outcome S) where
   run-append s [] b = refl
   run-append s (c ∷ a) b = run-append (step s c .after) a b
 
-  answers-append : (s : S) (a b : List Call) → answers step s (a ++ b) ≡ answers step s a ++ answers step (run step s a) b
+  pub answers-append : (s : S) (a b : List Call) → answers step s (a ++ b) ≡ answers step s a ++ answers step (run step s a) b
   unfolding run answers
   answers-append s [] b = refl
   answers-append s (c ∷ a) b = ap (λ (l : List Answer). step s c .answer ∷ l) (answers-append (step s c .after) a b)
@@ -93,7 +94,7 @@ Over h h′ = (h′ .start ≡ h .start) × (h′ .room ≡ h .room)
 module _ (judge : Judge) where
   stand-over : (h : History) (object order : List ℕ) (v : Verdict) → Over h (stand h object order v .after)
   unfolding stand
-  stand-over h object order (refused n p) = (refl, refl)
+  stand-over h object order (refused a) = (refl, refl)
   stand-over h object order (plan ps) = go (noRoom (countOf h) (heldOf h) (spanOf ps .size) (h .room))
     where
       go : (b : Bool)
@@ -127,8 +128,8 @@ started judge start s =
     let j = start .journal in
     let e = empty j (length (start .image)) (s .sound) (s .none) in
     record {
-      free = 16;
-      rest = drop 136 j;
+      free = maxEntries;
+      rest = drop oldAt j;
       shape = record {
         short = s .allowed;
         slots = refl;
@@ -155,9 +156,10 @@ unfolding fall
 fall-some h [] some = absurd (some refl)
 fall-some h (x ∷ xs) some = refl
 
-pub history-holds : (judge : Judge) → LaysInside judge → (start : Files) → Start start → (calls : List Call) → Holds (call judge) judge start calls
+pub history-holds : (judge : Judge) → LaysInside judge → (K : Kind) (start : Files) → Start start → (calls : List Call)
+    → Holds (call judge) judge K start calls (answers (call judge) start calls) (filesAfter (call judge) start calls)
 unfolding told calling
-history-holds judge lays start s calls =
+history-holds judge lays K start s calls =
     let first : Agrees judge (begin start) start = started judge start s in
     let xs : List Standing = historyOf judge start calls .standing in
     let last : Agrees judge (historyOf judge start calls) (filesAfter (call judge) start calls) = agrees-after judge lays start s calls in
@@ -177,6 +179,6 @@ history-holds judge lays start s calls =
       alone-done = same-answers judge lays (standingAlone judge start calls) (begin start) start first
           ∙ alone-answers judge lays (start .image) (length (start .journal)) xs stands;
       alone-alike = alike judge lays _ _ _ only last;
-      next = λ c. agrees judge lays _ _ last c .0 ∙ sym (agrees judge lays _ _ only c .0);
-      further = λ more. same-answers judge lays more _ _ last ∙ sym (same-answers judge lays more _ _ only);
+      next = λ c k. agrees judge lays _ _ last c .0 ∙ sym (agrees judge lays _ _ only c .0);
+      further = λ more k. same-answers judge lays more _ _ last ∙ sym (same-answers judge lays more _ _ only);
     }

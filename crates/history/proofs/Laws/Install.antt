@@ -9,14 +9,15 @@ use lib.Dec.{eqb, ltb}
 use borrow.Author.Tests.{leb-true, ltb-false, eqb-false}
 use Rattle.word.proofs.Laws.Tests.{neither-left, neither-right}
 use Rattle.order.specs.Windows.{lengthAllowed}
-use Rattle.journal.specs.declared.Span.{Span}
-use Rattle.journal.specs.Plans.{Piece, refused, plan, Judge, Inside, overwritten, spanOf}
+use Rattle.plans.specs.declared.Span.{Span}
+use Rattle.plans.specs.Answers.{Answer}
+use Rattle.plans.specs.Plans.{Piece, refused, plan, Judge, Inside, overwritten, spanOf}
 use Rattle.journal.specs.Journals.{maxEntries, oldAt, count, held, entries, blank, Sound, sound, noRoom}
 use Rattle.history.specs.Writes.{saved}
 use Rattle.history.specs.Facts.{Savable}
 use Rattle.history.specs.Calls.{journalUnsound, journalFull, Files, refuse, succeed, installed, settle, install}
 use Rattle.journal.proofs.Laws.Sound.{test-sound, entries-length, entries-at, total-le}
-use Rattle.journal.proofs.Laws.Span.{span-inside}
+use Rattle.plans.proofs.Laws.Span.{span-inside}
 
 -- where check 15 is not broken, there is an entry, and room for the span
 pub room-left : (n k size len : ℕ) → noRoom n k size len ≡ false → (n ≡ maxEntries → ⊥) × (oldAt + k + size ≤ len)
@@ -27,10 +28,10 @@ room-left n k size len e = (
 )
 
 -- k of a sound journal is small where the image is short
-pub held-small : (j : List ℕ) (len : ℕ) → Sound j len → len ≤ 65536 → held j ≤ 65536 * 16
+pub held-small : (j : List ℕ) (len : ℕ) → Sound j len → len ≤ 65536 → held j ≤ 65536 * maxEntries
 held-small j len s short =
     let size : (i : ℕ) → i < length (entries j) → getD (entries j) i blank .size ≤ 65536 =
-    λ i l. let in16 : i < 16 = omega (arith, entries-length j) in rw (entries-at j i in16) (omega (arith, s .inside i in16)) in
+    λ i l. let some : i < maxEntries = omega (arith, entries-length j) in rw (entries-at j i some) (omega (arith, s .inside i some)) in
     omega (arith, s .held-is, entries-length j, total-le 65536 (entries j) size)
 
 module _ (judge : Judge) (object order : List ℕ) (f : Files) where
@@ -39,10 +40,9 @@ module _ (judge : Judge) (object order : List ℕ) (f : Files) where
   unsound e = rw e
 
   module _ (ok : sound (f .journal) (length (f .image)) ≡ true) where
-    pub refused-by : (n p : ℕ) → judge object order (length (f .image)) ≡ refused n p
-        → refuse (record { number = n; place = p }) f ≡ install judge object order f
+    pub refused-by : (a : Answer) → judge object order (length (f .image)) ≡ refused a → refuse a f ≡ install judge object order f
     unfolding install settle
-    refused-by n p e = rw (ok, e)
+    refused-by a e = rw (ok, e)
 
     module _ (ps : List Piece) (e : judge object order (length (f .image)) ≡ plan ps) where
       pub full : noRoom (count (f .journal)) (held (f .journal)) (spanOf ps .size) (length (f .journal)) ≡ true

@@ -7,9 +7,9 @@ use lib.ListN.{length, length-append, replicate, length-replicate}
 use lib.Seq.{sets, take-at, drop-at}
 use Rattle.word.specs.Bytes.{part}
 use Rattle.word.proofs.Laws.Lists.{length-part}
-use Rattle.journal.specs.declared.Span.{Span}
-use Rattle.journal.specs.Plans.{Piece, overwritten, spanOf}
-use Rattle.journal.specs.Journals.{oldAt, count, held, entry, total}
+use Rattle.plans.specs.declared.Span.{Span}
+use Rattle.plans.specs.Plans.{Piece, overwritten, spanOf}
+use Rattle.journal.specs.Journals.{maxEntries, oldAt, count, held, entry, total}
 use Rattle.history.specs.Writes.{saving, saved, restoring, releasing}
 use Rattle.history.specs.Calls.{installed, rolledBack}
 use Rattle.journal.proofs.Laws.Sound.{total-append}
@@ -17,7 +17,7 @@ use Rattle.journal.proofs.Laws.Format.{spelt}
 use Rattle.history.proofs.Laws.Stack.{AllIn, journalOf, count-journal, held-journal, entry-journal, length-journal, save-journal, release-journal, newest-at}
 
 -- the bytes that the newest span of a stack holds
-pub old-bytes : (ss : List Span) (free : ℕ) (o p r : List ℕ) (at n : ℕ) → length ss + free ≡ 16 → oldAt + length o ≡ at → length p ≡ n
+pub old-bytes : (ss : List Span) (free : ℕ) (o p r : List ℕ) (at n : ℕ) → length ss + free ≡ maxEntries → oldAt + length o ≡ at → length p ≡ n
     → part (journalOf ss free (o ++ p ++ r)) at n ≡ p
 unfolding part journalOf spelt
 old-bytes ss free o p r at n slots ea en =
@@ -25,7 +25,7 @@ old-bytes ss free o p r at n slots ea en =
     let whole : journalOf ss free (o ++ p ++ r) ≡ front ++ (p ++ r) = simp append-assoc in
     rw (whole, drop-at front (p ++ r) at (length-journal ss free o slots ∙ ea)) (take-at p r n en)
 
-module _ (image : List ℕ) (ss : List Span) (free : ℕ) (o p r : List ℕ) (len : ℕ) (slots : length ss + suc free ≡ 16) (short : len ≤ 65536)
+module _ (image : List ℕ) (ss : List Span) (free : ℕ) (o p r : List ℕ) (len : ℕ) (slots : length ss + suc free ≡ maxEntries) (short : len ≤ 65536)
     (holds : length o ≡ total ss) where
   -- an install onto the stack ss, where p are the bytes that the old ones take the place of
   pub pushed : (ps : List Piece) → AllIn len ss → spanOf ps .start + spanOf ps .size ≤ length image → length p ≡ spanOf ps .size
@@ -53,7 +53,7 @@ module _ (image : List ℕ) (ss : List Span) (free : ℕ) (o p r : List ℕ) (le
       let stack = ss ++ s ∷ [] in
       let tail = o ++ p ++ r in
       let j = journalOf stack free tail in
-      let slots′ : length stack + free ≡ 16 = simp length-append (omega arith) in
+      let slots′ : length stack + free ≡ maxEntries = simp length-append (omega arith) in
       let ec : count j - 1 ≡ length ss = rw (count-journal stack free tail slots′, length-append) (omega arith) in
       let es : entry j (length ss) ≡ s = entry-journal stack free tail slots′ len short ins (length ss) (omega arith) ∙ newest-at ss s free in
       let ek : held j - s .size ≡ total ss = rw (held-journal stack free tail slots′ len short ins, total-append) (unfold total in omega arith) in

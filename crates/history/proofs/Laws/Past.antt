@@ -13,15 +13,15 @@ use Rattle.word.proofs.Laws.Bytes.{length-bytes, leAt-take}
 use Rattle.word.proofs.Laws.First.{tabulate-same}
 use Rattle.word.proofs.Laws.Lists.{length-part, part-take}
 use Rattle.order.specs.Windows.{lengthAllowed}
-use Rattle.journal.specs.declared.Span.{Span}
-use Rattle.journal.specs.Plans.{Piece, Inside, Verdict, refused, plan, Judge, overwritten, spanOf}
+use Rattle.plans.specs.declared.Span.{Span}
+use Rattle.plans.specs.Plans.{Piece, Inside, Verdict, refused, plan, Judge, overwritten, spanOf}
 use Rattle.journal.specs.Journals.{maxEntries, countAt, entryAt, heldAt, oldAt, count, held, entry, entries, total, Sound, sound, noRoom}
 use Rattle.history.specs.Writes.{newest, heldBelow, saving, saved, restoring, releasing}
 use Rattle.history.specs.Facts.{Savable, Undoable}
 use Rattle.history.specs.Calls.{journalUnsound, windowBroken, journalFull, noneStands, Files, Outcome, refuse, succeed, rolledBack, rollback, installed, settle, install, Call, Install, Rollback, calling, call}
 use Rattle.journal.proofs.Laws.Sound.{test-sound, sound-test, unsound-test}
 use Rattle.history.proofs.Laws.Rollback.{undoable}
-use Rattle.journal.proofs.Laws.Span.{end-le, drop-overwritten}
+use Rattle.plans.proofs.Laws.Span.{end-le, drop-overwritten}
 
 -- ---- not written
 
@@ -147,7 +147,7 @@ module _ (image j j′ : List ℕ) (length-same : length j ≡ length j′) (fir
 
   settle-same : (v : Verdict) → Same (settle here v) (settle there v)
   unfolding settle installed
-  settle-same (refused n p) = (refl, refl)
+  settle-same (refused a) = (refl, refl)
   settle-same (plan ps) =
       rw (← (seen .count-same), ← (seen .held-same), ← length-same) (go (noRoom (count j) (held j) (spanOf ps .size) (length j)))
     where

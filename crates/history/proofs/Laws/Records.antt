@@ -10,10 +10,10 @@ use lib.Seq.{sets, length-sets}
 use Rattle.word.specs.Bytes.{bytes, part}
 use Rattle.word.proofs.Laws.Bytes.{length-bytes}
 use Rattle.word.proofs.Laws.Lists.{length-part, part-stored, getD-sets-other}
-use Rattle.journal.specs.declared.Span.{Span}
-use Rattle.journal.specs.Plans.{Piece, piece, overwritten, spanOf}
-use Rattle.journal.specs.Journals.{maxEntries, countAt, entryAt, heldAt, oldAt, count, held, entry, blank, entryBytes}
-use Rattle.journal.proofs.Laws.Span.{length-overwritten}
+use Rattle.plans.specs.declared.Span.{Span}
+use Rattle.plans.specs.Plans.{Piece, piece, overwritten, spanOf}
+use Rattle.journal.specs.Journals.{maxEntries, entrySize, countAt, entryAt, heldAt, oldAt, count, held, entry, blank, entryBytes}
+use Rattle.plans.proofs.Laws.Span.{length-overwritten}
 use Rattle.journal.proofs.Laws.Format.{length-entry}
 use Rattle.journal.proofs.Laws.Pieces.{part-clear, number-stored, entry-stored, entry-clear}
 use Rattle.history.specs.Writes.{newest, heldBelow, saving, saved, restoring, releasing}
@@ -23,10 +23,10 @@ use Rattle.history.specs.Records.{Appended, Released}
 use Rattle.history.proofs.Laws.Past.{past-saved, past-released}
 
 -- another entry lies before or behind
-other-entry : (i n : ℕ) → (i ≡ n → ⊥) → (entryAt i + 8 ≤ entryAt n) ⊎ (entryAt n + 8 ≤ entryAt i)
+other-entry : (i n : ℕ) → (i ≡ n → ⊥) → (entryAt i + entrySize ≤ entryAt n) ⊎ (entryAt n + entrySize ≤ entryAt i)
 other-entry i n out = go (decLt i n)
   where
-    go : Dec (i < n) → (entryAt i + 8 ≤ entryAt n) ⊎ (entryAt n + 8 ≤ entryAt i)
+    go : Dec (i < n) → (entryAt i + entrySize ≤ entryAt n) ⊎ (entryAt n + entrySize ≤ entryAt i)
     go (yes h) = inl (omega arith)
     go (no h) = inr (omega arith)
 
@@ -78,7 +78,7 @@ module _ (image j : List ℕ) (s : Span) (v : Savable image j s) (short : length
   unfolding saved saving
   saved-others i h out = go (other-entry i (count j) out)
     where
-      go : (entryAt i + 8 ≤ entryAt (count j)) ⊎ (entryAt (count j) + 8 ≤ entryAt i) → entry (overwritten j (saving image j s)) i ≡ entry j i
+      go : (entryAt i + entrySize ≤ entryAt (count j)) ⊎ (entryAt (count j) + entrySize ≤ entryAt i) → entry (overwritten j (saving image j s)) i ≡ entry j i
       go (inl b) =
           entry-clear j i (saving image j s)
           (inl (omega arith), (inl (omega arith), (inl (omega arith), (inr (rw length-bytes (omega arith)), tt))))
@@ -187,7 +187,7 @@ module _ (image j : List ℕ) (u : Undoable image j) (small : held j < 2 ^ 32) w
   unfolding releasing
   released-others i h out = go (other-entry i (count j - 1) out)
     where
-      go : (entryAt i + 8 ≤ entryAt (count j - 1)) ⊎ (entryAt (count j - 1) + 8 ≤ entryAt i) → entry after i ≡ entry j i
+      go : (entryAt i + entrySize ≤ entryAt (count j - 1)) ⊎ (entryAt (count j - 1) + entrySize ≤ entryAt i) → entry after i ≡ entry j i
       go (inl b) =
           entry-clear j i (releasing j)
           (inr (rw length-bytes (omega arith)), (inl (omega arith), (inl (omega arith), (inl (omega arith), tt))))

@@ -9,8 +9,8 @@ use lib.Seq.{sets}
 use borrow.Author.Tests.{eq-eqb, ne-eqb}
 use Rattle.order.specs.Windows.{lengthAllowed}
 use Rattle.word.specs.Bytes.{bytes, part}
-use Rattle.journal.specs.declared.Span.{Span}
-use Rattle.journal.specs.Plans.{overwritten}
+use Rattle.plans.specs.declared.Span.{Span}
+use Rattle.plans.specs.Plans.{overwritten}
 use Rattle.journal.specs.Journals.{maxEntries, countAt, entryAt, heldAt, oldAt, count, held, entry, entries, blank, entryBytes, total, Sound, sound}
 use Rattle.journal.proofs.Laws.Sound.{size-le-total, entries-length, entries-at}
 use Rattle.history.specs.Writes.{restoring, releasing}

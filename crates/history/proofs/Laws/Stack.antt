@@ -10,9 +10,9 @@ use Rattle.word.specs.Bytes.{leAt, bytes}
 use Rattle.word.specs.First.{tabulate}
 use Rattle.word.proofs.Laws.Bytes.{le-zero}
 use Rattle.word.proofs.Laws.First.{tabulate-same}
-use Rattle.journal.specs.declared.Span.{Span}
-use Rattle.journal.specs.Plans.{piece, overwritten}
-use Rattle.journal.specs.Journals.{countAt, entryAt, heldAt, oldAt, count, held, entry, entries, blank, entryBytes, total, Sound}
+use Rattle.plans.specs.declared.Span.{Span}
+use Rattle.plans.specs.Plans.{piece, overwritten}
+use Rattle.journal.specs.Journals.{maxEntries, entrySize, countAt, entryAt, heldAt, oldAt, count, held, entry, entries, blank, entryBytes, total, Sound}
 use Rattle.journal.proofs.Laws.Sound.{total-append, entries-at}
 use Rattle.journal.proofs.Laws.Format.{table, spelt, Small, entryFrom, entryFrom-drop, entryFrom-shift, length-spelt, count-spelt, held-spelt, entries-spelt, spelt-saving, spelt-releasing}
 
@@ -68,8 +68,8 @@ blank-past (s ∷ ss) m (suc i) h = blank-past ss m i (omega arith)
 unfoldable pub journalOf : List Span → ℕ → List ℕ → List ℕ
 journalOf ss free tail = spelt (length ss) (ss ++ replicate free blank) (total ss) tail
 
-module _ (ss : List Span) (free : ℕ) (tail : List ℕ) (slots : length ss + free ≡ 16) where
-  full : length (ss ++ replicate free blank) ≡ 16
+module _ (ss : List Span) (free : ℕ) (tail : List ℕ) (slots : length ss + free ≡ maxEntries) where
+  full : length (ss ++ replicate free blank) ≡ maxEntries
   full = simp (length-append, length-replicate) slots
 
   pub length-journal : length (journalOf ss free tail) ≡ oldAt + length tail
@@ -92,7 +92,7 @@ module _ (ss : List Span) (free : ℕ) (tail : List ℕ) (slots : length ss + fr
     unfolding journalOf
     entries-journal = entries-spelt (length ss) (ss ++ replicate free blank) (total ss) tail full (small len (ss ++ replicate free blank) short all-in)
 
-    pub entry-journal : (i : ℕ) → i < 16 → entry (journalOf ss free tail) i ≡ getD (ss ++ replicate free blank) i blank
+    pub entry-journal : (i : ℕ) → i < maxEntries → entry (journalOf ss free tail) i ≡ getD (ss ++ replicate free blank) i blank
     entry-journal i h = sym (entries-at (journalOf ss free tail) i h) ∙ ap (λ l. getD l i blank) entries-journal
 
     pub sound-journal : total ss ≤ length tail → Sound (journalOf ss free tail) len
@@ -112,7 +112,7 @@ newest-at ss s free = rw append-assoc (getD-at ss s (replicate free blank) blank
 
 -- ---- a save and a release
 
-module _ (ss : List Span) (free : ℕ) (s : Span) (o p p′ r : List ℕ) (slots : length ss + suc free ≡ 16) (holds : length o ≡ total ss)
+module _ (ss : List Span) (free : ℕ) (s : Span) (o p p′ r : List ℕ) (slots : length ss + suc free ≡ maxEntries) (holds : length o ≡ total ss)
     (same : length p ≡ length p′) where
   -- p′ takes the place of as many bytes after the o that are held
   pub save-journal : overwritten (journalOf ss (suc free) (o ++ (p ++ r)))
@@ -124,7 +124,7 @@ module _ (ss : List Span) (free : ℕ) (s : Span) (o p p′ r : List ℕ) (slots
       ≡ journalOf (ss ++ s ∷ []) free (o ++ p′ ++ r)
   unfolding journalOf total
   save-journal =
-      let full : length (ss ++ blank ∷ replicate free blank) ≡ 16 = simp (length-append, length-replicate) slots in
+      let full : length (ss ++ blank ∷ replicate free blank) ≡ maxEntries = simp (length-append, length-replicate) slots in
       simp (append-assoc, length-append, total-append, add-zero)
       (rw holds at (spelt-saving (length ss) (length ss + 1) ss blank s (replicate free blank) (total ss) (total ss + s .size) o p p′ r full same))
 
@@ -138,39 +138,39 @@ module _ (ss : List Span) (free : ℕ) (s : Span) (o p p′ r : List ℕ) (slots
       ≡ journalOf ss (suc free) (o ++ (p′ ++ r))
   unfolding journalOf total
   release-journal =
-      let full : length (ss ++ s ∷ replicate free blank) ≡ 16 = simp (length-append, length-replicate) slots in
+      let full : length (ss ++ s ∷ replicate free blank) ≡ maxEntries = simp (length-append, length-replicate) slots in
       simp (append-assoc, length-append, total-append, add-zero)
       (rw holds at (spelt-releasing (length ss + 1) (length ss) ss s blank (replicate free blank) (total ss + s .size) (total ss) o p p′ r full same))
 
 -- ---- a sound journal in which nothing stands is the empty stack
 
 -- entries that are all blank are zeros
-zero-table : (m : ℕ) (s : List ℕ) → 8 * m ≤ length s → ((i : ℕ) → i < m → entryFrom s 0 i ≡ blank)
-    → s ≡ table (replicate m blank) ++ drop (8 * m) s
+zero-table : (m : ℕ) (s : List ℕ) → entrySize * m ≤ length s → ((i : ℕ) → i < m → entryFrom s 0 i ≡ blank)
+    → s ≡ table (replicate m blank) ++ drop (entrySize * m) s
 unfolding table leAt
 zero-table zero s h z = refl
 zero-table (suc m) s h z =
     let first = z 0 (omega arith) in
     let p : s ≡ bytes 4 0 ++ drop 4 s = le-zero 4 s (omega arith) (ap (λ (e : Span). e .start) first) in
-    let q : drop 4 s ≡ bytes 4 0 ++ drop 8 s =
+    let q : drop 4 s ≡ bytes 4 0 ++ drop entrySize s =
     simp drop-drop at (le-zero 4 (drop 4 s) (simp length-drop (omega arith)) (ap (λ (e : Span). e .size) first)) in
-    let r : drop 8 s ≡ table (replicate m blank) ++ drop (8 * m) (drop 8 s) =
-    zero-table m (drop 8 s) (simp length-drop (omega arith)) (λ i l. entryFrom-drop s 8 0 i ∙ sym (entryFrom-shift s 0 i) ∙ z (suc i) (omega arith)) in
-    let n : 8 * suc m ≡ 8 + 8 * m = omega arith in
+    let r : drop entrySize s ≡ table (replicate m blank) ++ drop (entrySize * m) (drop entrySize s) =
+    zero-table m (drop entrySize s) (simp length-drop (omega arith)) (λ i l. entryFrom-drop s entrySize 0 i ∙ sym (entryFrom-shift s 0 i) ∙ z (suc i) (omega arith)) in
+    let n : entrySize * suc m ≡ entrySize + entrySize * m = omega arith in
     rw n (p ∙ ap (λ (l : List ℕ). bytes 4 0 ++ l) (q ∙ ap (λ (l : List ℕ). bytes 4 0 ++ l) (simp drop-drop at r)) ∙ simp append-assoc)
 
-total-zero : (f : ℕ → Span) → ((i : ℕ) → i < 16 → f i ≡ blank) → total (tabulate f 16) ≡ 0
+total-zero : (f : ℕ → Span) → ((i : ℕ) → i < maxEntries → f i ≡ blank) → total (tabulate f maxEntries) ≡ 0
 unfolding tabulate total
-total-zero f z = ap total (tabulate-same f (λ i. blank) 16 z)
+total-zero f z = ap total (tabulate-same f (λ i. blank) maxEntries z)
 
-pub empty : (j : List ℕ) (len : ℕ) → Sound j len → count j ≡ 0 → (oldAt ≤ length j) × (j ≡ journalOf [] 16 (drop oldAt j))
+pub empty : (j : List ℕ) (len : ℕ) → Sound j len → count j ≡ 0 → (oldAt ≤ length j) × (j ≡ journalOf [] maxEntries (drop oldAt j))
 unfolding journalOf spelt entries entry total leAt
 empty j len k e =
     let fits : oldAt + held j ≤ length j = k .fits in
-    let blanks : (i : ℕ) → i < 16 → entry j i ≡ blank = λ i l. k .others-zero i (omega arith) l in
+    let blanks : (i : ℕ) → i < maxEntries → entry j i ≡ blank = λ i l. k .others-zero i (omega arith) l in
     let none : held j ≡ 0 = k .held-is ∙ total-zero (entry j) blanks in
     let a : j ≡ bytes 4 0 ++ drop 4 j = le-zero 4 j (omega arith) e in
-    let b : drop 4 j ≡ table (replicate 16 blank) ++ drop 132 j =
-    simp drop-drop at (zero-table 16 (drop 4 j) (simp length-drop (omega arith)) (λ i l. entryFrom-drop j 4 0 i ∙ blanks i l)) in
-    let c : drop 132 j ≡ bytes 4 0 ++ drop 136 j = simp drop-drop at (le-zero 4 (drop 132 j) (simp length-drop (omega arith)) none) in
-    (omega arith, a ∙ ap (λ (l : List ℕ). bytes 4 0 ++ l) (b ∙ ap (λ (l : List ℕ). table (replicate 16 blank) ++ l) c))
+    let b : drop 4 j ≡ table (replicate maxEntries blank) ++ drop heldAt j =
+    simp drop-drop at (zero-table maxEntries (drop 4 j) (simp length-drop (omega arith)) (λ i l. entryFrom-drop j 4 0 i ∙ blanks i l)) in
+    let c : drop heldAt j ≡ bytes 4 0 ++ drop oldAt j = simp drop-drop at (le-zero 4 (drop heldAt j) (simp length-drop (omega arith)) none) in
+    (omega arith, a ∙ ap (λ (l : List ℕ). bytes 4 0 ++ l) (b ∙ ap (λ (l : List ℕ). table (replicate maxEntries blank) ++ l) c))

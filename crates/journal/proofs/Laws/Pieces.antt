@@ -10,9 +10,9 @@ use lib.Seq.{sets, length-sets}
 use Rattle.word.specs.Bytes.{leAt, bytes, part}
 use Rattle.word.proofs.Laws.Bytes.{length-bytes, leAt-sets, leAt-sets-other}
 use Rattle.word.proofs.Laws.Lists.{sets-append, part-other}
-use Rattle.journal.specs.declared.Span.{Span}
-use Rattle.journal.specs.Plans.{Piece, piece, Inside, overwritten}
-use Rattle.journal.specs.Journals.{entryAt, entry, entryBytes}
+use Rattle.plans.specs.declared.Span.{Span}
+use Rattle.plans.specs.Plans.{Piece, piece, Inside, overwritten}
+use Rattle.journal.specs.Journals.{numberSize, entrySize, entryAt, entry, entryBytes}
 
 -- ---- places that no piece touches
 
@@ -39,29 +39,29 @@ module _ (s : List ℕ) (ps : List Piece) where
   unfolding overwritten
   number-stored n at x h l c = leAt-clear n (sets s at (bytes n x)) at ps c ∙ leAt-sets n s at x h ∙ mod-eq-of-lt l
 
-  pub entry-stored : (i : ℕ) (e : Span) → entryAt i + 8 ≤ length s → e .start < 2 ^ 32 → e .size < 2 ^ 32
-      → Clear (entryAt i) 4 ps → Clear (entryAt i + 4) 4 ps → entry (overwritten s (piece (entryAt i) (entryBytes e) ∷ ps)) i ≡ e
+  pub entry-stored : (i : ℕ) (e : Span) → entryAt i + entrySize ≤ length s → e .start < 2 ^ 32 → e .size < 2 ^ 32
+      → Clear (entryAt i) numberSize ps → Clear (entryAt i + numberSize) numberSize ps → entry (overwritten s (piece (entryAt i) (entryBytes e) ∷ ps)) i ≡ e
   unfolding overwritten entry
   entry-stored i e h hs hz c d =
-      let a : List ℕ = bytes 4 (e .start) in
-      let b : List ℕ = bytes 4 (e .size) in
-      let two : sets s (entryAt i) (a ++ b) ≡ sets (sets s (entryAt i) a) (entryAt i + 4) b =
-      sets-append s (entryAt i) a b (entryAt i + 4) (rw length-bytes refl) in
+      let a : List ℕ = bytes numberSize (e .start) in
+      let b : List ℕ = bytes numberSize (e .size) in
+      let two : sets s (entryAt i) (a ++ b) ≡ sets (sets s (entryAt i) a) (entryAt i + numberSize) b =
+      sets-append s (entryAt i) a b (entryAt i + numberSize) (rw length-bytes refl) in
       let long : length (sets s (entryAt i) a) ≡ length s = length-sets s (entryAt i) a in
-      let start : leAt 4 (overwritten (sets s (entryAt i) (a ++ b)) ps) (entryAt i) ≡ e .start =
-      leAt-clear 4 (sets s (entryAt i) (a ++ b)) (entryAt i) ps c
-      ∙ ap (λ l. leAt 4 l (entryAt i)) two
-      ∙ leAt-sets-other 4 (sets s (entryAt i) a) (entryAt i) (entryAt i + 4) b (inl (omega arith))
-      ∙ leAt-sets 4 s (entryAt i) (e .start) (omega arith)
+      let start : leAt numberSize (overwritten (sets s (entryAt i) (a ++ b)) ps) (entryAt i) ≡ e .start =
+      leAt-clear numberSize (sets s (entryAt i) (a ++ b)) (entryAt i) ps c
+      ∙ ap (λ l. leAt numberSize l (entryAt i)) two
+      ∙ leAt-sets-other numberSize (sets s (entryAt i) a) (entryAt i) (entryAt i + numberSize) b (inl (omega arith))
+      ∙ leAt-sets numberSize s (entryAt i) (e .start) (omega arith)
       ∙ mod-eq-of-lt hs in
-      let size : leAt 4 (overwritten (sets s (entryAt i) (a ++ b)) ps) (entryAt i + 4) ≡ e .size =
-      leAt-clear 4 (sets s (entryAt i) (a ++ b)) (entryAt i + 4) ps d
-      ∙ ap (λ l. leAt 4 l (entryAt i + 4)) two
-      ∙ leAt-sets 4 (sets s (entryAt i) a) (entryAt i + 4) (e .size) (omega arith)
+      let size : leAt numberSize (overwritten (sets s (entryAt i) (a ++ b)) ps) (entryAt i + numberSize) ≡ e .size =
+      leAt-clear numberSize (sets s (entryAt i) (a ++ b)) (entryAt i + numberSize) ps d
+      ∙ ap (λ l. leAt numberSize l (entryAt i + numberSize)) two
+      ∙ leAt-sets numberSize (sets s (entryAt i) a) (entryAt i + numberSize) (e .size) (omega arith)
       ∙ mod-eq-of-lt hz in
       let fields : _≡_ {A = Span} (entry (overwritten s (piece (entryAt i) (entryBytes e) ∷ ps)) i) (record { start = e .start; size = e .size }) = rw (start, size) in
       fields
 
-pub entry-clear : (s : List ℕ) (i : ℕ) (ps : List Piece) → Clear (entryAt i) 4 ps → Clear (entryAt i + 4) 4 ps → entry (overwritten s ps) i ≡ entry s i
+pub entry-clear : (s : List ℕ) (i : ℕ) (ps : List Piece) → Clear (entryAt i) numberSize ps → Clear (entryAt i + numberSize) numberSize ps → entry (overwritten s ps) i ≡ entry s i
 unfolding entry
-entry-clear s i ps c d = rw (leAt-clear 4 s (entryAt i) ps c, leAt-clear 4 s (entryAt i + 4) ps d)
+entry-clear s i ps c d = rw (leAt-clear numberSize s (entryAt i) ps c, leAt-clear numberSize s (entryAt i + numberSize) ps d)

@@ -10,8 +10,8 @@ use borrow.Author.Tests.{le-leb, leb-true, le-ltb, ltb-false, eqb-true, eq-eqb}
 use Rattle.word.specs.First.{everywhere, tabulate}
 use Rattle.word.proofs.Laws.Tests.{and-left, and-right, and-true, or-right}
 use Rattle.word.proofs.Laws.First.{everywhere-at, everywhere-is, tabulate-snoc, length-tabulate, getD-tabulate}
-use Rattle.journal.specs.declared.Span.{Span}
-use Rattle.journal.specs.Journals.{maxEntries, count, entry, entries, held, blank, total, Sound, isBlank, endsWithin, sound}
+use Rattle.plans.specs.declared.Span.{Span}
+use Rattle.journal.specs.Journals.{maxEntries, oldAt, count, entry, entries, held, blank, total, Sound, isBlank, endsWithin, sound}
 
 -- ---- sums of lengths
 
@@ -97,7 +97,7 @@ module _ (j : List ℕ) (len : ℕ) where
       go false e = refl
 
   -- the last thing that is tested
-  pub sound-by-held : (s : ℕ) → s ≡ total (entries j) → count j ≤ maxEntries → 136 + held j ≤ length j
+  pub sound-by-held : (s : ℕ) → s ≡ total (entries j) → count j ≤ maxEntries → oldAt + held j ≤ length j
       → ((i : ℕ) → i < maxEntries → allowed j len i ≡ true)
       → eqb (held j) s ≡ sound j len
   unfolding sound
@@ -114,10 +114,10 @@ module _ (j : List ℕ) (len : ℕ) where
 
 -- ---- what a sound journal tells
 
-pub entries-length : (j : List ℕ) → length (entries j) ≡ 16
+pub entries-length : (j : List ℕ) → length (entries j) ≡ maxEntries
 unfolding entries
-entries-length j = length-tabulate (entry j) 16
+entries-length j = length-tabulate (entry j) maxEntries
 
-pub entries-at : (j : List ℕ) (i : ℕ) → i < 16 → getD (entries j) i blank ≡ entry j i
+pub entries-at : (j : List ℕ) (i : ℕ) → i < maxEntries → getD (entries j) i blank ≡ entry j i
 unfolding entries
-entries-at j i h = getD-tabulate (entry j) 16 i blank h
+entries-at j i h = getD-tabulate (entry j) maxEntries i blank h

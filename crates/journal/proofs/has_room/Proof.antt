@@ -5,7 +5,7 @@ use lib.ListN.{length}
 use borrow.Author.Tests.{lt-ltb}
 use native.Mathlib.Omega.{arith}
 use Rattle.word.proofs.Laws.Tests.{or-true}
-use Rattle.journal.specs.Journals.{held, noRoom}
+use Rattle.journal.specs.Journals.{oldAt, held, noRoom}
 use borrow.Author.Needs.{needs}
 use Rattle.journal.proofs.has_room.Statement.{statement}
 use Rattle.journal.proofs.has_room.Tie as tie
@@ -13,9 +13,9 @@ use Rattle.journal.proofs.has_room.Tie as tie
 returns : tie.Need-returns
 unfolding noRoom
 returns c =
-    let j : List ℕ = c .before .before .args .journal .now in
-    let size : ℕ = c .before .before .args .size in
-    rw (lt-ltb (length j) (136 + held j + size) (omega arith), or-true)
+    let s : tie.Start = search in
+    let j : List ℕ = s .args .journal .now in
+    rw (lt-ltb (length j) (oldAt + held j + s .args .size) (omega arith), or-true)
 
 returns-2 : tie.Need-returns-2
 unfolding noRoom

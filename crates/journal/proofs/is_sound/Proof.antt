@@ -9,8 +9,8 @@ use borrow.Author.Count.{below-more}
 use borrow.Author.Tests.{not-false}
 use Rattle.word.specs.First.{tabulate}
 use Rattle.word.proofs.Laws.Tests.{not-both}
-use Rattle.journal.specs.declared.Span.{Span}
-use Rattle.journal.specs.Journals.{entry, entries, total}
+use Rattle.plans.specs.declared.Span.{Span}
+use Rattle.journal.specs.Journals.{maxEntries, entry, entries, total}
 use Rattle.journal.proofs.Laws.Sound.{allowed, allowed-is, unsound-test, sound-entry, sound-by-held, total-snoc}
 use borrow.Author.Needs.{needs}
 use Rattle.journal.proofs.is_sound.Statement.{statement}
@@ -18,10 +18,10 @@ use Rattle.journal.proofs.is_sound.Tie as tie
 
 abbrev Inv-loop : tie.InvT-loop
 Inv-loop journal len n k sum₀ i₀ sum i =
-    (i ≤ 16) × (sum ≤ 2 ^ 32 * i) × (sum ≡ total (tabulate (entry journal) i)) × ((m : ℕ) → m < i → allowed journal len m ≡ true)
+    (i ≤ maxEntries) × (sum ≤ 2 ^ 32 * i) × (sum ≡ total (tabulate (entry journal) i)) × ((m : ℕ) → m < i → allowed journal len m ≡ true)
 
 abbrev μ-loop : tie.MeasureT-loop
-μ-loop journal len n k sum₀ i₀ sum i = 16 - i
+μ-loop journal len n k sum₀ i₀ sum i = maxEntries - i
 
 returns : tie.Need-returns Inv-loop μ-loop
 returns c = unsound-test _ _ (λ k. omega (arith, k .fits))
@@ -36,38 +36,60 @@ loop-holds : tie.Need-loop-holds Inv-loop μ-loop
 unfolding tabulate total
 loop-holds c = (omega arith, omega arith, refl, λ m h. absurd (omega arith))
 
+-- ---- in a turn where the entry has been tested, and on the way there the turn's begin and the start
+
+abbrev turn : tie.After-entry-allowed Inv-loop μ-loop → tie.In-loop Inv-loop μ-loop
+turn c = c .before .before
+
+abbrev start : tie.After-entry-allowed Inv-loop μ-loop → tie.Start Inv-loop μ-loop
+start c = turn c .before .before .before .before .before .before .before .before
+
+abbrev j : tie.After-entry-allowed Inv-loop μ-loop → List ℕ
+j c = start c .args .journal .now
+
+abbrev len : tie.After-entry-allowed Inv-loop μ-loop → ℕ
+len c = start c .args .len
+
+abbrev i : tie.After-entry-allowed Inv-loop μ-loop → ℕ
+i c = turn c .before .loop .i
+
+tested : (c : tie.After-entry-allowed Inv-loop μ-loop) → c .entry-allowed .result ≡ allowed (j c) (len c) (i c)
+tested c =
+    let e : tie.After-read-entry Inv-loop μ-loop = search in
+    let n : tie.After-read32 Inv-loop μ-loop = search in
+    allowed-is (j c) (len c) (i c) (n .read32 .result) (e .read-entry .result) (c .entry-allowed .result) (n .read32 .ensures) (e .read-entry .ensures) (c .entry-allowed .ensures)
+
 returns-4 : tie.Need-returns-4 Inv-loop μ-loop
 returns-4 c =
-    let j : List ℕ = c .before .before .before .before .before .before .before .before .before .before .before .args .journal .now in
-    let i : ℕ = c .before .before .before .before .loop .i in
-    let same : c .before .entry-allowed .result ≡ allowed j (c .before .before .before .before .before .before .before .before .before .before .before .args .len) i =
-    allowed-is j (c .before .before .before .before .before .before .before .before .before .before .before .args .len) i (c .before .before .before .before .before .before .before .before .read32 .result) (c .before .before .read-entry .result) (c .before .entry-allowed .result) (c .before .before .before .before .before .before .before .before .read32 .ensures) (c .before .before .read-entry .ensures) (c .before .entry-allowed .ensures) in
-    unsound-test j (c .before .before .before .before .before .before .before .before .before .before .before .args .len) (λ k. not-both _ _ (c .if4 .taken) same (sound-entry j (c .before .before .before .before .before .before .before .before .before .before .before .args .len) k i (omega arith)))
+    let at : tie.After-entry-allowed Inv-loop μ-loop = search in
+    unsound-test (j at) (len at) (λ k. not-both _ _ (c .if4 .taken) (tested at) (sound-entry (j at) (len at) k (i at) (omega arith)))
 
 add-sum : tie.Need-add-sum Inv-loop μ-loop
 add-sum c = omega arith
 
 loop-again : tie.Need-loop-again Inv-loop μ-loop
 loop-again c =
-    let j : List ℕ = c .before .before .before .before .before .before .before .before .before .before .before .before .args .journal .now in
-    let i : ℕ = c .before .before .before .before .before .loop .i in
-    let same : c .before .before .entry-allowed .result ≡ allowed j (c .before .before .before .before .before .before .before .before .before .before .before .before .args .len) i =
-    allowed-is j (c .before .before .before .before .before .before .before .before .before .before .before .before .args .len) i (c .before .before .before .before .before .before .before .before .before .read32 .result) (c .before .before .before .read-entry .result) (c .before .before .entry-allowed .result) (c .before .before .before .before .before .before .before .before .before .read32 .ensures) (c .before .before .before .read-entry .ensures) (c .before .before .entry-allowed .ensures) in
-    let size : c .before .before .before .read-entry .result .size ≡ entry j i .size = ap (λ (s : Span). s .size) (c .before .before .before .read-entry .ensures) in (
+    let passed : tie.Else4 Inv-loop μ-loop = search in
+    let at : tie.After-entry-allowed Inv-loop μ-loop = search in
+    let e : tie.After-read-entry Inv-loop μ-loop = search in
+    let inv = turn at .before .loop .inv in
+    let size : e .read-entry .result .size ≡ entry (j at) (i at) .size = ap (λ (s : Span). s .size) (e .read-entry .ensures) in (
       omega arith,
       omega arith,
-      rw (add-one i, total-snoc (entry j) i) (omega (arith, c .before .before .before .before .before .loop .inv .2)),
-      below-more _ _ (c .before .before .before .before .before .loop .inv .3) (sym same ∙ not-false _ (c .before .if4 .left)),
+      rw (add-one (i at), total-snoc (entry (j at)) (i at)) (omega (arith, inv .2)),
+      below-more _ _ (inv .3) (sym (tested at) ∙ not-false _ (passed .if4 .left)),
     )
 
 returns-5 : tie.Need-returns-5 Inv-loop μ-loop
 unfolding entries
 returns-5 c =
-    let j : List ℕ = c .before .before .before .before .before .before .before .before .args .journal .now in
-    let end : c .before .loop .i ≡ 16 = omega arith in
-    rw (c .before .before .before .before .read322 .ensures)
-    (sound-by-held j (c .before .before .before .before .before .before .before .before .args .len) (c .before .loop .sum) (rw end at (c .before .loop .inv .2)) (omega arith) (omega arith)
-    (λ i h. c .before .loop .inv .3 i (omega arith)))
+    let at : tie.At-loop Inv-loop μ-loop = search in
+    let k : tie.After-read322 Inv-loop μ-loop = search in
+    let s : tie.Start Inv-loop μ-loop = search in
+    let end : at .loop .i ≡ maxEntries = omega arith in
+    rw (k .read322 .ensures)
+    (sound-by-held (s .args .journal .now) (s .args .len) (at .loop .sum) (rw end at (at .loop .inv .2)) (omega arith) (omega arith)
+    (λ i h. at .loop .inv .3 i (omega arith)))
 
 pub is-sound-spec : {M : Type 1} → statement M
 is-sound-spec =

@@ -1,6 +1,7 @@
 -- `judge::code_of` meets its contract. Assumes nothing.
 use mathlib.Core.Path.{sym, ap, _∙_}
-use Rattle.judge.specs.Answers.{answerOf, packed}
+use Rattle.plans.specs.Answers.{packed}
+use Rattle.judge.specs.Answers.{answerOf}
 use borrow.Author.Needs.{needs}
 use Rattle.judge.proofs.code_of.Statement.{statement}
 use Rattle.judge.proofs.code_of.Tie as tie

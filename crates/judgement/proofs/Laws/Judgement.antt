@@ -18,8 +18,10 @@ use Rattle.order.proofs.Laws.Sound.{Sound, countsOf, wellFormed-sound, reading-
 use Rattle.validate.specs.declared.ObjectCheck.{ObjectCheck}
 use Rattle.validate.specs.declared.ObjectCheck.the-variants.{Passed, BadHeader, BadSection}
 use Rattle.validate.specs.Rules.{objectCheck}
+use Rattle.elf.specs.Headers.{addressWidth}
 use Rattle.elf.specs.Entries.{relocationCount}
-use Rattle.journal.specs.Plans.{Piece, refused, plan}
+use Rattle.plans.specs.Answers.{Answer, says}
+use Rattle.plans.specs.Plans.{Piece, refused, plan}
 use Rattle.place.specs.declared.Fault.{Fault}
 use Rattle.place.specs.declared.Fault.the-variants.{Nowhere, At}
 use Rattle.place.specs.Placements.{placementCheck}
@@ -81,39 +83,39 @@ some-number OffBoundary e = refl
 -- ---- the verdict at each check
 
 module _ (object order : List ℕ) (len : ℕ) where
-  pub gives-2 : reading order ≡ Malformed → judgement object order len ≡ refused 2 0
+  pub gives-2 : reading order ≡ Malformed → judgement object order len ≡ refused (says 2 0)
   unfolding judgement
   gives-2 e = rw (not-formed order e)
 
   module _ (counts : Counts) where
-    pub gives-3 : reading order ≡ WellFormed counts → windowAllowed (base order) len ≡ false → judgement object order len ≡ refused 3 0
+    pub gives-3 : reading order ≡ WellFormed counts → windowAllowed (addressWidth object) (base order) len ≡ false → judgement object order len ≡ refused (says 3 0)
     unfolding judgement
     gives-3 e w = rw (formed order counts e, w)
 
-    pub gives-4 : reading order ≡ WellFormed counts → windowAllowed (base order) len ≡ true → objectCheck object ≡ BadHeader → judgement object order len ≡ refused 4 0
+    pub gives-4 : reading order ≡ WellFormed counts → windowAllowed (addressWidth object) (base order) len ≡ true → objectCheck object ≡ BadHeader → judgement object order len ≡ refused (says 4 0)
     unfolding judgement
     gives-4 e w o = rw (formed order counts e, w, o)
 
-    pub gives-5 : (i : ℕ) → reading order ≡ WellFormed counts → windowAllowed (base order) len ≡ true → objectCheck object ≡ BadSection i → judgement object order len ≡ refused 5 i
+    pub gives-5 : (i : ℕ) → reading order ≡ WellFormed counts → windowAllowed (addressWidth object) (base order) len ≡ true → objectCheck object ≡ BadSection i → judgement object order len ≡ refused (says 5 i)
     unfolding judgement
     gives-5 i e w o = rw (formed order counts e, w, o)
 
-    pub gives-6 : (i : ℕ) → Readable object order counts len → placementCheck object order ≡ At i → judgement object order len ≡ refused 6 i
+    pub gives-6 : (i : ℕ) → Readable object order counts len → placementCheck object order ≡ At i → judgement object order len ≡ refused (says 6 i)
     unfolding judgement
     gives-6 i r p = rw (formed order counts (r .reading-is), r .window, r .object-is, p)
 
-    pub gives-7 : (k : ℕ) → Readable object order counts len → placementCheck object order ≡ Nowhere → externalCheck object order ≡ At k → judgement object order len ≡ refused 7 k
+    pub gives-7 : (k : ℕ) → Readable object order counts len → placementCheck object order ≡ Nowhere → externalCheck object order ≡ At k → judgement object order len ≡ refused (says 7 k)
     unfolding judgement
     gives-7 k r p x = rw (formed order counts (r .reading-is), r .window, r .object-is, p, x)
 
-    pub gives-8 : (i : ℕ) → Named object order counts len → placingCheck object (addresses order) (base order) len ≡ At i → judgement object order len ≡ refused 8 i
+    pub gives-8 : (i : ℕ) → Named object order counts len → placingCheck object (addresses order) (base order) len ≡ At i → judgement object order len ≡ refused (says 8 i)
     unfolding judgement
     gives-8 i n p =
         let r = n .readable in
         rw (formed order counts (r .reading-is), r .window, r .object-is, n .placements, n .externals, p)
 
     pub gives-9-to-14 : (f : Finding) (k : ℕ) → Placeable object order counts len → relocationCheck object order (addresses order) ≡ Broken f k
-        → judgement object order len ≡ refused (number f) k
+        → judgement object order len ≡ refused (says (number f) k)
     unfolding judgement
     gives-9-to-14 f k p e =
         let n = p .named in
@@ -135,30 +137,30 @@ pub record Fits (object order : List ℕ) (len : ℕ) (ps : List Piece) : Type 0
   pub fitting : Fitting object order counts len
   pub plan-is : planOf object order ≡ ps
 
-wrong : {A : Type 0} (n p : ℕ) (ps : List Piece) → refused n p ≡ plan ps → A
-wrong n p ps e =
+wrong : {A : Type 0} (a : Answer) (ps : List Piece) → refused a ≡ plan ps → A
+wrong a ps e =
     let z : _≡_ {A = ℕ} 0 1 = cc in
     absurd (omega arith)
 
 pub plan-fits : (object order : List ℕ) (len : ℕ) (ps : List Piece) → judgement object order len ≡ plan ps → Fits object order len ps
 unfolding judgement
 plan-fits object order len ps h =
-    go (wellFormed order) refl (windowAllowed (base order) len) refl (objectCheck object) refl (placementCheck object order) refl (externalCheck object order) refl
+    go (wellFormed order) refl (windowAllowed (addressWidth object) (base order) len) refl (objectCheck object) refl (placementCheck object order) refl (externalCheck object order) refl
     (placingCheck object (addresses order) (base order) len) refl (relocationCheck object order (addresses order)) refl h
   where
-    go : (a : Bool) → wellFormed order ≡ a → (b : Bool) → windowAllowed (base order) len ≡ b → (c : ObjectCheck) → objectCheck object ≡ c
+    go : (a : Bool) → wellFormed order ≡ a → (b : Bool) → windowAllowed (addressWidth object) (base order) len ≡ b → (c : ObjectCheck) → objectCheck object ≡ c
         → (d : Fault) → placementCheck object order ≡ d → (e : Fault) → externalCheck object order ≡ e
         → (f : Fault) → placingCheck object (addresses order) (base order) len ≡ f → (g : RelocationCheck) → relocationCheck object order (addresses order) ≡ g
-        → cond a (cond b (afterObject c (afterFault 6 d (afterFault 7 e (afterFault 8 f (afterRelocations g (plan (planOf object order))))))) (refused 3 0)) (refused 2 0) ≡ plan ps
+        → cond a (cond b (afterObject c (afterFault 6 d (afterFault 7 e (afterFault 8 f (afterRelocations g (plan (planOf object order))))))) (refused (says 3 0))) (refused (says 2 0)) ≡ plan ps
         → Fits object order len ps
-    go false p₁ b p₂ c p₃ d p₄ e p₅ f p₆ g p₇ h = wrong 2 0 ps h
-    go true p₁ false p₂ c p₃ d p₄ e p₅ f p₆ g p₇ h = wrong 3 0 ps h
-    go true p₁ true p₂ BadHeader p₃ d p₄ e p₅ f p₆ g p₇ h = wrong 4 0 ps h
-    go true p₁ true p₂ (BadSection i) p₃ d p₄ e p₅ f p₆ g p₇ h = wrong 5 i ps h
-    go true p₁ true p₂ Passed p₃ (At i) p₄ e p₅ f p₆ g p₇ h = wrong 6 i ps h
-    go true p₁ true p₂ Passed p₃ Nowhere p₄ (At i) p₅ f p₆ g p₇ h = wrong 7 i ps h
-    go true p₁ true p₂ Passed p₃ Nowhere p₄ Nowhere p₅ (At i) p₆ g p₇ h = wrong 8 i ps h
-    go true p₁ true p₂ Passed p₃ Nowhere p₄ Nowhere p₅ Nowhere p₆ (Broken x k) p₇ h = wrong (number x) k ps h
+    go false p₁ b p₂ c p₃ d p₄ e p₅ f p₆ g p₇ h = wrong (says 2 0) ps h
+    go true p₁ false p₂ c p₃ d p₄ e p₅ f p₆ g p₇ h = wrong (says 3 0) ps h
+    go true p₁ true p₂ BadHeader p₃ d p₄ e p₅ f p₆ g p₇ h = wrong (says 4 0) ps h
+    go true p₁ true p₂ (BadSection i) p₃ d p₄ e p₅ f p₆ g p₇ h = wrong (says 5 i) ps h
+    go true p₁ true p₂ Passed p₃ (At i) p₄ e p₅ f p₆ g p₇ h = wrong (says 6 i) ps h
+    go true p₁ true p₂ Passed p₃ Nowhere p₄ (At i) p₅ f p₆ g p₇ h = wrong (says 7 i) ps h
+    go true p₁ true p₂ Passed p₃ Nowhere p₄ Nowhere p₅ (At i) p₆ g p₇ h = wrong (says 8 i) ps h
+    go true p₁ true p₂ Passed p₃ Nowhere p₄ Nowhere p₅ Nowhere p₆ (Broken x k) p₇ h = wrong (says (number x) k) ps h
     go true p₁ true p₂ Passed p₃ Nowhere p₄ Nowhere p₅ Nowhere p₆ AllKept p₇ h =
         let s = wellFormed-sound order p₁ in
         record {

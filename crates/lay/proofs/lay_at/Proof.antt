@@ -1,6 +1,7 @@
 -- `lay::lay_at` meets its contract. Assumes nothing.
 use mathlib.Core.Path.{_≡_, sym, ap, _∙_, subst}
-use Prim.Native.Nat.{_+_, _-_}
+use mathlib.Core.List.{List}
+use Prim.Native.Nat.{ℕ, _+_, _-_, _≤_}
 use native.Mathlib.Omega.{arith}
 use lib.ListN.{length, take, drop}
 use borrow.Rule.Slice.PartMut.{putMid, mid-len}
@@ -14,61 +15,60 @@ use borrow.Author.Needs.{needs}
 use Rattle.lay.proofs.lay_at.Statement.{statement}
 use Rattle.lay.proofs.lay_at.Tie as tie
 
+-- ---- at the start
+
+abbrev S : tie.Start → List ℕ
+S c = c .args .object .now
+
+abbrev O : tie.Start → List ℕ
+O c = c .args .order .now
+
+abbrev Image : tie.Start → List ℕ
+Image c = c .args .image .now
+
+-- ---- where the header has been read
+
+abbrev st : tie.After-read-section → tie.Start
+st c = c .before .before .before .before
+
+size-is : (c : tie.After-read-section) → c .read-section .result .size ≡ sectionAt (S (st c)) (st c .args .t) .size
+size-is c = ap (λ h. h .size) (c .read-section .ensures)
+
+inside : (c : tie.After-read-section) → st c .args .at + c .read-section .result .size ≤ length (Image (st c))
+inside c = omega (arith, size-is c, st c .pre .4)
+
 read-section-requires : tie.Need-read-section-requires
 read-section-requires c κs =
-    let a = c .before .before .before .args in
-    let s = a .object .now in
-    let o = a .order .now in
-    let f = c .before .before .before .pre in
-    let sound = is-sound s o (a .counts) (length (a .image .now)) (f .0) in
-    record { header = sound .table .header; inside = omega (arith, sound .table .inside, f .2) }
+    let s : tie.Start = search in
+    record { header = is-sound _ _ _ _ (s .pre .0) .table .header; inside = omega (arith, is-sound _ _ _ _ (s .pre .0) .table .inside, s .pre .2) }
 
 add-end : tie.Need-add-end
-add-end c =
-    let a = c .before .before .before .before .before .args in
-    let s = a .object .now in
-    let o = a .order .now in
-    let f = c .before .before .before .before .before .pre in
-    let sound = is-sound s o (a .counts) (length (a .image .now)) (f .0) in
-    let size : c .before .read-section .result .size ≡ sectionAt s (a .t) .size = ap (λ h. h .size) (c .before .read-section .ensures) in
-    omega (arith, f .4)
+add-end c = omega (arith, inside (search))
 
 part-lay-section-end : tie.Need-part-lay-section-end
-part-lay-section-end c =
-    let a = c .before .before .before .before .before .args in
-    let s = a .object .now in
-    let o = a .order .now in
-    let f = c .before .before .before .before .before .pre in
-    let sound = is-sound s o (a .counts) (length (a .image .now)) (f .0) in
-    let size : c .before .read-section .result .size ≡ sectionAt s (a .t) .size = ap (λ h. h .size) (c .before .read-section .ensures) in
-    omega (arith, f .4)
+part-lay-section-end c = omega (arith, inside (search))
 
 lay-section-requires : tie.Need-lay-section-requires
 lay-section-requires c κs =
-    let a = c .before .before .before .before .before .before .args in
-    let s = a .object .now in
-    let o = a .order .now in
-    let f = c .before .before .before .before .before .before .pre in
-    let sound = is-sound s o (a .counts) (length (a .image .now)) (f .0) in
-    let h = c .before .before .read-section .result in
-    let size : h .size ≡ sectionAt s (a .t) .size = ap (λ h. h .size) (c .before .before .read-section .ensures) in
-    let whole : length (take (a .at + h .size - a .at) (drop (a .at) (a .image .now))) ≡ a .at + h .size - a .at = mid-len (a .at) (a .at + h .size) (a .image .now) (omega (arith, f .4)) in
-    let g = f .0 in
-    (sound, g .placeable .named .readable .reading-is, subst (Placed s) (sym (f .1)) (is-placed s o (a .counts) (length (a .image .now)) g), ap (relocationCheck s o) (f .1) ∙ g .relocations, f .2, f .3, omega arith)
+    let r : tie.After-read-section = search in
+    let s = st r in
+    let f = s .pre in
+    let end = s .args .at + r .read-section .result .size in
+    let whole : length (take (end - s .args .at) (drop (s .args .at) (Image s))) ≡ end - s .args .at = mid-len (s .args .at) end (Image s) (omega (arith, inside r)) in
+    (is-sound _ _ _ _ (f .0), f .0 .placeable .named .readable .reading-is, subst (Placed (S s)) (sym (f .1)) (is-placed (S s) (O s) (s .args .counts) (length (Image s)) (f .0)), ap (relocationCheck (S s) (O s)) (f .1) ∙ f .0 .relocations, f .2, f .3, omega (arith, size-is r))
 
 returns : tie.Need-returns
 returns c =
-    let a = c .before .before .before .before .before .before .before .before .before .args in
-    let s = a .object .now in
-    let o = a .order .now in
-    let f = c .before .before .before .before .before .before .before .before .before .pre in
-    let sound = is-sound s o (a .counts) (length (a .image .now)) (f .0) in
-    let h = c .before .before .before .before .before .read-section .result in
-    let size : h .size ≡ sectionAt s (a .t) .size = ap (λ h. h .size) (c .before .before .before .before .before .read-section .ensures) in
-    let bytes = relocated s o (addresses o) (a .t) in
-    let long : length bytes ≡ sectionAt s (a .t) .size = relocated-length s o (a .counts) (length (a .image .now)) (f .0) (a .t) (f .2) (f .3) in
-    ap (λ y. putMid (a .at) (a .at + h .size - a .at) (a .image .now) y) (c .before .before .lay-section .ensures ∙ ap (λ l. relocated s o l (a .t)) (f .1))
-    ∙ put-part (a .at) (a .at + h .size) (a .image .now) bytes (omega arith) (omega (arith, f .4)) (omega arith)
+    let r : tie.After-read-section = search in
+    let laid : tie.After-lay-section = search in
+    let s = st r in
+    let f = s .pre in
+    let at = s .args .at in
+    let end = at + r .read-section .result .size in
+    let bytes = relocated (S s) (O s) (addresses (O s)) (s .args .t) in
+    let long : length bytes ≡ sectionAt (S s) (s .args .t) .size = relocated-length (S s) (O s) (s .args .counts) (length (Image s)) (f .0) (s .args .t) (f .2) (f .3) in
+    ap (λ y. putMid at (end - at) (Image s) y) (laid .lay-section .ensures ∙ ap (λ l. relocated (S s) (O s) l (s .args .t)) (f .1))
+    ∙ put-part at end (Image s) bytes (omega arith) (omega (arith, inside r)) (omega (arith, size-is r))
 
 pub lay-at-spec : {M : Type 1} → statement M
 lay-at-spec =

@@ -1,120 +1,102 @@
 -- `lay::lay_one` meets its contract. Assumes nothing.
 use mathlib.Core.Path.{_≡_, sym, ap, _∙_}
-use mathlib.Core.Bool.{true, false, _&&_}
-use Prim.Native.Nat.{_-_}
+use mathlib.Core.Bool.{true}
+use mathlib.Core.List.{List}
+use Prim.Native.Nat.{ℕ, _+_, _-_, _≤_, _<_}
 use native.Mathlib.Omega.{arith}
 use lib.ListN.{length, getD}
-use lib.Dec.{ltb}
 use lib.Seq.{sets}
+use borrow.Author.Tests.{not-true, not-false}
 use Rattle.order.specs.Orders.{base}
 use Rattle.lookup.specs.Addresses.{addresses}
 use Rattle.order.proofs.Laws.Sound.{reading-sound}
-use Rattle.elf.specs.Sections.{sectionAt, loaded}
+use Rattle.elf.specs.Sections.{sectionAt}
 use Rattle.placing.specs.Placing.{hasBytes}
 use Rattle.stores.specs.Sections.{relocated}
-use Rattle.judgement.proofs.Laws.Laying.{is-sound, length-short, bytes-inside, bytes-loaded, no-bytes, some-bytes, with-none, with-some}
+use Rattle.judgement.proofs.Laws.Laying.{is-sound, length-short, bytes-inside, bytes-loaded, with-none, with-some}
 use borrow.Author.Needs.{needs}
 use Rattle.lay.proofs.lay_one.Statement.{statement}
 use Rattle.lay.proofs.lay_one.Tie as tie
 
+-- ---- at the start
+
+abbrev S : tie.Start → List ℕ
+S c = c .args .object .now
+
+abbrev O : tie.Start → List ℕ
+O c = c .args .order .now
+
+abbrev Len : tie.Start → ℕ
+Len c = length (c .args .image .now)
+
+base-is : (c : tie.Start) → c .args .counts .base .0 ≡ base (O c)
+base-is c = reading-sound (O c) (c .args .counts) (c .pre .0 .placeable .named .readable .reading-is) .base-is
+
+address : (c : tie.Start) → getD (c .args .t4) (c .args .t) 0 ≡ getD (addresses (O c)) (c .args .t) 0
+address c = ap (λ l. getD l (c .args .t) 0) (c .pre .1)
+
+-- ---- where the header has been read, and whether the section has bytes
+
+abbrev header : tie.After-has-bytes → tie.After-read-section
+header c = c .before
+
+abbrev st : tie.After-has-bytes → tie.Start
+st c = header c .before .before .before .before
+
+has-bytes-is : (c : tie.After-has-bytes) → hasBytes (sectionAt (S (st c)) (st c .args .t)) ≡ c .has-bytes .result
+has-bytes-is c = ap hasBytes (sym (header c .read-section .ensures)) ∙ sym (c .has-bytes .ensures)
+
+-- ---- where the section has bytes
+
+abbrev read : tie.Else1 → tie.After-has-bytes
+read c = c .before
+
+abbrev T : tie.Else1 → ℕ
+T c = st (read c) .args .t
+
+some : (c : tie.Else1) → hasBytes (sectionAt (S (st (read c))) (T c)) ≡ true
+some c = has-bytes-is (read c) ∙ not-false _ (c .if1 .left)
+
+inside : (c : tie.Else1) → let s = st (read c) in (base (O s) ≤ getD (addresses (O s)) (T c) 0) × (getD (addresses (O s)) (T c) 0 - base (O s) + sectionAt (S s) (T c) .size ≤ Len s)
+inside c = let s = st (read c) in bytes-inside (S s) (O s) (s .args .counts) (Len s) (s .pre .0) (T c) (s .pre .2) (some c)
+
 read-section-requires : tie.Need-read-section-requires
 read-section-requires c κs =
-    let a = c .before .before .before .args in
-    let s = a .object .now in
-    let o = a .order .now in
-    let f = c .before .before .before .pre in
-    let sound = is-sound s o (a .counts) (length (a .image .now)) (f .0) in
-    record { header = sound .table .header; inside = omega (arith, sound .table .inside, f .2) }
+    let s : tie.Start = search in
+    record { header = is-sound _ _ _ _ (s .pre .0) .table .header; inside = omega (arith, is-sound _ _ _ _ (s .pre .0) .table .inside, s .pre .2) }
 
 returns : tie.Need-returns
 returns c =
-    let a = c .before .before .before .before .before .before .before .args in
-    let s = a .object .now in
-    let o = a .order .now in
-    let f = c .before .before .before .before .before .before .before .pre in
-    let sound = is-sound s o (a .counts) (length (a .image .now)) (f .0) in
-    let header = c .before .before .before .read-section .ensures in
-    let none : hasBytes (sectionAt s (a .t)) ≡ false = unfold hasBytes in (ap (λ h. loaded h && ltb 0 (h .size)) (sym header) ∙ ap (λ l. l && ltb 0 (c .before .before .before .read-section .result .size)) (sym (c .before .before .is-loaded .ensures)) ∙ no-bytes (c .before .before .is-loaded .result) (c .before .before .before .read-section .result .size) (c .if1 .taken)) in
-    sym (with-none s o (a .image .now) (a .t) none)
+    let r : tie.After-has-bytes = search in
+    let s = st r in
+    sym (with-none (S s) (O s) (s .args .image .now) (s .args .t) (has-bytes-is r ∙ not-true _ (c .if1 .taken)))
 
 mul-at : tie.Need-mul-at
-mul-at c =
-    let a = c .before .before .before .before .before .before .before .args in
-    let s = a .object .now in
-    let o = a .order .now in
-    let f = c .before .before .before .before .before .before .before .pre in
-    let sound = is-sound s o (a .counts) (length (a .image .now)) (f .0) in
-    omega (arith, sound .table .few, f .2)
+mul-at c = let s : tie.Start = search in omega (arith, is-sound _ _ _ _ (s .pre .0) .table .few, s .pre .2)
 
 array-read-at : tie.Need-array-read-at
-array-read-at c =
-    let a = c .before .before .before .before .before .before .before .args in
-    let s = a .object .now in
-    let o = a .order .now in
-    let f = c .before .before .before .before .before .before .before .pre in
-    let sound = is-sound s o (a .counts) (length (a .image .now)) (f .0) in
-    omega (arith, sound .table .few, f .2)
+array-read-at c = let s : tie.Start = search in omega (arith, is-sound _ _ _ _ (s .pre .0) .table .few, s .pre .2)
 
 sub-at : tie.Need-sub-at
-sub-at c =
-    let a = c .before .before .before .before .before .before .before .before .args in
-    let s = a .object .now in
-    let o = a .order .now in
-    let f = c .before .before .before .before .before .before .before .before .pre in
-    let sound = is-sound s o (a .counts) (length (a .image .now)) (f .0) in
-    let header = c .before .before .before .before .read-section .ensures in
-    let some : hasBytes (sectionAt s (a .t)) ≡ true = unfold hasBytes in (ap (λ h. loaded h && ltb 0 (h .size)) (sym header) ∙ ap (λ l. l && ltb 0 (c .before .before .before .before .read-section .result .size)) (sym (c .before .before .before .is-loaded .ensures)) ∙ some-bytes (c .before .before .before .is-loaded .result) (c .before .before .before .before .read-section .result .size) (c .before .if1 .left)) in
-    let inside = bytes-inside s o (a .counts) (length (a .image .now)) (f .0) (a .t) (f .2) some in
-    let size : c .before .before .before .before .read-section .result .size ≡ sectionAt s (a .t) .size = ap (λ h. h .size) header in
-    let base-is : a .counts .base .0 ≡ base o = reading-sound o (a .counts) (f .0 .placeable .named .readable .reading-is) .base-is in
-    let address : getD (a .t4) (a .t) 0 ≡ getD (addresses o) (a .t) 0 = ap (λ l. getD l (a .t) 0) (f .1) in
-    omega (arith, inside .0)
+sub-at c = let s : tie.Start = search in omega (arith, inside (search) .0, base-is s, address s)
 
 cast-lay-at : tie.Need-cast-lay-at
 cast-lay-at c =
-    let a = c .before .before .before .before .before .before .before .before .args in
-    let s = a .object .now in
-    let o = a .order .now in
-    let f = c .before .before .before .before .before .before .before .before .pre in
-    let sound = is-sound s o (a .counts) (length (a .image .now)) (f .0) in
-    let header = c .before .before .before .before .read-section .ensures in
-    let some : hasBytes (sectionAt s (a .t)) ≡ true = unfold hasBytes in (ap (λ h. loaded h && ltb 0 (h .size)) (sym header) ∙ ap (λ l. l && ltb 0 (c .before .before .before .before .read-section .result .size)) (sym (c .before .before .before .is-loaded .ensures)) ∙ some-bytes (c .before .before .before .is-loaded .result) (c .before .before .before .before .read-section .result .size) (c .before .if1 .left)) in
-    let inside = bytes-inside s o (a .counts) (length (a .image .now)) (f .0) (a .t) (f .2) some in
-    let size : c .before .before .before .before .read-section .result .size ≡ sectionAt s (a .t) .size = ap (λ h. h .size) header in
-    let base-is : a .counts .base .0 ≡ base o = reading-sound o (a .counts) (f .0 .placeable .named .readable .reading-is) .base-is in
-    let address : getD (a .t4) (a .t) 0 ≡ getD (addresses o) (a .t) 0 = ap (λ l. getD l (a .t) 0) (f .1) in
-    omega (arith, inside .0, inside .1, length-short s o (a .counts) (length (a .image .now)) (f .0))
+    let s : tie.Start = search in
+    omega (arith, inside (search) .0, inside (search) .1, base-is s, address s, length-short (S s) (O s) (s .args .counts) (Len s) (s .pre .0))
 
 lay-at-requires : tie.Need-lay-at-requires
 lay-at-requires c κs =
-    let a = c .before .before .before .before .before .before .before .before .before .args in
-    let s = a .object .now in
-    let o = a .order .now in
-    let f = c .before .before .before .before .before .before .before .before .before .pre in
-    let sound = is-sound s o (a .counts) (length (a .image .now)) (f .0) in
-    let header = c .before .before .before .before .before .read-section .ensures in
-    let some : hasBytes (sectionAt s (a .t)) ≡ true = unfold hasBytes in (ap (λ h. loaded h && ltb 0 (h .size)) (sym header) ∙ ap (λ l. l && ltb 0 (c .before .before .before .before .before .read-section .result .size)) (sym (c .before .before .before .before .is-loaded .ensures)) ∙ some-bytes (c .before .before .before .before .is-loaded .result) (c .before .before .before .before .before .read-section .result .size) (c .before .before .if1 .left)) in
-    let inside = bytes-inside s o (a .counts) (length (a .image .now)) (f .0) (a .t) (f .2) some in
-    let size : c .before .before .before .before .before .read-section .result .size ≡ sectionAt s (a .t) .size = ap (λ h. h .size) header in
-    let base-is : a .counts .base .0 ≡ base o = reading-sound o (a .counts) (f .0 .placeable .named .readable .reading-is) .base-is in
-    let address : getD (a .t4) (a .t) 0 ≡ getD (addresses o) (a .t) 0 = ap (λ l. getD l (a .t) 0) (f .1) in
-    (f .0, f .1, f .2, bytes-loaded s o (a .counts) (length (a .image .now)) (f .0) (a .t) some, omega (arith, inside .0, inside .1))
+    let s : tie.Start = search in
+    let f = s .pre in
+    (f .0, f .1, f .2, bytes-loaded (S s) (O s) (s .args .counts) (Len s) (f .0) (s .args .t) (some (search)), omega (arith, inside (search) .0, inside (search) .1, base-is s, address s))
 
 returns-2 : tie.Need-returns-2
 returns-2 c =
-    let a = c .before .before .before .before .before .before .before .before .before .before .before .before .args in
-    let s = a .object .now in
-    let o = a .order .now in
-    let f = c .before .before .before .before .before .before .before .before .before .before .before .before .pre in
-    let sound = is-sound s o (a .counts) (length (a .image .now)) (f .0) in
-    let header = c .before .before .before .before .before .before .before .before .read-section .ensures in
-    let some : hasBytes (sectionAt s (a .t)) ≡ true = unfold hasBytes in (ap (λ h. loaded h && ltb 0 (h .size)) (sym header) ∙ ap (λ l. l && ltb 0 (c .before .before .before .before .before .before .before .before .read-section .result .size)) (sym (c .before .before .before .before .before .before .before .is-loaded .ensures)) ∙ some-bytes (c .before .before .before .before .before .before .before .is-loaded .result) (c .before .before .before .before .before .before .before .before .read-section .result .size) (c .before .before .before .before .before .if1 .left)) in
-    let inside = bytes-inside s o (a .counts) (length (a .image .now)) (f .0) (a .t) (f .2) some in
-    let size : c .before .before .before .before .before .before .before .before .read-section .result .size ≡ sectionAt s (a .t) .size = ap (λ h. h .size) header in
-    let base-is : a .counts .base .0 ≡ base o = reading-sound o (a .counts) (f .0 .placeable .named .readable .reading-is) .base-is in
-    let address : getD (a .t4) (a .t) 0 ≡ getD (addresses o) (a .t) 0 = ap (λ l. getD l (a .t) 0) (f .1) in
-    let at : getD (a .t4) (a .t) 0 - a .counts .base .0 ≡ getD (addresses o) (a .t) 0 - base o = omega arith in
-    c .before .before .lay-at .ensures ∙ ap (λ k. sets (a .image .now) k (relocated s o (addresses o) (a .t))) at ∙ sym (with-some s o (a .image .now) (a .t) some)
+    let s : tie.Start = search in
+    let laid : tie.After-lay-at = search in
+    let at : getD (s .args .t4) (s .args .t) 0 - s .args .counts .base .0 ≡ getD (addresses (O s)) (s .args .t) 0 - base (O s) = omega (arith, base-is s, address s) in
+    laid .lay-at .ensures ∙ ap (λ k. sets (s .args .image .now) k (relocated (S s) (O s) (addresses (O s)) (s .args .t))) at ∙ sym (with-some (S s) (O s) (s .args .image .now) (s .args .t) (some (search)))
 
 pub lay-one-spec : {M : Type 1} → statement M
 lay-one-spec =

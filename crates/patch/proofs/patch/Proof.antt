@@ -36,7 +36,7 @@ returns c =
     let f = a .field in
     let w = a .w in
     let t : a .x % 2 ^ 32 ≡ residue 32 (signed 64 (a .x)) = cut-signed 32 32 (a .x) (omega arith) in
-    c .put-field .ensures ∙ ap (put (layout f) w) t ∙ sym (ap (λ k. patched k f w (signed 64 (a .x)) (a .p .0) (a .d)) (c .before .before .enum-told .given .1))
+    c .put-field .ensures ∙ ap (put (layout f) w) t ∙ sym (ap (λ k. patched 32 k f w (signed 64 (a .x)) (a .p .0) (a .d)) (c .before .before .enum-told .given .1))
 
 returns-2 : tie.Need-returns-2
 unfolding patched
@@ -46,7 +46,7 @@ returns-2 c =
     let w = a .w in
     let t : a .x % 2 ^ 32 ≡ residue 32 (signed 64 (a .x)) = cut-signed 32 32 (a .x) (omega arith) in
     let d : c .before .before .before .sub32 .result ≡ minus 32 (residue 32 (signed 64 (a .x))) (a .p .0) = c .before .before .before .sub32 .ensures ∙ ap (λ t. minus 32 t (a .p .0)) t in
-    c .put-field2 .ensures ∙ ap (put (layout f) w) d ∙ sym (ap (λ k. patched k f w (signed 64 (a .x)) (a .p .0) (a .d)) (c .before .enum-told2 .given .1))
+    c .put-field2 .ensures ∙ ap (put (layout f) w) d ∙ sym (ap (λ k. patched 32 k f w (signed 64 (a .x)) (a .p .0) (a .d)) (c .before .enum-told2 .given .1))
 
 returns-3 : tie.Need-returns-3
 unfolding patched minus
@@ -56,7 +56,7 @@ returns-3 c =
     let w = a .w in
     let t : a .x % 2 ^ 32 ≡ residue 32 (signed 64 (a .x)) = cut-signed 32 32 (a .x) (omega arith) in
     let d : c .before .before .before .sub32 .result ≡ minus 32 (residue 32 (signed 64 (a .x))) (a .p .0) = c .before .before .before .sub32 .ensures ∙ ap (λ t. minus 32 t (a .p .0)) t in
-    c .put-field3 .ensures ∙ ap (put (layout f) w) d ∙ sym (ap (λ k. patched k f w (signed 64 (a .x)) (a .p .0) (a .d)) (c .before .enum-told3 .given .1))
+    c .put-field3 .ensures ∙ ap (put (layout f) w) d ∙ sym (ap (λ k. patched 32 k f w (signed 64 (a .x)) (a .p .0) (a .d)) (c .before .enum-told3 .given .1))
 
 returns-4 : tie.Need-returns-4
 unfolding patched
@@ -66,7 +66,7 @@ returns-4 c =
     let w = a .w in
     let t : a .x % 2 ^ 32 ≡ residue 32 (signed 64 (a .x)) = cut-signed 32 32 (a .x) (omega arith) in
     let d : c .before .before .before .before .sub32 .result ≡ minus 32 (residue 32 (signed 64 (a .x))) (a .p .0) = c .before .before .before .before .sub32 .ensures ∙ ap (λ t. minus 32 t (a .p .0)) t in
-    c .put-field4 .ensures ∙ ap (put (layout f) w) (c .before .both-halves .ensures ∙ ap (λ d. highPart d + lowPart d) d) ∙ sym (ap (λ k. patched k f w (signed 64 (a .x)) (a .p .0) (a .d)) (c .before .before .enum-told4 .given .1))
+    c .put-field4 .ensures ∙ ap (put (layout f) w) (c .before .both-halves .ensures ∙ ap (λ d. highPart 32 d + lowPart 32 d) d) ∙ sym (ap (λ k. patched 32 k f w (signed 64 (a .x)) (a .p .0) (a .d)) (c .before .before .enum-told4 .given .1))
 
 returns-5 : tie.Need-returns-5
 unfolding patched
@@ -76,7 +76,7 @@ returns-5 c =
     let w = a .w in
     let t : a .x % 2 ^ 32 ≡ residue 32 (signed 64 (a .x)) = cut-signed 32 32 (a .x) (omega arith) in
     let d : c .before .before .before .before .sub32 .result ≡ minus 32 (residue 32 (signed 64 (a .x))) (a .p .0) = c .before .before .before .before .sub32 .ensures ∙ ap (λ t. minus 32 t (a .p .0)) t in
-    c .put-field5 .ensures ∙ ap (put (layout f) w) (c .before .high-part .ensures .0 ∙ ap highPart d) ∙ sym (ap (λ k. patched k f w (signed 64 (a .x)) (a .p .0) (a .d)) (c .before .before .enum-told5 .given .1))
+    c .put-field5 .ensures ∙ ap (put (layout f) w) (c .before .high-part .ensures .0 ∙ ap (highPart 32) d) ∙ sym (ap (λ k. patched 32 k f w (signed 64 (a .x)) (a .p .0) (a .d)) (c .before .before .enum-told5 .given .1))
 
 returns-6 : tie.Need-returns-6
 unfolding patched
@@ -85,7 +85,7 @@ returns-6 c =
     let f = a .field in
     let w = a .w in
     let t : a .x % 2 ^ 32 ≡ residue 32 (signed 64 (a .x)) = cut-signed 32 32 (a .x) (omega arith) in
-    c .put-field6 .ensures ∙ ap (put (layout f) w) (c .before .high-part2 .ensures .0 ∙ ap highPart t) ∙ sym (ap (λ k. patched k f w (signed 64 (a .x)) (a .p .0) (a .d)) (c .before .before .enum-told6 .given .1))
+    c .put-field6 .ensures ∙ ap (put (layout f) w) (c .before .high-part2 .ensures .0 ∙ ap (highPart 32) t) ∙ sym (ap (λ k. patched 32 k f w (signed 64 (a .x)) (a .p .0) (a .d)) (c .before .before .enum-told6 .given .1))
 
 returns-7 : tie.Need-returns-7
 unfolding patched
@@ -94,7 +94,7 @@ returns-7 c =
     let f = a .field in
     let w = a .w in
     let t : a .x % 2 ^ 32 ≡ residue 32 (signed 64 (a .x)) = cut-signed 32 32 (a .x) (omega arith) in
-    c .put-field7 .ensures ∙ ap (put (layout f) w) (c .before .low-part .ensures .0 ∙ ap lowPart t) ∙ sym (ap (λ k. patched k f w (signed 64 (a .x)) (a .p .0) (a .d)) (c .before .before .enum-told7 .given .1))
+    c .put-field7 .ensures ∙ ap (put (layout f) w) (c .before .low-part .ensures .0 ∙ ap (lowPart 32) t) ∙ sym (ap (λ k. patched 32 k f w (signed 64 (a .x)) (a .p .0) (a .d)) (c .before .before .enum-told7 .given .1))
 
 returns-8 : tie.Need-returns-8
 unfolding patched
@@ -103,7 +103,7 @@ returns-8 c =
     let f = a .field in
     let w = a .w in
     let t : a .x % 2 ^ 32 ≡ residue 32 (signed 64 (a .x)) = cut-signed 32 32 (a .x) (omega arith) in
-    c .put-field8 .ensures ∙ ap (put (layout f) w) (c .before .low-part2 .ensures .0) ∙ sym (ap (λ k. patched k f w (signed 64 (a .x)) (a .p .0) (a .d)) (c .before .before .enum-told8 .given .1))
+    c .put-field8 .ensures ∙ ap (put (layout f) w) (c .before .low-part2 .ensures .0) ∙ sym (ap (λ k. patched 32 k f w (signed 64 (a .x)) (a .p .0) (a .d)) (c .before .before .enum-told8 .given .1))
 
 returns-9 : tie.Need-returns-9
 unfolding patched added subtracted replaced
@@ -112,7 +112,7 @@ returns-9 c =
     let f = a .field in
     let w = a .w in
     let t : a .x % 2 ^ 32 ≡ residue 32 (signed 64 (a .x)) = cut-signed 32 32 (a .x) (omega arith) in
-    c .add .ensures ∙ sym (ap (λ g. patched Add g w (signed 64 (a .x)) (a .p .0) (a .d)) (c .before .data-width .ensures)) ∙ sym (ap (λ k. patched k f w (signed 64 (a .x)) (a .p .0) (a .d)) (c .before .before .enum-told9 .given .1))
+    c .add .ensures ∙ sym (ap (λ g. patched 32 Add g w (signed 64 (a .x)) (a .p .0) (a .d)) (c .before .data-width .ensures)) ∙ sym (ap (λ k. patched 32 k f w (signed 64 (a .x)) (a .p .0) (a .d)) (c .before .before .enum-told9 .given .1))
 
 returns-10 : tie.Need-returns-10
 unfolding patched added subtracted replaced
@@ -121,7 +121,7 @@ returns-10 c =
     let f = a .field in
     let w = a .w in
     let t : a .x % 2 ^ 32 ≡ residue 32 (signed 64 (a .x)) = cut-signed 32 32 (a .x) (omega arith) in
-    c .sub .ensures ∙ sym (ap (λ g. patched Sub g w (signed 64 (a .x)) (a .p .0) (a .d)) (c .before .data-width2 .ensures)) ∙ sym (ap (λ k. patched k f w (signed 64 (a .x)) (a .p .0) (a .d)) (c .before .before .enum-told10 .given .1))
+    c .sub .ensures ∙ sym (ap (λ g. patched 32 Sub g w (signed 64 (a .x)) (a .p .0) (a .d)) (c .before .data-width2 .ensures)) ∙ sym (ap (λ k. patched 32 k f w (signed 64 (a .x)) (a .p .0) (a .d)) (c .before .before .enum-told10 .given .1))
 
 returns-11 : tie.Need-returns-11
 unfolding patched added subtracted replaced
@@ -130,7 +130,7 @@ returns-11 c =
     let f = a .field in
     let w = a .w in
     let t : a .x % 2 ^ 32 ≡ residue 32 (signed 64 (a .x)) = cut-signed 32 32 (a .x) (omega arith) in
-    c .set .ensures ∙ sym (ap (λ g. patched Set g w (signed 64 (a .x)) (a .p .0) (a .d)) (c .before .data-width3 .ensures)) ∙ sym (ap (λ k. patched k f w (signed 64 (a .x)) (a .p .0) (a .d)) (c .before .before .enum-told11 .given .1))
+    c .set .ensures ∙ sym (ap (λ g. patched 32 Set g w (signed 64 (a .x)) (a .p .0) (a .d)) (c .before .data-width3 .ensures)) ∙ sym (ap (λ k. patched 32 k f w (signed 64 (a .x)) (a .p .0) (a .d)) (c .before .before .enum-told11 .given .1))
 
 pub patch-spec : {M : Type 1} → statement M
 patch-spec =

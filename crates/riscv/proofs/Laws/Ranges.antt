@@ -16,6 +16,7 @@ use Rattle.fields.specs.Fields.{layout, valueBits, unit}
 use Rattle.riscv.specs.declared.ranges.Range.{Range}
 use Rattle.riscv.specs.Ranges.{distance, branch, jal, rvcBranch, rvcJump, anywhere, reaches}
 use Rattle.fields.proofs.Laws.Fields.{reads-back-signed}
+use Rattle.riscv.proofs.Laws.Halves.{at-least}
 
 -- both ends are reached, the next steps are not, and nothing odd is
 pub record Ends (r : Range) (back ahead : ℕ) : Type 0 where
@@ -51,31 +52,25 @@ anywhere-reaches t p ht hp = go (ltb t p) refl
     go true e = rw (sub-back t p (ltb-true t p e), le-leb (suc (p - suc t)) 0xFFFFFFFF (omega arith)) (and-true _)
     go false e = rw (sub-ahead t p (ltb-false t p e), le-leb (t - p) 0xFFFFFFFF (omega arith)) (and-true _)
 
--- a distance that is reached, put into its field modulo 2^(j + n), is read back whole
-reached-reads-back : (f : Field) (r : Range) (w j : ℕ) (z : ℤ) → unit f ≡ 2 → 2 * r .back ≤ 2 ^ valueBits f → 2 * r .ahead < 2 ^ valueBits f
-    → (residue (j + valueBits f) z % 2 ≡ 0) → reaches r z ≡ true
-    → signed (valueBits f) (read (layout f) (put (layout f) w (residue (j + valueBits f) z))) ≡ z
+-- a distance that is reached, put into its field modulo 2^w, is read back whole
+reached-reads-back : (f : Field) (r : Range) (w b : ℕ) (z : ℤ) → valueBits f ≤ w → 1 ≤ w → unit f ≡ 2 → 2 * r .back ≤ 2 ^ valueBits f → 2 * r .ahead < 2 ^ valueBits f
+    → reaches r z ≡ true → signed (valueBits f) (read (layout f) (put (layout f) b (residue w z))) ≡ z
 unfolding reaches
-reached-reads-back f r w j z two b a low e =
-    reads-back-signed f w j z (within-spelt (valueBits f) (r .back) (r .ahead) z b a (and-right (even z) _ e)) (rw two low)
+reached-reads-back f r w b z wide one two back ahead e =
+    let is-even : residue w z % 2 ≡ 0 = at-least (λ w. residue w z % 2 ≡ 0) 1 w one (λ k. even-residue k z (and-left (even z) _ e)) in
+    at-least (λ w. residue w z % 2 ≡ 0 → signed (valueBits f) (read (layout f) (put (layout f) b (residue w z))) ≡ z) (valueBits f) w wide
+    (λ j low. reads-back-signed f b j z (within-spelt (valueBits f) (r .back) (r .ahead) z back ahead (and-right (even z) _ e)) (rw two low))
+    is-even
 
--- every jump and branch gives its whole distance, read by the manual, where it was put in modulo 2^32
-pub branch-reads-back : (w : ℕ) (z : ℤ) → reaches branch z ≡ true → signed 13 (read (layout B) (put (layout B) w (residue 32 z))) ≡ z
-unfolding reaches
-branch-reads-back w z e =
-    reached-reads-back B branch w 19 z refl (omega arith) (omega arith) (even-residue 31 z (and-left (even z) _ e)) e
+-- every jump and branch gives its whole distance, read by the manual
+pub branch-reads-back : (w b : ℕ) (z : ℤ) → 32 ≤ w → reaches branch z ≡ true → signed 13 (read (layout B) (put (layout B) b (residue w z))) ≡ z
+branch-reads-back w b z h e = reached-reads-back B branch w b z (omega arith) (omega arith) refl (omega arith) (omega arith) e
 
-pub jal-reads-back : (w : ℕ) (z : ℤ) → reaches jal z ≡ true → signed 21 (read (layout J) (put (layout J) w (residue 32 z))) ≡ z
-unfolding reaches
-jal-reads-back w z e =
-    reached-reads-back J jal w 11 z refl (omega arith) (omega arith) (even-residue 31 z (and-left (even z) _ e)) e
+pub jal-reads-back : (w b : ℕ) (z : ℤ) → 32 ≤ w → reaches jal z ≡ true → signed 21 (read (layout J) (put (layout J) b (residue w z))) ≡ z
+jal-reads-back w b z h e = reached-reads-back J jal w b z (omega arith) (omega arith) refl (omega arith) (omega arith) e
 
-pub rvc-branch-reads-back : (w : ℕ) (z : ℤ) → reaches rvcBranch z ≡ true → signed 9 (read (layout Cb) (put (layout Cb) w (residue 32 z))) ≡ z
-unfolding reaches
-rvc-branch-reads-back w z e =
-    reached-reads-back Cb rvcBranch w 23 z refl (omega arith) (omega arith) (even-residue 31 z (and-left (even z) _ e)) e
+pub rvc-branch-reads-back : (w b : ℕ) (z : ℤ) → 32 ≤ w → reaches rvcBranch z ≡ true → signed 9 (read (layout Cb) (put (layout Cb) b (residue w z))) ≡ z
+rvc-branch-reads-back w b z h e = reached-reads-back Cb rvcBranch w b z (omega arith) (omega arith) refl (omega arith) (omega arith) e
 
-pub rvc-jump-reads-back : (w : ℕ) (z : ℤ) → reaches rvcJump z ≡ true → signed 12 (read (layout Cj) (put (layout Cj) w (residue 32 z))) ≡ z
-unfolding reaches
-rvc-jump-reads-back w z e =
-    reached-reads-back Cj rvcJump w 20 z refl (omega arith) (omega arith) (even-residue 31 z (and-left (even z) _ e)) e
+pub rvc-jump-reads-back : (w b : ℕ) (z : ℤ) → 32 ≤ w → reaches rvcJump z ≡ true → signed 12 (read (layout Cj) (put (layout Cj) b (residue w z))) ≡ z
+rvc-jump-reads-back w b z h e = reached-reads-back Cj rvcJump w b z (omega arith) (omega arith) refl (omega arith) (omega arith) e

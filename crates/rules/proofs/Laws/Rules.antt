@@ -12,6 +12,7 @@ use Rattle.word.specs.Whole.{signed, plus}
 use Rattle.word.specs.Powers.{ceilPower}
 use Rattle.word.proofs.Laws.Tests.{and-left, never}
 use Rattle.elf.specs.declared.Relocation.{Relocation}
+use Rattle.elf.specs.Headers.{addressWidth}
 use Rattle.elf.specs.Entries.{symbolCount}
 use Rattle.symbols.specs.declared.SymbolValue.{SymbolValue}
 use Rattle.symbols.specs.declared.SymbolValue.the-variants.{Unresolved}
@@ -74,32 +75,33 @@ form-read object x j c f form n l r e p q =
 
 -- ---- check 13
 
--- of a store, P is below 2^32, so that adding modulo 2^32 gives it
-pub place-below : (object : List ℕ) (x : Site) (j : ℕ) → SoundSite object x → end object x j ≤ x .target .size → isStore (effect object x j) ≡ true → P object x j < 2 ^ 32
+-- of a store, P is in memory, so that adding modulo 2^w gives it
+pub place-below : (object : List ℕ) (x : Site) (j : ℕ) → SoundSite object x → end object x j ≤ x .target .size → isStore (effect object x j) ≡ true → P object x j < 2 ^ addressWidth object
 place-below object x j f inside s = go (effect object x j) refl s inside
   where
-    go : (d : Decision) → effect object x j ≡ d → isStore d ≡ true → offset object x j + touched d ≤ x .target .size → P object x j < 2 ^ 32
+    go : (d : Decision) → effect object x j ≡ d → isStore d ≡ true → offset object x j + touched d ≤ x .target .size → P object x j < 2 ^ addressWidth object
     go (Store c g form n) q s i = omega (arith, width-some n (store-width _ c g form n q), f .placed)
     go Marker q s i = never s
     go Align q s i = never s
     go Refused q s i = never s
 
 pub in-reach-is : (object : List ℕ) (x : Site) (j t : ℕ) → SoundSite object x → end object x j ≤ x .target .size
-    → distanceWell (effect object x j) t (plus 32 (x .address .0) (offset object x j)) ≡ distanceWell (effect object x j) t (P object x j)
+    → distanceWell (addressWidth object) (effect object x j) t (plus (addressWidth object) (x .address .0) (offset object x j))
+    ≡ distanceWell (addressWidth object) (effect object x j) t (P object x j)
 unfolding plus
 in-reach-is object x j t f inside = go (effect object x j) refl
   where
-    go : (d : Decision) → effect object x j ≡ d → distanceWell d t ((x .address .0 + offset object x j) % 2 ^ 32) ≡ distanceWell d t (P object x j)
-    go (Store c g form n) q = ap (distanceWell (Store c g form n) t) (mod-eq-of-lt (place-below object x j f inside (ap isStore q)))
+    go : (d : Decision) → effect object x j ≡ d → distanceWell (addressWidth object) d t ((x .address .0 + offset object x j) % 2 ^ addressWidth object) ≡ distanceWell (addressWidth object) d t (P object x j)
+    go (Store c g form n) q = ap (distanceWell (addressWidth object) (Store c g form n) t) (mod-eq-of-lt (place-below object x j f inside (ap isStore q)))
     go Marker q = refl
     go Align q = refl
     go Refused q = refl
 
 -- by the relocation r that was read, and what was worked out from it
 pub reach-read : (object : List ℕ) (x : Site) (j : ℕ) (r : Relocation) (d : Decision) (v w : SymbolValue) (t p : ℕ) → SoundSite object x → end object x j ≤ x .target .size
-    → r ≡ entry object x j → d ≡ decision (r .kind) → v ≡ w → t ≡ T (S v) (signed 64 (r .addend)) → p ≡ plus 32 (x .address .0) (r .offset .0)
-    → distanceWell d t p ≡ distanceWell (effect object x j) (T (S w) (A object x j)) (P object x j)
-reach-read object x j r d v w t p f inside re de ve te pe = rw (pe, te, de, ve, re) (in-reach-is object x j (T (S w) (A object x j)) f inside)
+    → r ≡ entry object x j → d ≡ decision (r .kind) → v ≡ w → t ≡ T (addressWidth object) (S v) (signed 64 (r .addend)) → p ≡ plus (addressWidth object) (x .address .0) (r .offset .0)
+    → distanceWell (addressWidth object) d t p ≡ distanceWell (addressWidth object) (effect object x j) (T (addressWidth object) (S w) (A object x j)) (P object x j)
+reach-read object x j r d v w t p f inside re de ve te pe = rw (pe, te, de, ve, re) (in-reach-is object x j (T (addressWidth object) (S w) (A object x j)) f inside)
 
 -- ---- check 14
 

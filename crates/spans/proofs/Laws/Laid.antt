@@ -10,7 +10,7 @@ use lib.ListN.{length, getD}
 use Rattle.word.proofs.Laws.Tests.{and-right}
 use Rattle.elf.specs.Headers.{sectionCount}
 use Rattle.elf.specs.Sections.{sectionAt, loaded}
-use Rattle.journal.specs.Plans.{Piece, piece, end, lowest, spanOf as spanOfPieces}
+use Rattle.plans.specs.Plans.{Piece, piece, end, lowest, spanOf as spanOfPieces}
 use Rattle.place.specs.declared.Fault.the-variants.{Nowhere}
 use Rattle.placing.specs.Placing.{endOf, hasBytes, placingCheck}
 use Rattle.placing.proofs.Laws.Theorems.{inside-image}

@@ -12,6 +12,7 @@ use borrow.Author.Tests.{leb-false, ltb-false, not-true}
 use Rattle.word.specs.Bytes.{leAt, bytes}
 use Rattle.word.proofs.Laws.First.{everywhere-at}
 use Rattle.word.proofs.Laws.Bytes.{leAt-one, leAt-sets-other, length-bytes}
+use Rattle.elf.specs.Headers.{addressWidth}
 use Rattle.types.specs.declared.Decision.{Decision}
 use Rattle.types.specs.declared.Decision.the-variants.{Marker, Align, Store, Refused}
 use Rattle.rela.specs.declared.sites.Site.{Site}
@@ -44,7 +45,7 @@ module _ (object order addresses : List ℕ) (x : Site) where
     where
       go : (d : Decision) → effect object x j ≡ d → leAt n (applied object order addresses x j s) at ≡ leAt n s at
       go (Store c f form m) e =
-          let u : ℕ = patched c f (leAt m s (offset object x j)) (sumAt object order addresses x j) (P object x j) (pairDistance object order addresses x j) in
+          let u : ℕ = patched (addressWidth object) c f (leAt m s (offset object x j)) (sumAt object order addresses x j) (P object x j) (pairDistance object order addresses x j) in
           let many : touched (effect object x j) ≡ m = ap touched e in
           let length : length (bytes m u) ≡ m = length-bytes m u in
           ap (λ l. leAt n l at) (applied-store object order addresses x j c f form m s e)

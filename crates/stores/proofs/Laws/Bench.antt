@@ -25,9 +25,9 @@ abbrev _is_ : ℕ → ℕ → Number
 a is b = record { given = a; said = b }
 
 infixl 20 _is_
--- what a decision leaves of the bytes w, for S + A and P; a marker leaves them
+-- what a decision leaves of the bytes w, for S + A and P, at 32 bits; a marker leaves them
 abbrev left : Decision → ℕ → ℤ → ℕ → ℕ
-left (Store c f form n) w x p = patched c f w x p 0
+left (Store c f form n) w x p = patched 32 c f w x p 0
 left Marker w x p = w
 left Align w x p = w
 left Refused w x p = w
@@ -37,7 +37,7 @@ abbrev laid : ℕ → ℕ → ℤ → ℕ → ℕ
 laid type w x p = left (decision type) w x p
 
 abbrev reach : ℕ → ℕ → ℕ → ℕ
-reach type t p = cond (distanceWell (decision type) t p) 0 13
+reach type t p = cond (distanceWell 32 (decision type) t p) 0 13
 
 abbrev padding : ℕ → ℤ → ℕ
 padding p a = cond (boundaryWell (decision 43) p a) 0 14

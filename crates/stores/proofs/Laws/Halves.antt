@@ -3,12 +3,10 @@ use mathlib.Core.Path.{_≡_, refl, sym, ap, _∙_, subst}
 use mathlib.Core.Bool.{true, not, _||_}
 use mathlib.Core.List.{List}
 use Prim.Native.Nat.{ℕ, _^_, _<_}
-use native.Mathlib.Nat.{mod-eq-of-lt}
 use lib.Dec.{eqb}
-use lib.IntN.{pos, _+ℤ_}
 use borrow.Author.Tests.{eqb-true}
 use Rattle.word.specs.Bytes.{leAt}
-use Rattle.word.specs.Whole.{residue, signed, minus}
+use Rattle.word.specs.Whole.{signed, minus}
 use Rattle.word.specs.declared.SectionOffset.{SectionOffset}
 use Rattle.word.proofs.Laws.Tests.{and-left, never}
 use Rattle.word.proofs.Laws.Whole.{residue-lt}
@@ -22,12 +20,13 @@ use Rattle.types.specs.declared.Decision.{Decision}
 use Rattle.types.specs.declared.Decision.the-variants.{Store}
 use Rattle.types.specs.Types.{table, among, lookup, decision}
 use Rattle.riscv.specs.Halves.{low}
-use Rattle.riscv.proofs.Laws.Halves.{halves-sum}
+use Rattle.riscv.proofs.Laws.Halves.{halves-whole}
+use Rattle.elf.specs.Headers.{addressWidth}
 use Rattle.rela.specs.declared.sites.Site.{Site}
 use Rattle.values.specs.declared.pairs.Pair.{Pair}
 use Rattle.values.specs.declared.pairs.Pair.the-variants.{At, NotOne}
-use Rattle.rela.specs.Sites.{count, entry, effect, offset, A, P, found}
-use Rattle.values.specs.Values.{S, T, valueAt}
+use Rattle.rela.specs.Sites.{count, entry, effect, offset, P, found}
+use Rattle.values.specs.Values.{targetAt}
 use Rattle.effects.specs.Effects.{needsPair}
 use Rattle.values.specs.Pairs.{PCREL_HI20, isPair, pairOf}
 use Rattle.rules.specs.Rules.{symbol, isOne, pairWell}
@@ -35,28 +34,27 @@ use Rattle.values.proofs.Laws.Pairs.{pair-there}
 use Rattle.rules.proofs.Laws.Search.{kept-rules}
 use Rattle.stores.specs.Patches.{highPart}
 use Rattle.stores.specs.Sections.{distanceAt, distanceOf, pairDistance, after}
-use Rattle.stores.specs.Promises.{stackAt, Stored, ReadsBack, AddUp}
+use Rattle.stores.specs.Promises.{extended, stackAt, Stored, ReadsBack, AddUp}
 use Rattle.stores.specs.Wholes.{Halves}
 use Rattle.stores.specs.Facts.{Checked}
 use Rattle.stores.proofs.Laws.ReadBack.{read-back}
 
 -- what is read of each, added up
-pub add-up : (f g : Field) (w v d : ℕ) → d < 2 ^ 32 → read (layout f) w ≡ highPart d → signed 12 (read (layout g) v) ≡ low 32 d → AddUp f w g v d
-add-up f g w v d h p q =
-    ap (λ n. residue 32 (pos n +ℤ signed 12 (read (layout g) v))) p
-    ∙ ap (λ z. residue 32 (pos (highPart d) +ℤ z)) q
-    ∙ halves-sum 32 d
-    ∙ mod-eq-of-lt h
+pub add-up : (w : ℕ) (f g : Field) (b v d : ℕ) → d < 2 ^ w → extended w (read (layout f) b) ≡ highPart w d → signed 12 (read (layout g) v) ≡ low w d → AddUp w f b g v d
+add-up w f g b v d h p q = halves-whole w d _ _ h p q
 
 -- a section of which every relocation is read back
 module _ (object order addresses : List ℕ) (x : Site) (final : List ℕ) (back : (j : ℕ) → j < count x → ReadsBack object order addresses x final j) where
+  abbrev w : ℕ
+  w = addressWidth object
+
   abbrev t : ℕ → ℕ
-  t j = T (S (valueAt object order addresses x j)) (A object x j)
+  t j = targetAt object order addresses x j
 
   -- what relocation j says, for a decision
   abbrev Says : ℕ → Decision → Type 0
   Says j d =
-      Stored d (found object x) final (offset object x j) (t j) (P object x j) (pairDistance object order addresses x j)
+      Stored w d (found object x) final (offset object x j) (t j) (P object x j) (pairDistance object order addresses x j)
       (λ v. stackAt object order addresses x (offset object x j) v (count x))
 
   pub says : (j : ℕ) → j < count x → (d : Decision) → effect object x j ≡ d → Says j d
@@ -81,9 +79,9 @@ module _ (object order addresses : List ℕ) (x : Site) (final : List ℕ) (back
       go (At i) e o = (i, e)
       go NotOne e o = never (sym (ap isOne e) ∙ o)
 
-  distance-lt : (i : ℕ) → distanceAt object order addresses x i < 2 ^ 32
+  distance-lt : (i : ℕ) → distanceAt object order addresses x i < 2 ^ w
   unfolding distanceAt minus
-  distance-lt i = residue-lt 32 _
+  distance-lt i = residue-lt w _
 
   pub halves-of : Checked object order addresses x → Halves object order addresses x final
   unfolding distanceAt
@@ -92,7 +90,7 @@ module _ (object order addresses : List ℕ) (x : Site) (final : List ℕ) (back
         address = λ i j hi hj f g a b m n p q same.
             let high = says i hi (Store HighAbsolute f a m) p in
             let low-half = says j hj (Store LowAbsolute g b n) q in
-            add-up f g (leAt m final (offset object x i)) (leAt n final (offset object x j)) (t i) (residue-lt 32 _) (high .0) (low-half .0 ∙ ap (low 32) (sym same));
+            add-up w f g (leAt m final (offset object x i)) (leAt n final (offset object x j)) (t i) (residue-lt w _) (high .0) (low-half .0 ∙ ap (low w) (sym same));
         distance = λ j hj g b n q.
             let pair = has-pair k j hj (ap needsPair q) in
             let i : ℕ = pair .0 in
@@ -103,7 +101,7 @@ module _ (object order addresses : List ℕ) (x : Site) (final : List ℕ) (back
               i,
               there .0,
               pair .1,
-              add-up U g (leAt 4 final (offset object x i)) (leAt n final (offset object x j)) (distanceAt object order addresses x i) (distance-lt i) (high .0) (low-half .0 ∙ ap (low 32) same),
+              add-up w U g (leAt 4 final (offset object x i)) (leAt n final (offset object x j)) (distanceAt object order addresses x i) (distance-lt i) (high .0) (low-half .0 ∙ ap (low w) same),
             );
       }
 

@@ -1,7 +1,7 @@
 -- The bytes of a relocation are known by what is read out of them. Assumes nothing.
 use mathlib.Core.Path.{_≡_, sym, ap, ap₂, _∙_}
-use mathlib.Core.Bool.{true}
-use Prim.Native.Nat.{ℕ, _+_, _/_, _%_, _^_, _<_}
+use mathlib.Core.Bool.{true, _&&_}
+use Prim.Native.Nat.{ℕ, _+_, _/_, _%_, _^_, _≤_, _<_}
 use native.Mathlib.Omega.{arith}
 use lib.Dec.{eqb}
 use lib.IntN.{ℤ}
@@ -16,7 +16,7 @@ use Rattle.fields.specs.Fields.{layout, valueBits, unit}
 use Rattle.fields.proofs.Laws.Layouts.{total, read-append}
 use Rattle.fields.proofs.Laws.Determined.{determined, read-lt}
 use Rattle.riscv.specs.declared.forms.Form.{Form}
-use Rattle.riscv.proofs.Laws.Apart.{parts-apart}
+use Rattle.riscv.proofs.Laws.Apart.{parts-apart, extended-known}
 use Rattle.types.specs.declared.Calculation.{Calculation}
 use Rattle.types.specs.declared.Calculation.the-variants.{Absolute, PcRelative, Distance, BothHalves, HighPcRelative, HighAbsolute, LowAbsolute, LowOfPair, Add, Sub, Set}
 use Rattle.types.specs.declared.Decision.the-variants.{Store}
@@ -35,48 +35,49 @@ high-unit : (w : ℕ) → read formatU w % 4096 ≡ 0
 unfolding read
 high-unit w = omega arith
 
-call-read : (w : ℕ) → read (layout Call) w ≡ read formatU w + read formatI (w / 2 ^ 32)
+call-read : (b : ℕ) → read (layout Call) b ≡ read formatU b + read formatI (b / 2 ^ 32)
 unfolding total
-call-read w = read-append formatU formatI w
+call-read b = read-append formatU formatI b
 
-call-known : (f : Field) (w v t p d : ℕ) (z : ℤ) → suits BothHalves f ≡ true → Said BothHalves f w t p d z → Said BothHalves f v t p d z → read (layout f) w ≡ read (layout f) v
-call-known Call w v t p d z e x y =
-    let apart = parts-apart (read formatU w) (read formatU v) (read formatI (w / 2 ^ 32)) (read formatI (v / 2 ^ 32)) (high-unit w) (high-unit v)
-    (read-lt U w) (read-lt U v) (read-lt I (w / 2 ^ 32)) (read-lt I (v / 2 ^ 32)) (x ∙ sym y) in
-    call-read w ∙ ap₂ _+_ (apart .0) (apart .1) ∙ sym (call-read v)
-call-known U w v t p d z e x y = never e
-call-known I w v t p d z e x y = never e
-call-known S w v t p d z e x y = never e
-call-known B w v t p d z e x y = never e
-call-known J w v t p d z e x y = never e
-call-known Cb w v t p d z e x y = never e
-call-known Cj w v t p d z e x y = never e
-call-known (Data width) w v t p d z e x y = never e
+call-known : (w : ℕ) → 32 ≤ w → (f : Field) (b v t p d : ℕ) (z : ℤ) → suits BothHalves f ≡ true → Said w BothHalves f b t p d z → Said w BothHalves f v t p d z
+    → read (layout f) b ≡ read (layout f) v
+call-known w h Call b v t p d z e x y =
+    let apart = parts-apart w (read formatU b) (read formatU v) (read formatI (b / 2 ^ 32)) (read formatI (v / 2 ^ 32)) h (high-unit b) (high-unit v)
+    (read-lt U b) (read-lt U v) (read-lt I (b / 2 ^ 32)) (read-lt I (v / 2 ^ 32)) (x ∙ sym y) in
+    call-read b ∙ ap₂ _+_ (apart .0) (apart .1) ∙ sym (call-read v)
+call-known w h U b v t p d z e x y = never e
+call-known w h I b v t p d z e x y = never e
+call-known w h S b v t p d z e x y = never e
+call-known w h B b v t p d z e x y = never e
+call-known w h J b v t p d z e x y = never e
+call-known w h Cb b v t p d z e x y = never e
+call-known w h Cj b v t p d z e x y = never e
+call-known w h (Data width) b v t p d z e x y = never e
 
--- a low half has twelve bits
-twelve : (f : Field) (w : ℕ) → suits LowAbsolute f ≡ true → read (layout f) w < 2 ^ 12
-twelve f w e =
-    let bits : valueBits f ≡ 12 = eqb-true _ _ (and-right (eqb (unit f) 1) (eqb (valueBits f) 12) e) in
-    rw bits at (read-lt f w)
+-- a high half has 32 bits, and a low half twelve
+so-many : (u n : ℕ) (f : Field) (b : ℕ) → eqb (unit f) u && eqb (valueBits f) n ≡ true → read (layout f) b < 2 ^ n
+so-many u n f b e =
+    let bits : valueBits f ≡ n = eqb-true _ _ (and-right (eqb (unit f) u) (eqb (valueBits f) n) e) in
+    rw bits at (read-lt f b)
 
 -- for every calculation
-read-known : (c : Calculation) (f : Field) (w v t p d : ℕ) (z : ℤ) → suits c f ≡ true → Said c f w t p d z → Said c f v t p d z
-    → read (layout f) w ≡ read (layout f) v
-read-known Absolute f w v t p d z e x y = x ∙ sym y
-read-known PcRelative f w v t p d z e x y = x ∙ sym y
-read-known Distance f w v t p d z e x y = signed-known (valueBits f) _ _ _ (read-lt f w) (read-lt f v) x y
-read-known BothHalves f w v t p d z e x y = call-known f w v t p d z e x y
-read-known HighPcRelative f w v t p d z e x y = x ∙ sym y
-read-known HighAbsolute f w v t p d z e x y = x ∙ sym y
-read-known LowAbsolute f w v t p d z e x y = signed-known 12 _ _ _ (twelve f w e) (twelve f v e) x y
-read-known LowOfPair f w v t p d z e x y = signed-known 12 _ _ _ (twelve f w e) (twelve f v e) x y
-read-known Add f w v t p d z e x y = x ∙ sym y
-read-known Sub f w v t p d z e x y = x ∙ sym y
-read-known Set f w v t p d z e x y = x ∙ sym y
+read-known : (w : ℕ) → 32 ≤ w → (c : Calculation) (f : Field) (b v t p d : ℕ) (z : ℤ) → suits c f ≡ true → Said w c f b t p d z → Said w c f v t p d z
+    → read (layout f) b ≡ read (layout f) v
+read-known w h Absolute f b v t p d z e x y = x ∙ sym y
+read-known w h PcRelative f b v t p d z e x y = x ∙ sym y
+read-known w h Distance f b v t p d z e x y = signed-known (valueBits f) _ _ _ (read-lt f b) (read-lt f v) x y
+read-known w h BothHalves f b v t p d z e x y = call-known w h f b v t p d z e x y
+read-known w h HighPcRelative f b v t p d z e x y = extended-known w _ _ h (so-many 4096 32 f b e) (so-many 4096 32 f v e) (x ∙ sym y)
+read-known w h HighAbsolute f b v t p d z e x y = extended-known w _ _ h (so-many 4096 32 f b e) (so-many 4096 32 f v e) (x ∙ sym y)
+read-known w h LowAbsolute f b v t p d z e x y = signed-known 12 _ _ _ (so-many 1 12 f b e) (so-many 1 12 f v e) x y
+read-known w h LowOfPair f b v t p d z e x y = signed-known 12 _ _ _ (so-many 1 12 f b e) (so-many 1 12 f v e) x y
+read-known w h Add f b v t p d z e x y = x ∙ sym y
+read-known w h Sub f b v t p d z e x y = x ∙ sym y
+read-known w h Set f b v t p d z e x y = x ∙ sym y
 
 -- and so the bytes
-pub bytes-known : (kind : ℕ) (c : Calculation) (f : Field) (form : Form) (n : ℕ) → decision kind ≡ Store c f form n → (w v : ℕ) → w < 256 ^ n → v < 256 ^ n
-    → (t p d : ℕ) (z : ℤ) → Said c f w t p d z → Said c f v t p d z → outside (layout f) w ≡ outside (layout f) v → w ≡ v
-bytes-known kind c f form n e w v hw hv t p d z x y o =
+pub bytes-known : (w : ℕ) → 32 ≤ w → (kind : ℕ) (c : Calculation) (f : Field) (form : Form) (n : ℕ) → decision kind ≡ Store c f form n → (b v : ℕ) → b < 256 ^ n → v < 256 ^ n
+    → (t p d : ℕ) (z : ℤ) → Said w c f b t p d z → Said w c f v t p d z → outside (layout f) b ≡ outside (layout f) v → b ≡ v
+bytes-known w h kind c f form n e b v hb hv t p d z x y o =
     let size : 256 ^ n ≡ 2 ^ total (layout f) = ap (λ k. 256 ^ k) (store-bytes kind c f form n e) ∙ sym (radix f) in
-    determined f w v (rw size at hw) (rw size at hv) o (read-known c f w v t p d z (store-suits kind c f form n e) x y)
+    determined f b v (rw size at hb) (rw size at hv) o (read-known w h c f b v t p d z (store-suits kind c f form n e) x y)

@@ -1,7 +1,7 @@
 -- What a relocation leaves depends on S + A modulo 2^64 alone. Assumes nothing.
 use mathlib.Core.Path.{_≡_, refl, sym, ap, _∙_}
 use mathlib.Core.Bool.{true}
-use Prim.Native.Nat.{ℕ, _+_, _%_, _^_}
+use Prim.Native.Nat.{ℕ, _+_, _%_, _^_, _≤_}
 use lib.IntN.{ℤ, pos, _+ℤ_, _-ℤ_}
 use Rattle.word.specs.Whole.{residue, plus, minus}
 use Rattle.word.proofs.Laws.Whole.{residue-narrow, plus-residue, minus-residue}
@@ -13,6 +13,7 @@ use Rattle.fields.specs.Fields.{layout, valueBits}
 use Rattle.types.specs.declared.Calculation.{Calculation}
 use Rattle.types.specs.declared.Calculation.the-variants.{Absolute, PcRelative, Distance, BothHalves, HighPcRelative, HighAbsolute, LowAbsolute, LowOfPair, Add, Sub, Set}
 use Rattle.riscv.specs.Ranges.{distance}
+use Rattle.riscv.proofs.Laws.Halves.{narrowed}
 use Rattle.effects.specs.Effects.{takesPair}
 use Rattle.stores.specs.Patches.{highPart, lowPart, calculated, patched}
 
@@ -58,21 +59,26 @@ whole (Data W16) = refl
 whole (Data W32) = refl
 whole (Data W64) = refl
 
-same-value : (c : Calculation) (f : Field) (v : ℕ) (y z : ℤ) (p d e : ℕ) → residue 64 y ≡ residue 64 z → (takesPair c ≡ true → d ≡ e)
-    → calculated c (valueBits f) v y p d ≡ calculated c (valueBits f) v z p e
-same-value Absolute f v y z p d e q r = narrow 32 32 y z q
-same-value PcRelative f v y z p d e q r = ap (λ t. minus 32 t p) (narrow 32 32 y z q)
-same-value Distance f v y z p d e q r = ap (λ t. residue 32 (distance t p)) (narrow 32 32 y z q)
-same-value BothHalves f v y z p d e q r = ap (λ t. highPart (minus 32 t p) + lowPart (minus 32 t p)) (narrow 32 32 y z q)
-same-value HighPcRelative f v y z p d e q r = ap (λ t. highPart (minus 32 t p)) (narrow 32 32 y z q)
-same-value HighAbsolute f v y z p d e q r = ap highPart (narrow 32 32 y z q)
-same-value LowAbsolute f v y z p d e q r = ap lowPart (narrow 32 32 y z q)
-same-value LowOfPair f v y z p d e q r = ap lowPart (r refl)
-same-value Add f v y z p d e q r = narrow-sum (rest f) (valueBits f) v y z (rw (whole f) q)
-same-value Sub f v y z p d e q r = narrow-difference (rest f) (valueBits f) v y z (rw (whole f) q)
-same-value Set f v y z p d e q r = narrow (rest f) (valueBits f) y z (rw (whole f) q)
+-- addresses of w bits, which 64 hold
+module _ (w : ℕ) (h : w ≤ 64) where
+  cut : (y z : ℤ) → residue 64 y ≡ residue 64 z → residue w y ≡ residue w z
+  cut y z q = sym (narrowed 64 w y h) ∙ ap (λ n. n % 2 ^ w) q ∙ narrowed 64 w z h
 
-pub same-patch : (c : Calculation) (f : Field) (w : ℕ) (y z : ℤ) (p d e : ℕ) → residue 64 y ≡ residue 64 z → (takesPair c ≡ true → d ≡ e)
-    → patched c f w y p d ≡ patched c f w z p e
-unfolding patched
-same-patch c f w y z p d e q r = ap (put (layout f) w) (same-value c f (read (layout f) w) y z p d e q r)
+  same-value : (c : Calculation) (f : Field) (v : ℕ) (y z : ℤ) (p d e : ℕ) → residue 64 y ≡ residue 64 z → (takesPair c ≡ true → d ≡ e)
+      → calculated w c (valueBits f) v y p d ≡ calculated w c (valueBits f) v z p e
+  same-value Absolute f v y z p d e q r = cut y z q
+  same-value PcRelative f v y z p d e q r = ap (λ t. minus w t p) (cut y z q)
+  same-value Distance f v y z p d e q r = ap (λ t. residue w (distance t p)) (cut y z q)
+  same-value BothHalves f v y z p d e q r = ap (λ t. highPart w (minus w t p) + lowPart w (minus w t p)) (cut y z q)
+  same-value HighPcRelative f v y z p d e q r = ap (λ t. highPart w (minus w t p)) (cut y z q)
+  same-value HighAbsolute f v y z p d e q r = ap (highPart w) (cut y z q)
+  same-value LowAbsolute f v y z p d e q r = ap (lowPart w) (cut y z q)
+  same-value LowOfPair f v y z p d e q r = ap (lowPart w) (r refl)
+  same-value Add f v y z p d e q r = narrow-sum (rest f) (valueBits f) v y z (rw (whole f) q)
+  same-value Sub f v y z p d e q r = narrow-difference (rest f) (valueBits f) v y z (rw (whole f) q)
+  same-value Set f v y z p d e q r = narrow (rest f) (valueBits f) y z (rw (whole f) q)
+
+  pub same-patch : (c : Calculation) (f : Field) (b : ℕ) (y z : ℤ) (p d e : ℕ) → residue 64 y ≡ residue 64 z → (takesPair c ≡ true → d ≡ e)
+      → patched w c f b y p d ≡ patched w c f b z p e
+  unfolding patched
+  same-patch c f b y z p d e q r = ap (put (layout f) b) (same-value c f (read (layout f) b) y z p d e q r)

@@ -26,9 +26,11 @@ use Rattle.types.specs.declared.Calculation.{Calculation}
 use Rattle.types.specs.declared.Calculation.the-variants.{Absolute, PcRelative, Distance, BothHalves, HighPcRelative, HighAbsolute, LowAbsolute, LowOfPair, Add, Sub, Set}
 use Rattle.types.specs.declared.Decision.{Decision}
 use Rattle.types.specs.declared.Decision.the-variants.{Marker, Align, Store, Refused}
+use Rattle.elf.specs.Headers.{addressWidth}
+use Rattle.elf.proofs.Laws.Headers.{address-wide}
 use Rattle.rela.specs.declared.sites.Site.{Site}
-use Rattle.rela.specs.Sites.{count, effect, offset, A, P, found}
-use Rattle.values.specs.Values.{S as value, T, valueAt}
+use Rattle.rela.specs.Sites.{count, effect, offset, P, found}
+use Rattle.values.specs.Values.{targetAt}
 use Rattle.effects.specs.Effects.{touched, isStore, stacks, stackWidth}
 use Rattle.rela.specs.Shape.{end, shapeWell}
 use Rattle.rules.specs.Rules.{reachesWell, distanceWell}
@@ -44,7 +46,7 @@ use Rattle.stores.specs.Facts.{Checked}
 use Rattle.stores.proofs.Laws.Sections.{applied-store, applied-marker}
 use Rattle.stores.proofs.Laws.Overlap.{Shares, apart, same-stack}
 use Rattle.stores.proofs.Laws.After.{length-after, applied-other}
-use Rattle.stores.proofs.Laws.Said.{store-suits, said}
+use Rattle.stores.proofs.Laws.Said.{Near, near-32, store-suits, said}
 use Rattle.stores.proofs.Laws.Stacks.{field-lt, stacked}
 
 -- ---- what is stored fits its bytes
@@ -65,13 +67,13 @@ radix (Data W16) = refl
 radix (Data W32) = refl
 radix (Data W64) = refl
 
-patched-lt : (c : Calculation) (f : Field) (w : ℕ) (x : ℤ) (p d n : ℕ) → n ≡ fieldBytes f → patched c f w x p d < 256 ^ n
+patched-lt : (w : ℕ) (c : Calculation) (f : Field) (b : ℕ) (x : ℤ) (p d n : ℕ) → n ≡ fieldBytes f → patched w c f b x p d < 256 ^ n
 unfolding patched
-patched-lt c f w x p d n e = rw (e, ← (radix f)) (put-lt (layout f) w _)
+patched-lt w c f b x p d n e = rw (e, ← (radix f)) (put-lt (layout f) b _)
 
-outside-patched : (c : Calculation) (f : Field) (w : ℕ) (x : ℤ) (p d : ℕ) → outside (layout f) (patched c f w x p d) ≡ outside (layout f) w
+outside-patched : (w : ℕ) (c : Calculation) (f : Field) (b : ℕ) (x : ℤ) (p d : ℕ) → outside (layout f) (patched w c f b x p d) ≡ outside (layout f) b
 unfolding patched
-outside-patched c f w x p d = outside-put (layout f) w _
+outside-patched w c f b x p d = outside-put (layout f) b _
 
 -- a decision of no stack has no width, and one of a stack has one
 no-width : (c : Calculation) (f : Field) (form : Form) (n : ℕ) → stacks c ≡ false → stackWidth (Store c f form n) ≡ 0
@@ -93,13 +95,16 @@ data-some Cj e = never e
 data-some Call e = never e
 
 -- one decision says two things of its parts
-reaches-of : (d : Decision) (c : Calculation) (f : Field) (form : Form) (n t p : ℕ) → d ≡ Store c f form n → distanceWell d t p ≡ true → reachesWell c f t p ≡ true
-reaches-of d c f form n t p e h = sym (ap (λ d. distanceWell d t p) e) ∙ h
+reaches-of : (w : ℕ) (d : Decision) (c : Calculation) (f : Field) (form : Form) (n t p : ℕ) → d ≡ Store c f form n → distanceWell w d t p ≡ true → reachesWell w c f t p ≡ true
+reaches-of w d c f form n t p e h = sym (ap (λ d. distanceWell w d t p) e) ∙ h
 
 module _ (object order addresses : List ℕ) (x : Site) (k : Checked object order addresses x) (j : ℕ) (h : j < count x)
     (c : Calculation) (f : Field) (form : Form) (n : ℕ) (e : effect object x j ≡ Store c f form n) where
   shaped : (i : ℕ) → i < count x → shapeWell object x i ≡ true
   shaped i l = kept-rules object order addresses x i (k .kept i l) .shape
+
+  abbrev w : ℕ
+  w = addressWidth object
 
   abbrev at : ℕ
   at = offset object x j
@@ -155,18 +160,18 @@ module _ (object order addresses : List ℕ) (x : Site) (k : Checked object orde
 
   -- what a relocation that shares the place stores, read at once
   stored-here : (m : ℕ) (b : Calculation) (g : Form) → effect object x m ≡ Store b f g n → offset object x m ≡ at
-      → leAt n (now (suc m)) at ≡ patched b f (leAt n (now m) at) (sumAt object order addresses x m) (P object x m) (pairDistance object order addresses x m)
+      → leAt n (now (suc m)) at ≡ patched w b f (leAt n (now m) at) (sumAt object order addresses x m) (P object x m) (pairDistance object order addresses x m)
   unfolding after
   stored-here m b g q o =
       let s : List ℕ = now m in
       let y : ℤ = sumAt object order addresses x m in
       let d : ℕ = pairDistance object order addresses x m in
-      let u : ℕ = patched b f (leAt n s (offset object x m)) y (P object x m) d in
+      let u : ℕ = patched w b f (leAt n s (offset object x m)) y (P object x m) d in
       ap (λ l. leAt n l at) (applied-store object order addresses x m b f g n s q)
       ∙ ap (λ a. leAt n (lib.Seq.sets s a (bytes n u)) at) o
       ∙ leAt-sets n s at u (fits m)
-      ∙ mod-eq-of-lt (patched-lt b f (leAt n s (offset object x m)) y (P object x m) d n (store-bytes _ b f g n q))
-      ∙ ap (λ a. patched b f (leAt n s a) y (P object x m) d) o
+      ∙ mod-eq-of-lt (patched-lt w b f (leAt n s (offset object x m)) y (P object x m) d n (store-bytes _ b f g n q))
+      ∙ ap (λ a. patched w b f (leAt n s a) y (P object x m) d) o
 
   -- ---- a relocation of no stack is alone
 
@@ -189,7 +194,7 @@ module _ (object order addresses : List ℕ) (x : Site) (k : Checked object orde
     before (suc m) l = alone m (omega arith) (λ z. omega arith) ∙ before m (omega arith)
 
     abbrev laid : ℕ
-    laid = patched c f (leAt n (found object x) at) (sumAt object order addresses x j) (P object x j) (pairDistance object order addresses x j)
+    laid = patched w c f (leAt n (found object x) at) (sumAt object order addresses x j) (P object x j) (pairDistance object order addresses x j)
 
     then : (m : ℕ) → j < m → m ≤ count x → leAt n (now m) at ≡ laid
     then zero l b = absurd (omega arith)
@@ -201,22 +206,27 @@ module _ (object order addresses : List ℕ) (x : Site) (k : Checked object orde
             let same : m ≡ j = omega arith in
             ap (λ i. leAt n (now (suc i)) at) same
             ∙ stored-here j c form e refl
-            ∙ ap (λ w. patched c f w (sumAt object order addresses x j) (P object x j) (pairDistance object order addresses x j)) (before j (omega arith))
+            ∙ ap (λ b. patched w c f b (sumAt object order addresses x j) (P object x j) (pairDistance object order addresses x j)) (before j (omega arith))
 
-    pub single-back : Stored (Store c f form n) (found object x) (now (count x)) at (residue 32 (sumAt object order addresses x j)) (P object x j)
+    -- at 32 bits every number is near enough; at 64 bits check 13 has to ask for it (document 02, Ticket 1)
+    near : (t p : ℕ) → Near w c t p
+    near t p = near-32 c t p
+
+    pub single-back : Stored w (Store c f form n) (found object x) (now (count x)) at (residue w (sumAt object order addresses x j)) (P object x j)
         (pairDistance object order addresses x j) (λ v. stackAt object order addresses x at v (count x))
     unfolding sumAt
     single-back =
         let y : ℤ = sumAt object order addresses x j in
         let p : ℕ = P object x j in
         let d : ℕ = pairDistance object order addresses x j in
-        let w : ℕ = leAt n (found object x) at in
-        let whole : ℤ = stackAt object order addresses x at (read (layout f) w) (count x) in
+        let b : ℕ = leAt n (found object x) at in
+        let whole : ℤ = stackAt object order addresses x at (read (layout f) b) (count x) in
         let final : leAt n (now (count x)) at ≡ laid = then (count x) h (omega arith) in
-        let reach : reachesWell c f (residue 32 y) p ≡ true =
-        reaches-of (effect object x j) c f form n (residue 32 y) p e (kept-rules object order addresses x j (k .kept j h) .distance) in (
-          subst (λ u. Said c f u (residue 32 y) p d whole) (sym final) (said c f w y p d whole single (store-suits _ c f form n e) reach),
-          ap (outside (layout f)) final ∙ outside-patched c f w y p d,
+        let reach : reachesWell w c f (residue w y) p ≡ true =
+        reaches-of w (effect object x j) c f form n (residue w y) p e (kept-rules object order addresses x j (k .kept j h) .distance) in (
+          subst (λ u. Said w c f u (residue w y) p d whole) (sym final)
+              (said w (address-wide object) c f b y p d whole single (store-suits _ c f form n e) reach (near (residue w y) p)),
+          ap (outside (layout f)) final ∙ outside-patched w c f b y p d,
         )
 
   -- ---- a stack
@@ -284,11 +294,11 @@ module _ (object order addresses : List ℕ) (x : Site) (k : Checked object orde
         let a : ℤ = sumAt object order addresses x m in
         let p : ℕ = P object x m in
         let d : ℕ = pairDistance object order addresses x m in
-        let w : ℕ = leAt n (now m) at in
-        let is : leAt n (now (suc m)) at ≡ patched b f w a p d = stored-here m b y q o in
+        let u : ℕ = leAt n (now m) at in
+        let is : leAt n (now (suc m)) at ≡ patched w b f u a p d = stored-here m b y q o in
         record {
-          value = ap (read (layout f)) is ∙ stacked b f w z a p d t on-data (held .value) ∙ ap (residue (valueBits f)) (sym (here q));
-          rest = ap (outside (layout f)) is ∙ outside-patched b f w a p d ∙ held .rest;
+          value = ap (read (layout f)) is ∙ stacked w b f u z a p d t on-data (held .value) ∙ ap (residue (valueBits f)) (sym (here q));
+          rest = ap (outside (layout f)) is ∙ outside-patched w b f u a p d ∙ held .rest;
         }
       where
         here : effect object x m ≡ Store b f y n
@@ -327,20 +337,20 @@ module _ (object order addresses : List ℕ) (x : Site) (k : Checked object orde
             let same : j ≡ m = omega arith in
             together m (record { place = ap (offset object x) same; some = wide; width = ap (λ i. stackWidth (effect object x i)) same }) s held
 
-    said-stack : (b : Calculation) (w t p d : ℕ) (whole : ℤ) → stacks b ≡ true → read (layout f) w ≡ residue (valueBits f) whole → Said b f w t p d whole
-    said-stack Add w t p d whole s r = r
-    said-stack Sub w t p d whole s r = r
-    said-stack Set w t p d whole s r = r
-    said-stack Absolute w t p d whole s r = never s
-    said-stack PcRelative w t p d whole s r = never s
-    said-stack Distance w t p d whole s r = never s
-    said-stack BothHalves w t p d whole s r = never s
-    said-stack HighPcRelative w t p d whole s r = never s
-    said-stack HighAbsolute w t p d whole s r = never s
-    said-stack LowAbsolute w t p d whole s r = never s
-    said-stack LowOfPair w t p d whole s r = never s
+    said-stack : (b : Calculation) (u t p d : ℕ) (whole : ℤ) → stacks b ≡ true → read (layout f) u ≡ residue (valueBits f) whole → Said w b f u t p d whole
+    said-stack Add u t p d whole s r = r
+    said-stack Sub u t p d whole s r = r
+    said-stack Set u t p d whole s r = r
+    said-stack Absolute u t p d whole s r = never s
+    said-stack PcRelative u t p d whole s r = never s
+    said-stack Distance u t p d whole s r = never s
+    said-stack BothHalves u t p d whole s r = never s
+    said-stack HighPcRelative u t p d whole s r = never s
+    said-stack HighAbsolute u t p d whole s r = never s
+    said-stack LowAbsolute u t p d whole s r = never s
+    said-stack LowOfPair u t p d whole s r = never s
 
-    pub stack-back : (t p d : ℕ) → Stored (Store c f form n) (found object x) (now (count x)) at t p d (λ v. stackAt object order addresses x at v (count x))
+    pub stack-back : (t p d : ℕ) → Stored w (Store c f form n) (found object x) (now (count x)) at t p d (λ v. stackAt object order addresses x at v (count x))
     stack-back t p d =
         let held = holds (count x) (omega arith) in
         (said-stack c (leAt n (now (count x)) at) t p d (stackAt object order addresses x at v₀ (count x)) stack (held .value), held .rest)
@@ -356,15 +366,15 @@ read-back object order addresses x k j h = go (effect object x j) refl
     final = after object order addresses x (count x)
 
     t : ℕ
-    t = T (value (valueAt object order addresses x j)) (A object x j)
+    t = targetAt object order addresses x j
 
     go : (d : Decision) → effect object x j ≡ d
-        → Stored d (found object x) final (offset object x j) t (P object x j) (pairDistance object order addresses x j)
+        → Stored (addressWidth object) d (found object x) final (offset object x j) t (P object x j) (pairDistance object order addresses x j)
         (λ v. stackAt object order addresses x (offset object x j) v (count x))
     go (Store c f form n) e = split (stacks c) refl
       where
         split : (b : Bool) → stacks c ≡ b
-            → Stored (Store c f form n) (found object x) final (offset object x j) t (P object x j) (pairDistance object order addresses x j)
+            → Stored (addressWidth object) (Store c f form n) (found object x) final (offset object x j) t (P object x j) (pairDistance object order addresses x j)
             (λ v. stackAt object order addresses x (offset object x j) v (count x))
         split true s = stack-back object order addresses x k j h c f form n e s t (P object x j) (pairDistance object order addresses x j)
         split false s = single-back object order addresses x k j h c f form n e s

@@ -1,9 +1,9 @@
 -- Laws of sections after their relocations. Assumes nothing.
-use mathlib.Core.Path.{_≡_, refl, sym, ap, _∙_}
+use mathlib.Core.Path.{_≡_, refl, sym, ap, _∙_, subst}
 use mathlib.Core.Bool.{Bool, true, false, _&&_}
 use mathlib.Core.List.{List}
 use Prim.Native.Nat.{ℕ, _+_, _^_, _≤_, _<_}
-use native.Mathlib.Nat.{mod-eq-of-lt}
+use native.Mathlib.Nat.{mod-eq-of-lt, zero-add}
 use native.Mathlib.Omega.{arith}
 use lib.Dec.{eqb}
 use lib.IntN.{ℤ, pos, _+ℤ_, _-ℤ_}
@@ -18,9 +18,10 @@ use Rattle.word.proofs.Laws.Whole.{minus-residue, residue-signed}
 use Rattle.elf.specs.declared.Section.{Section}
 use Rattle.elf.specs.declared.Symbol.{Symbol}
 use Rattle.elf.specs.declared.Relocation.{Relocation}
-use Rattle.elf.specs.Headers.{sectionCount}
+use Rattle.elf.specs.Headers.{addressWidth, sectionCount}
 use Rattle.elf.specs.Sections.{sectionAt, symbolTable, countingRela, relocationsIn}
 use Rattle.elf.specs.Entries.{bytesOf, symbolAt}
+use Rattle.elf.proofs.Laws.Headers.{address-narrow}
 use Rattle.validate.specs.Facts.{SoundObject}
 use Rattle.fields.specs.declared.Field.{Field}
 use Rattle.riscv.specs.declared.forms.Form.{Form}
@@ -55,15 +56,18 @@ module _ (object order addresses : List ℕ) (x : Site) (j : ℕ) (r : Relocatio
   unfolding sumAt
   sum-read = ap (λ v. residue 64 (pos (S v) +ℤ signed 64 (r .addend))) same-value ∙ ap (λ e. residue 64 (pos (S (valueAt object order addresses x j)) +ℤ signed 64 (e .addend))) re
 
-  pub distance-read : (t p : ℕ) → t ≡ T (S v) (signed 64 (r .addend)) → p ≡ plus 32 (x .address .0) (r .offset .0) → minus 32 t p ≡ distanceAt object order addresses x j
+  abbrev w : ℕ
+  w = addressWidth object
+
+  pub distance-read : (t p : ℕ) → t ≡ T w (S v) (signed 64 (r .addend)) → p ≡ plus w (x .address .0) (r .offset .0) → minus w t p ≡ distanceAt object order addresses x j
   unfolding distanceAt minus plus residue
   distance-read t p te pe =
       let m : ℕ = x .address .0 + r .offset .0 in
-      ap (minus 32 t) pe
-      ∙ minus-residue 0 32 t (pos m)
-      ∙ ap (λ t. residue 32 (pos t -ℤ pos m)) te
-      ∙ ap (λ v. residue 32 (pos (T (S v) (signed 64 (r .addend))) -ℤ pos m)) same-value
-      ∙ ap (λ e. residue 32 (pos (T (S (valueAt object order addresses x j)) (signed 64 (e .addend))) -ℤ pos (x .address .0 + e .offset .0))) re
+      ap (minus w t) pe
+      ∙ subst (λ k. minus w t (residue k (pos m)) ≡ residue w (pos t -ℤ pos m)) (zero-add w) (minus-residue 0 w t (pos m))
+      ∙ ap (λ t. residue w (pos t -ℤ pos m)) te
+      ∙ ap (λ v. residue w (pos (T w (S v) (signed 64 (r .addend))) -ℤ pos m)) same-value
+      ∙ ap (λ e. residue w (pos (T w (S (valueAt object order addresses x j)) (signed 64 (e .addend))) -ℤ pos (x .address .0 + e .offset .0))) re
 
 -- the symbol of relocation j, by the table h and the relocation r that were read
 pub symbol-read : (object : List ℕ) (x : Site) (j : ℕ) (r : Relocation) (h : Section) (y : Symbol) → r ≡ entry object x j → h ≡ sectionAt object (symbolTable object)
@@ -71,44 +75,46 @@ pub symbol-read : (object : List ℕ) (x : Site) (j : ℕ) (r : Relocation) (h :
 symbol-read object x j r h y re he ye =
     ye ∙ ap (λ h. symbolAt object h (r .symbol)) he ∙ ap (λ r. symbolAt object (sectionAt object (symbolTable object)) (r .symbol)) re
 
--- P of a store, which adding modulo 2^32 gives
-pub place-read : (object : List ℕ) (x : Site) (j : ℕ) (r : Relocation) (p : ℕ) → r ≡ entry object x j → p ≡ plus 32 (x .address .0) (r .offset .0) → SoundSite object x
+-- P of a store, which adding modulo 2^w gives
+pub place-read : (object : List ℕ) (x : Site) (j : ℕ) (r : Relocation) (p : ℕ) → r ≡ entry object x j → p ≡ plus (addressWidth object) (x .address .0) (r .offset .0) → SoundSite object x
     → end object x j ≤ x .target .size → isStore (effect object x j) ≡ true → p ≡ P object x j
 unfolding plus
-place-read object x j r p re pe f inside s = pe ∙ ap (λ r. plus 32 (x .address .0) (r .offset .0)) re ∙ mod-eq-of-lt (place-below object x j f inside s)
+place-read object x j r p re pe f inside s = pe ∙ ap (λ r. plus (addressWidth object) (x .address .0) (r .offset .0)) re ∙ mod-eq-of-lt (place-below object x j f inside s)
 
 -- ---- one relocation applied
 
 module _ (object order addresses : List ℕ) (x : Site) (j : ℕ) where
   pub applied-store : (c : Calculation) (f : Field) (form : Form) (n : ℕ) (s : List ℕ) → effect object x j ≡ Store c f form n
       → applied object order addresses x j s
-      ≡ sets s (offset object x j) (bytes n (patched c f (leAt n s (offset object x j)) (sumAt object order addresses x j) (P object x j) (pairDistance object order addresses x j)))
+      ≡ sets s (offset object x j) (bytes n (patched (addressWidth object) c f (leAt n s (offset object x j)) (sumAt object order addresses x j) (P object x j) (pairDistance object order addresses x j)))
   unfolding applied
   applied-store c f form n s e =
-      ap (λ d. stored d (offset object x j) (sumAt object order addresses x j) (P object x j) (pairDistance object order addresses x j) s) e
+      ap (λ d. stored (addressWidth object) d (offset object x j) (sumAt object order addresses x j) (P object x j) (pairDistance object order addresses x j) s) e
 
   pub applied-marker : (s : List ℕ) → isStore (effect object x j) ≡ false → applied object order addresses x j s ≡ s
   unfolding applied
   applied-marker s e = go (effect object x j) e
     where
-      go : (d : Decision) → isStore d ≡ false → stored d (offset object x j) (sumAt object order addresses x j) (P object x j) (pairDistance object order addresses x j) s ≡ s
+      go : (d : Decision) → isStore d ≡ false → stored (addressWidth object) d (offset object x j) (sumAt object order addresses x j) (P object x j) (pairDistance object order addresses x j) s ≡ s
       go (Store c f form n) q = never (sym q)
       go Marker q = refl
       go Align q = refl
       go Refused q = refl
 
-  -- by what the code works out: w the bytes as one number, y S + A in two's complement, p P, d the pair's distance, u what is stored
-  pub applied-read : (c : Calculation) (f : Field) (form : Form) (n : ℕ) (s : List ℕ) (w y p d u at : ℕ) → effect object x j ≡ Store c f form n
-      → at ≡ offset object x j → w ≡ leAt n s at → y < 2 ^ 64 → y ≡ residue 64 (sumAt object order addresses x j) → p ≡ P object x j
-      → (takesPair c ≡ true → d ≡ pairDistance object order addresses x j) → u ≡ patched c f w (signed 64 y) p d → sets s at (bytes n u) ≡ applied object order addresses x j s
-  applied-read c f form n s w y p d u at e ae we b ye pe de ue =
+  -- by what the code works out: b the bytes as one number, y S + A in two's complement, p P, d the pair's distance, u what is stored
+  pub applied-read : (c : Calculation) (f : Field) (form : Form) (n : ℕ) (s : List ℕ) (b y p d u at : ℕ) → effect object x j ≡ Store c f form n
+      → at ≡ offset object x j → b ≡ leAt n s at → y < 2 ^ 64 → y ≡ residue 64 (sumAt object order addresses x j) → p ≡ P object x j
+      → (takesPair c ≡ true → d ≡ pairDistance object order addresses x j) → u ≡ patched (addressWidth object) c f b (signed 64 y) p d
+      → sets s at (bytes n u) ≡ applied object order addresses x j s
+  applied-read c f form n s b y p d u at e ae be h ye pe de ue =
+      let w : ℕ = addressWidth object in
       let z : ℤ = sumAt object order addresses x j in
-      let same : residue 64 (signed 64 y) ≡ residue 64 z = residue-signed 64 y b ∙ ye in
+      let same : residue 64 (signed 64 y) ≡ residue 64 z = residue-signed 64 y h ∙ ye in
       ap (λ u. sets s at (bytes n u)) ue
-      ∙ ap (λ u. sets s at (bytes n u)) (same-patch c f w (signed 64 y) z p d (pairDistance object order addresses x j) same de)
-      ∙ ap (λ p. sets s at (bytes n (patched c f w z p (pairDistance object order addresses x j)))) pe
-      ∙ ap (λ w. sets s at (bytes n (patched c f w z (P object x j) (pairDistance object order addresses x j)))) we
-      ∙ ap (λ at. sets s at (bytes n (patched c f (leAt n s at) z (P object x j) (pairDistance object order addresses x j)))) ae
+      ∙ ap (λ u. sets s at (bytes n u)) (same-patch w (address-narrow object) c f b (signed 64 y) z p d (pairDistance object order addresses x j) same de)
+      ∙ ap (λ p. sets s at (bytes n (patched w c f b z p (pairDistance object order addresses x j)))) pe
+      ∙ ap (λ b. sets s at (bytes n (patched w c f b z (P object x j) (pairDistance object order addresses x j)))) be
+      ∙ ap (λ at. sets s at (bytes n (patched w c f (leAt n s at) z (P object x j) (pairDistance object order addresses x j)))) ae
       ∙ sym (applied-store c f form n s e)
 
 -- ---- the RELA section of a section

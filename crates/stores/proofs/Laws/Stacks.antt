@@ -14,7 +14,7 @@ use Rattle.fields.specs.declared.Width.the-variants.{W6, W8, W16, W32, W64}
 use Rattle.fields.specs.declared.Field.{Field}
 use Rattle.fields.specs.declared.Field.the-variants.{U, I, S, B, J, Cb, Cj, Call, Data}
 use Rattle.fields.specs.Layouts.{read, put}
-use Rattle.fields.specs.Fields.{layout, valueBits, bits, dataLayout}
+use Rattle.fields.specs.Fields.{layout, valueBits, bits as bitsOf, dataLayout}
 use Rattle.fields.proofs.Laws.Fields.{reads-back, read-whole, read-six}
 use Rattle.types.specs.declared.Calculation.{Calculation}
 use Rattle.types.specs.declared.Calculation.the-variants.{Absolute, PcRelative, Distance, BothHalves, HighPcRelative, HighAbsolute, LowAbsolute, LowOfPair, Add, Sub, Set}
@@ -38,21 +38,21 @@ difference-again w z x =
     (residue-sub w (pos (residue w z)) x ∙ residue-again w z ∙ sym (residue-sub w z x))
 
 -- one more of a stack
-step-again : (c : Calculation) (w v : ℕ) (z x : ℤ) (p d : ℕ) → stacks c ≡ true → v ≡ residue w z → calculated c w v x p d ≡ residue w (stackStep c z x)
-step-again Add w v z x p d s e = ap (λ n. residue w (pos n +ℤ x)) e ∙ sum-again w z x
-step-again Sub w v z x p d s e = ap (λ n. residue w (pos n -ℤ x)) e ∙ difference-again w z x
-step-again Set w v z x p d s e = refl
-step-again Absolute w v z x p d s e = never s
-step-again PcRelative w v z x p d s e = never s
-step-again Distance w v z x p d s e = never s
-step-again BothHalves w v z x p d s e = never s
-step-again HighPcRelative w v z x p d s e = never s
-step-again HighAbsolute w v z x p d s e = never s
-step-again LowAbsolute w v z x p d s e = never s
-step-again LowOfPair w v z x p d s e = never s
+step-again : (w : ℕ) (c : Calculation) (bits v : ℕ) (z x : ℤ) (p d : ℕ) → stacks c ≡ true → v ≡ residue bits z → calculated w c bits v x p d ≡ residue bits (stackStep c z x)
+step-again w Add bits v z x p d s e = ap (λ n. residue bits (pos n +ℤ x)) e ∙ sum-again bits z x
+step-again w Sub bits v z x p d s e = ap (λ n. residue bits (pos n -ℤ x)) e ∙ difference-again bits z x
+step-again w Set bits v z x p d s e = refl
+step-again w Absolute bits v z x p d s e = never s
+step-again w PcRelative bits v z x p d s e = never s
+step-again w Distance bits v z x p d s e = never s
+step-again w BothHalves bits v z x p d s e = never s
+step-again w HighPcRelative bits v z x p d s e = never s
+step-again w HighAbsolute bits v z x p d s e = never s
+step-again w LowAbsolute bits v z x p d s e = never s
+step-again w LowOfPair bits v z x p d s e = never s
 
 -- a data field's value has no more than its bits
-data-lt : (n : Width) (w : ℕ) → read (dataLayout n) w < 2 ^ bits n
+data-lt : (n : Width) (w : ℕ) → read (dataLayout n) w < 2 ^ bitsOf n
 data-lt W6 w = rw (read-six w) (mod-lt w (pow-pos 6))
 data-lt W8 w = rw (read-whole 7 w) (mod-lt w (pow-pos 8))
 data-lt W16 w = rw (read-whole 15 w) (mod-lt w (pow-pos 16))
@@ -82,11 +82,11 @@ data-back Cj w v e l = never e
 data-back Call w v e l = never e
 
 -- a field that holds a whole number modulo its width holds the next one after the next of the stack
-pub stacked : (c : Calculation) (f : Field) (w : ℕ) (z x : ℤ) (p d : ℕ) → stacks c ≡ true → isDataField f ≡ true → read (layout f) w ≡ residue (valueBits f) z
-    → read (layout f) (patched c f w x p d) ≡ residue (valueBits f) (stackStep c z x)
+pub stacked : (w : ℕ) (c : Calculation) (f : Field) (b : ℕ) (z x : ℤ) (p d : ℕ) → stacks c ≡ true → isDataField f ≡ true → read (layout f) b ≡ residue (valueBits f) z
+    → read (layout f) (patched w c f b x p d) ≡ residue (valueBits f) (stackStep c z x)
 unfolding patched
-stacked c f w z x p d s e h =
-    let v : ℕ = calculated c (valueBits f) (read (layout f) w) x p d in
-    let is : v ≡ residue (valueBits f) (stackStep c z x) = step-again c (valueBits f) (read (layout f) w) z x p d s h in
+stacked w c f b z x p d s e h =
+    let v : ℕ = calculated w c (valueBits f) (read (layout f) b) x p d in
+    let is : v ≡ residue (valueBits f) (stackStep c z x) = step-again w c (valueBits f) (read (layout f) b) z x p d s h in
     let small : v < 2 ^ valueBits f = rw is (residue-lt (valueBits f) (stackStep c z x)) in
-    data-back f w v e small ∙ is
+    data-back f b v e small ∙ is

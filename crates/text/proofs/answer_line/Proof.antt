@@ -6,10 +6,12 @@ use Rattle.text.proofs.answer_line.Tie as tie
 
 returns : tie.Need-returns
 returns c =
-    let a = c .before .before .before .before .before .before .before .before .before .before .args in (
+    let place : tie.After-append-decimal2 = search in
+    let blank : tie.After-append = search in
+    let number : tie.After-append-decimal = search in
+    let s : tie.Start = search in (
       c .append2 .ensures .0,
-      line-of (a .number) (a .place) (c .before .before .before .before .before .before .before .before .append-decimal .ensures .1) (c .before .before .before .before .before .append .ensures .1)
-          (c .before .before .before .append-decimal2 .ensures .1) (c .append2 .ensures .1),
+      line-of (s .args .number) (s .args .place) (number .append-decimal .ensures .1) (blank .append .ensures .1) (place .append-decimal2 .ensures .1) (c .append2 .ensures .1),
     )
 
 pub answer-line-spec : {M : Type 1} → statement M

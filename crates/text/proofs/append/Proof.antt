@@ -6,7 +6,7 @@ use Rattle.text.proofs.append.Statement.{statement}
 use Rattle.text.proofs.append.Tie as tie
 
 returns : tie.Need-returns
-returns c = appended-read (omega arith) (c .before .before .copy .ensures)
+returns c = let w : tie.After-copy = search in appended-read (omega arith) (w .copy .ensures)
 
 pub append-spec : {M : Type 1} → statement M
 append-spec = tie.close (tie.spec (λ c κs. search needs) (λ c. search needs) (λ c. search needs) returns)

@@ -1,26 +1,33 @@
 -- `text::append_decimal` meets its contract: the fewest digits are the decimal. Assumes nothing.
-use Rattle.text.specs.Lines.{decimal}
 use mathlib.Core.Path.{_∙_}
+use Prim.Native.Nat.{_≤_}
 use native.Mathlib.Omega.{arith}
+use Rattle.text.specs.Lines.{decimal}
 use Rattle.text.proofs.Laws.Lines.{appended-as, digits-decimal, fewest-most}
 use borrow.Author.Needs.{needs}
 use Rattle.text.proofs.append_decimal.Statement.{statement}
 use Rattle.text.proofs.append_decimal.Tie as tie
 
+-- ---- where the digits are made
+
+abbrev start : tie.After-decimal → tie.Start
+start c = c .before .before .before
+
+few : (c : tie.After-decimal) → c .decimal .result ≤ 20
+few c = fewest-most (start c .args .n) (c .decimal .result) (start c .fits .n .fits) (c .decimal .ensures .1 .0)
+
 append-requires : tie.Need-append-requires
 append-requires c κs =
-    let d = c .before .before .decimal in
-    let few = fewest-most (c .before .before .before .before .before .args .n) (d .result) (c .before .before .before .before .before .fits .n .fits) (d .ensures .1 .0) in
-    omega (arith, few, d .ensures .0 .0, d .ensures .0 .1)
+    let d : tie.After-decimal = search in
+    omega (arith, few d, d .decimal .ensures .0 .0, d .decimal .ensures .0 .1)
 
 returns : tie.Need-returns
 unfolding decimal
 returns c =
-    let n = c .before .before .before .before .before .before .before .before .args .n in
-    let d = c .before .before .before .before .before .decimal in
-    let few = fewest-most n (d .result) (c .before .before .before .before .before .before .before .before .fits .n .fits) (d .ensures .1 .0) in (
-      (c .before .before .append .ensures .0, omega (arith, few, c .before .before .append .ensures .1 .end, d .ensures .0 .0, d .ensures .0 .1)),
-      appended-as (d .ensures .1 .1 ∙ digits-decimal 20 (d .result) n few (d .ensures .1 .0)) (c .before .before .append .ensures .1),
+    let a : tie.After-append = search in
+    let d : tie.After-decimal = search in (
+      (a .append .ensures .0, omega (arith, few d, a .append .ensures .1 .end, d .decimal .ensures .0 .0, d .decimal .ensures .0 .1)),
+      appended-as (d .decimal .ensures .1 .1 ∙ digits-decimal 20 (d .decimal .result) (start d .args .n) (few d) (d .decimal .ensures .1 .0)) (a .append .ensures .1),
     )
 
 pub append-decimal-spec : {M : Type 1} → statement M

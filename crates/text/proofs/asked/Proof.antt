@@ -1,15 +1,10 @@
 -- `text::asked` meets its contract. Assumes nothing.
 use mathlib.Core.Path.{sym, _∙_}
 use native.Mathlib.Omega.{arith}
-use Prim.Native.Nat.{ℕ}
-use mathlib.Core.Path.{_≡_, ap}
-use mathlib.Core.Bool.{Bool, true, false, cond}
+use Rattle.word.proofs.Laws.Tests.{never}
 use borrow.Author.Needs.{needs}
 use Rattle.text.proofs.asked.Statement.{statement}
 use Rattle.text.proofs.asked.Tie as tie
-
-never : _≡_ {A = Bool} false true → ⊥
-never e = let z : _≡_ {A = ℕ} 0 1 = ap (λ b. cond b 1 0) e in omega arith
 
 returns : tie.Need-returns
 returns c = (c .before .same .ensures .0 (c .if2 .taken), search needs)

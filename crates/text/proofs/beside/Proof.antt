@@ -5,7 +5,10 @@ use Rattle.text.proofs.beside.Statement.{statement}
 use Rattle.text.proofs.beside.Tie as tie
 
 returns : tie.Need-returns
-returns c = (c .before .before .append2 .ensures .0, two (c .before .before .before .before .before .before .before .append .ensures .1) (c .before .before .append2 .ensures .1))
+returns c =
+    let tag : tie.After-append2 = search in
+    let path : tie.After-append = search in
+    (tag .append2 .ensures .0, two (path .append .ensures .1) (tag .append2 .ensures .1))
 
 pub beside-spec : {M : Type 1} → statement M
 beside-spec =

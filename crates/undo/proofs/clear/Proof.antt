@@ -5,6 +5,7 @@ use native.Mathlib.Omega.{arith}
 use lib.ListN.{length, replicate, length-replicate, length-set}
 use lib.Seq.{sets}
 use Rattle.word.proofs.Laws.Lists.{sets-snoc, replicate-snoc}
+use borrow.Author.Needs.{needs}
 use Rattle.undo.proofs.clear.Statement.{statement}
 use Rattle.undo.proofs.clear.Tie as tie
 
@@ -17,34 +18,22 @@ abbrev μ-loop : tie.MeasureT-loop
 loop-holds : tie.Need-loop-holds Inv-loop μ-loop
 loop-holds c = (omega arith, refl, refl)
 
-add-dst : tie.Need-add-dst Inv-loop μ-loop
-add-dst c = omega arith
-
-slice-write-dst : tie.Need-slice-write-dst Inv-loop μ-loop
-slice-write-dst c = omega arith
-
-add-i : tie.Need-add-i Inv-loop μ-loop
-add-i c = omega arith
-
-loop-less : tie.Need-loop-less Inv-loop μ-loop
-loop-less c = omega arith
-
 loop-again : tie.Need-loop-again Inv-loop μ-loop
 loop-again c =
-    let i = c .before .loop .i in
-    let args = c .before .before .args in (
+    let l : tie.At-loop Inv-loop μ-loop = search in
+    let s : tie.Start Inv-loop μ-loop = search in
+    let i = l .loop .i in (
       omega arith,
-      simp length-set (c .before .loop .inv .1),
-      rw (c .before .loop .inv .2, replicate-snoc i 0) (sets-snoc (args .dst .now) (args .at) (replicate i 0) 0 i (length-replicate i 0)),
+      simp length-set (l .loop .inv .1),
+      rw (l .loop .inv .2, replicate-snoc i 0) (sets-snoc (s .args .dst .now) (s .args .at) (replicate i 0) 0 i (length-replicate i 0)),
     )
-
-same-length : tie.Need-same-length Inv-loop μ-loop
-same-length c = omega arith
 
 returns : tie.Need-returns Inv-loop μ-loop
 returns c =
-    let e : c .before .loop .i ≡ c .before .before .args .n = omega arith in
-    rw e at (c .before .loop .inv .2)
+    let l : tie.At-loop Inv-loop μ-loop = search in
+    let s : tie.Start Inv-loop μ-loop = search in
+    let e : l .loop .i ≡ s .args .n = omega arith in
+    rw e at (l .loop .inv .2)
 
 pub clear-spec : {M : Type 1} → statement M
 clear-spec =
@@ -53,10 +42,10 @@ clear-spec =
     Inv-loop
     μ-loop
     loop-holds
-    add-dst
-    slice-write-dst
-    add-i
-    loop-less
+    (λ c. search needs)
+    (λ c. search needs)
+    (λ c. search needs)
+    (λ c. search needs)
     loop-again
-    same-length
+    (λ c. search needs)
     returns)

@@ -1,6 +1,6 @@
 -- `undo::save` meets its contract. Assumes nothing.
 use Rattle.history.specs.Writes.{saving, saved}
-use Rattle.journal.specs.Plans.{overwritten}
+use Rattle.plans.specs.Plans.{overwritten}
 use borrow.Author.Needs.{needs}
 use Rattle.undo.proofs.save.Statement.{statement}
 use Rattle.undo.proofs.save.Tie as tie

@@ -11,12 +11,12 @@ use Rattle.values.proofs.target_of.Tie as tie
 returns : tie.Need-returns
 returns c =
     let a = c .before .before .before .before .args in
-    c .add32 .ensures ∙ plus-signed 32 32 _ (a .addend) (omega arith) ∙ sym (ap (λ v. T (S v) (signed 64 (a .addend))) (c .before .before .value .given .1))
+    c .add32 .ensures ∙ plus-signed 32 32 _ (a .addend) (omega arith) ∙ sym (ap (λ v. T 32 (S v) (signed 64 (a .addend))) (c .before .before .value .given .1))
 
 returns-2 : tie.Need-returns-2
 returns-2 c =
     let a = c .before .before .before .args in
-    c .add322 .ensures ∙ plus-signed 32 32 0 (a .addend) (omega arith) ∙ sym (ap (λ v. T (S v) (signed 64 (a .addend))) (c .before .enum-told .given .1))
+    c .add322 .ensures ∙ plus-signed 32 32 0 (a .addend) (omega arith) ∙ sym (ap (λ v. T 32 (S v) (signed 64 (a .addend))) (c .before .enum-told .given .1))
 
 pub target-of-spec : {M : Type 1} → statement M
 target-of-spec =

@@ -16,7 +16,7 @@ unfolding windowAllowed lengthAllowed
 placements-requires c κs =
     let args = c .before .before .before .before .before .before .before .args in
     let passed : objectCheck (args .object .now) ≡ Passed = sym (c .before .before .check-object .ensures) ∙ c .enum-told2 .given .1 in
-    let allowed : windowAllowed (args .counts .base .0) (args .len) ≡ true = sym (c .before .before .before .before .window-allowed .ensures) ∙ not-false _ (c .before .before .before .if1 .left) in
+    let allowed : windowAllowed 32 (args .counts .base .0) (args .len) ≡ true = sym (c .before .before .before .before .window-allowed .ensures) ∙ not-false _ (c .before .before .before .if1 .left) in
     (sound-object (args .object .now) passed, c .before .before .before .before .before .before .before .pre, leb-true _ _ (and-left _ _ allowed))
 
 pub read-spec : {M : Type 1} → statement M

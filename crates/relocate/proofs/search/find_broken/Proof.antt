@@ -6,8 +6,9 @@ use borrow.Author.Tests.{not-true, not-false}
 use Rattle.types.specs.declared.Decision.the-variants.{Align}
 use Rattle.types.specs.Types.{decision}
 use Rattle.symbols.specs.Values.{symbolValue}
+use Rattle.elf.specs.Headers.{addressWidth}
 use Rattle.rela.specs.Sites.{entry, effect, A, P}
-use Rattle.values.specs.Values.{S, T, valueAt}
+use Rattle.values.specs.Values.{valueAt, targetAt}
 use Rattle.rela.specs.Shape.{shapeWell}
 use Rattle.rules.specs.Rules.{symbolWell, formWell, pairWell, distanceWell, boundaryWell}
 use Rattle.rules.specs.Search.{finding}
@@ -123,8 +124,8 @@ returns-5 c =
     let symbol : symbolWell s x (a .j) (valueAt s o (a .addresses) x (a .j)) ≡ true = ap (symbolWell s x (a .j)) (sym value) ∙ sym (c .before .before .before .before .before .before .before .before .before .is-symbol-kept .ensures) ∙ not-false _ (c .before .before .before .before .before .before .before .before .if2 .left) in
     let form : formWell s x (a .j) ≡ true = sym (c .before .before .before .before .before .before .before .is-form-kept .ensures) ∙ not-false _ (c .before .before .before .before .before .before .if3 .left) in
     let pair : pairWell s x (a .j) ≡ true = sym (c .before .before .before .before .before .is-paired .ensures) ∙ not-false _ (c .before .before .before .before .if4 .left) in
-    let same : c .before .is-in-reach .result ≡ distanceWell (effect s x (a .j)) (T (S (valueAt s o (a .addresses) x (a .j))) (A s x (a .j))) (P s x (a .j)) = c .before .is-in-reach .ensures ∙ reach-read s x (a .j) _ _ _ _ _ _ (c .before .before .before .before .before .before .before .before .before .before .before .before .before .before .before .before .before .pre .3 .site) (shape-inside s x (a .j) shape) r (c .before .before .before .before .before .before .before .before .before .before .before .before .before .decide .ensures) value (c .before .before .before .target-of .ensures) (c .before .before .place-of .ensures) in
-    let broken : distanceWell (effect s x (a .j)) (T (S (valueAt s o (a .addresses) x (a .j))) (A s x (a .j))) (P s x (a .j)) ≡ false = sym same ∙ not-true _ (c .if5 .taken) in
+    let same : c .before .is-in-reach .result ≡ distanceWell (addressWidth s) (effect s x (a .j)) (targetAt s o (a .addresses) x (a .j)) (P s x (a .j)) = c .before .is-in-reach .ensures ∙ reach-read s x (a .j) _ _ _ _ _ _ (c .before .before .before .before .before .before .before .before .before .before .before .before .before .before .before .before .before .pre .3 .site) (shape-inside s x (a .j) shape) r (c .before .before .before .before .before .before .before .before .before .before .before .before .before .decide .ensures) value (c .before .before .before .target-of .ensures) (c .before .before .place-of .ensures) in
+    let broken : distanceWell (addressWidth s) (effect s x (a .j)) (targetAt s o (a .addresses) x (a .j)) (P s x (a .j)) ≡ false = sym same ∙ not-true _ (c .if5 .taken) in
     rw (shape, symbol, form, pair, broken)
 
 is-on-boundary-requires : tie.Need-is-on-boundary-requires
@@ -153,8 +154,8 @@ returns-6 c =
     let symbol : symbolWell s x (a .j) (valueAt s o (a .addresses) x (a .j)) ≡ true = ap (symbolWell s x (a .j)) (sym value) ∙ sym (c .before .before .before .before .before .before .before .before .before .before .before .is-symbol-kept .ensures) ∙ not-false _ (c .before .before .before .before .before .before .before .before .before .before .if2 .left) in
     let form : formWell s x (a .j) ≡ true = sym (c .before .before .before .before .before .before .before .before .before .is-form-kept .ensures) ∙ not-false _ (c .before .before .before .before .before .before .before .before .if3 .left) in
     let pair : pairWell s x (a .j) ≡ true = sym (c .before .before .before .before .before .before .before .is-paired .ensures) ∙ not-false _ (c .before .before .before .before .before .before .if4 .left) in
-    let same : c .before .before .before .is-in-reach .result ≡ distanceWell (effect s x (a .j)) (T (S (valueAt s o (a .addresses) x (a .j))) (A s x (a .j))) (P s x (a .j)) = c .before .before .before .is-in-reach .ensures ∙ reach-read s x (a .j) _ _ _ _ _ _ (c .before .before .before .before .before .before .before .before .before .before .before .before .before .before .before .before .before .before .before .pre .3 .site) (shape-inside s x (a .j) shape) r (c .before .before .before .before .before .before .before .before .before .before .before .before .before .before .before .decide .ensures) value (c .before .before .before .before .before .target-of .ensures) (c .before .before .before .before .place-of .ensures) in
-    let reach : distanceWell (effect s x (a .j)) (T (S (valueAt s o (a .addresses) x (a .j))) (A s x (a .j))) (P s x (a .j)) ≡ true = sym same ∙ not-false _ (c .before .before .if5 .left) in
+    let same : c .before .before .before .is-in-reach .result ≡ distanceWell (addressWidth s) (effect s x (a .j)) (targetAt s o (a .addresses) x (a .j)) (P s x (a .j)) = c .before .before .before .is-in-reach .ensures ∙ reach-read s x (a .j) _ _ _ _ _ _ (c .before .before .before .before .before .before .before .before .before .before .before .before .before .before .before .before .before .before .before .pre .3 .site) (shape-inside s x (a .j) shape) r (c .before .before .before .before .before .before .before .before .before .before .before .before .before .before .before .decide .ensures) value (c .before .before .before .before .before .target-of .ensures) (c .before .before .before .before .place-of .ensures) in
+    let reach : distanceWell (addressWidth s) (effect s x (a .j)) (targetAt s o (a .addresses) x (a .j)) (P s x (a .j)) ≡ true = sym same ∙ not-false _ (c .before .before .if5 .left) in
     let ends : c .before .is-on-boundary .result ≡ boundaryWell (effect s x (a .j)) (P s x (a .j)) (A s x (a .j)) = c .before .is-on-boundary .ensures ∙ boundary-read s x (a .j) _ _ r (c .before .before .before .before .before .before .before .before .before .before .before .before .before .before .before .decide .ensures) in
     let broken : boundaryWell (effect s x (a .j)) (P s x (a .j)) (A s x (a .j)) ≡ false = sym ends ∙ not-true _ (c .if6 .taken) in
     rw (shape, symbol, form, pair, reach, broken)
@@ -172,8 +173,8 @@ returns-7 c =
     let symbol : symbolWell s x (a .j) (valueAt s o (a .addresses) x (a .j)) ≡ true = ap (symbolWell s x (a .j)) (sym value) ∙ sym (c .before .before .before .before .before .before .before .before .before .before .before .is-symbol-kept .ensures) ∙ not-false _ (c .before .before .before .before .before .before .before .before .before .before .if2 .left) in
     let form : formWell s x (a .j) ≡ true = sym (c .before .before .before .before .before .before .before .before .before .is-form-kept .ensures) ∙ not-false _ (c .before .before .before .before .before .before .before .before .if3 .left) in
     let pair : pairWell s x (a .j) ≡ true = sym (c .before .before .before .before .before .before .before .is-paired .ensures) ∙ not-false _ (c .before .before .before .before .before .before .if4 .left) in
-    let same : c .before .before .before .is-in-reach .result ≡ distanceWell (effect s x (a .j)) (T (S (valueAt s o (a .addresses) x (a .j))) (A s x (a .j))) (P s x (a .j)) = c .before .before .before .is-in-reach .ensures ∙ reach-read s x (a .j) _ _ _ _ _ _ (c .before .before .before .before .before .before .before .before .before .before .before .before .before .before .before .before .before .before .before .pre .3 .site) (shape-inside s x (a .j) shape) r (c .before .before .before .before .before .before .before .before .before .before .before .before .before .before .before .decide .ensures) value (c .before .before .before .before .before .target-of .ensures) (c .before .before .before .before .place-of .ensures) in
-    let reach : distanceWell (effect s x (a .j)) (T (S (valueAt s o (a .addresses) x (a .j))) (A s x (a .j))) (P s x (a .j)) ≡ true = sym same ∙ not-false _ (c .before .before .if5 .left) in
+    let same : c .before .before .before .is-in-reach .result ≡ distanceWell (addressWidth s) (effect s x (a .j)) (targetAt s o (a .addresses) x (a .j)) (P s x (a .j)) = c .before .before .before .is-in-reach .ensures ∙ reach-read s x (a .j) _ _ _ _ _ _ (c .before .before .before .before .before .before .before .before .before .before .before .before .before .before .before .before .before .before .before .pre .3 .site) (shape-inside s x (a .j) shape) r (c .before .before .before .before .before .before .before .before .before .before .before .before .before .before .before .decide .ensures) value (c .before .before .before .before .before .target-of .ensures) (c .before .before .before .before .place-of .ensures) in
+    let reach : distanceWell (addressWidth s) (effect s x (a .j)) (targetAt s o (a .addresses) x (a .j)) (P s x (a .j)) ≡ true = sym same ∙ not-false _ (c .before .before .if5 .left) in
     let ends : c .before .is-on-boundary .result ≡ boundaryWell (effect s x (a .j)) (P s x (a .j)) (A s x (a .j)) = c .before .is-on-boundary .ensures ∙ boundary-read s x (a .j) _ _ r (c .before .before .before .before .before .before .before .before .before .before .before .before .before .before .before .decide .ensures) in
     let right : boundaryWell (effect s x (a .j)) (P s x (a .j)) (A s x (a .j)) ≡ true = sym ends ∙ not-false _ (c .if6 .left) in
     rw (shape, symbol, form, pair, reach, right)

@@ -1,0 +1,16 @@
+-- Demand 3 of a list of calls that was run: what the exported replay says of it beside the equation. Assumes nothing: these are definitions.
+use mathlib.Core.Path.{_≡_}
+use mathlib.Core.List.{List}
+use Prim.Native.Nat.{ℕ}
+use lib.ListN.{take}
+use Rattle.plans.specs.Answers.{Answer}
+use Rattle.history.specs.Calls.{Files}
+use Rattle.replay.specs.Lists.{callCount, callsOf}
+use Rattle.replay.specs.Replays.{codes}
+use Rattle.demands.specs.Demands.{AnyList, AfterCalls, ourInstall, ourRollback}
+
+-- the first places hold the codes of answers in order, and of these answers and of what is left demand 3 holds
+pub record Demand3Of (calls : List ℕ) (start : Files) (places : List ℕ) (left : Files) : Type 0 where
+  pub got : List Answer
+  pub in-order : take (callCount calls) places ≡ codes got
+  pub after-calls : AfterCalls ourInstall ourRollback AnyList start (callsOf calls) got left
