@@ -19,7 +19,7 @@ use Rattle.types.specs.declared.Calculation.{Calculation}
 use Rattle.types.specs.declared.Calculation.the-variants.{Absolute, PcRelative, Distance, BothHalves, HighPcRelative, HighAbsolute, LowAbsolute, LowOfPair, Add, Sub, Set}
 use Rattle.types.specs.declared.Decision.the-variants.{Align, Store}
 use Rattle.elf.specs.Headers.{addressWidth, sectionTable, sectionCount, maxSections}
-use Rattle.elf.specs.Sections.{sectionAt, allocated, symbolTable}
+use Rattle.elf.specs.Sections.{sectionAt, allocated, isAllocated, symbolTable}
 use Rattle.elf.specs.Entries.{symbolAt, symbolCount, relocationCount, locationOf}
 use Rattle.header.specs.Headers.{maxObject}
 use Rattle.validate.specs.Sound.{SoundSection}
@@ -30,7 +30,6 @@ use Rattle.lookup.specs.Addresses.{addresses, placedAt}
 use Rattle.journal.specs.Journals.{maxEntries, oldAt, count as countOf, held, Sound}
 use Rattle.plans.specs.declared.Span.{Span}
 use Rattle.history.specs.Calls.{Files}
-use Rattle.place.specs.Placements.{isAllocated}
 use Rattle.placing.specs.Placing.{endOf, unit, hasBytes}
 use Rattle.symbols.specs.declared.SymbolValue.{SymbolValue}
 use Rattle.rela.specs.declared.sites.Site.{Site}

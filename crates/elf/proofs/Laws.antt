@@ -1,3 +1,4 @@
 -- The laws of the definitions in specs/.
+pub mod Sections
 pub mod Entries
 pub mod Headers

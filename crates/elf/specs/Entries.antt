@@ -12,21 +12,41 @@ use Rattle.elf.specs.declared.Section.{Section}
 use Rattle.elf.specs.declared.Symbol.{Symbol}
 use Rattle.elf.specs.declared.Relocation.{Relocation}
 use Rattle.elf.specs.declared.Location.{Location}
-use Rattle.elf.specs.Headers.{sectionCount}
+use Rattle.elf.specs.Headers.{symbolSize, relocationSize, sectionCount}
 use Rattle.elf.specs.Sections.{sectionAt, symbolTable, relocationsBelow}
 
 -- the bytes of a section that has bytes in the file
 unfoldable pub bytesOf : List ℕ → Section → List ℕ
 bytesOf s h = part s (h .offset .0) (h .size)
 
+-- the sections of a symbol that is undefined and of one that is absolute, the binding of a weak one, and two types
+abbrev pub SHN_UNDEF : ℕ
+SHN_UNDEF = 0
+
+abbrev pub SHN_ABS : ℕ
+SHN_ABS = 0xFFF1
+
+abbrev pub STB_WEAK : ℕ
+STB_WEAK = 2
+
+abbrev pub STT_TLS : ℕ
+STT_TLS = 6
+
+abbrev pub STT_GNU_IFUNC : ℕ
+STT_GNU_IFUNC = 10
+
+-- how many entries a SYMTAB section has
+abbrev pub symbolEntries : Section → ℕ
+symbolEntries h = h .size / symbolSize
+
 -- how many symbols there are: none where there is no SYMTAB
 unfoldable pub symbolCount : List ℕ → ℕ
-symbolCount s = cond (ltb (symbolTable s) (sectionCount s)) (sectionAt s (symbolTable s) .size / 16) 0
+symbolCount s = cond (ltb (symbolTable s) (sectionCount s)) (symbolEntries (sectionAt s (symbolTable s))) 0
 
 -- entry k of a SYMTAB section
 unfoldable pub symbolAt : List ℕ → Section → ℕ → Symbol
 symbolAt s h k =
-    let at = h .offset .0 + 16 * k in
+    let at = h .offset .0 + symbolSize * k in
     record {
       value = sectionOffset (leAt 4 s (at + 4));
       kind = leAt 1 s (at + 12) % 16;
@@ -37,7 +57,7 @@ symbolAt s h k =
 -- entry k of a RELA section; the addend is a signed number, kept modulo 2^64
 unfoldable pub relocationAt : List ℕ → Section → ℕ → Relocation
 relocationAt s h k =
-    let at = h .offset .0 + 12 * k in
+    let at = h .offset .0 + relocationSize * k in
     record {
       offset = sectionOffset (leAt 4 s at);
       kind = leAt 4 s (at + 4) % 256;

@@ -2,18 +2,18 @@
 use mathlib.Core.List.{List}
 use Prim.Native.Nat.{ℕ, _+_, _*_, _≤_}
 use lib.ListN.{length}
-use Rattle.elf.specs.Headers.{sectionTable, sectionCount, maxSections}
+use Rattle.elf.specs.Headers.{headerSize, sectionSize, sectionTable, sectionCount, maxSections}
 
 -- the header of section i lies in the file
 pub record HeaderInside (s : List ℕ) (i : ℕ) : Type 0 where
-  pub header : 52 ≤ length s
-  pub inside : sectionTable s + 40 * i + 40 ≤ length s
+  pub header : headerSize ≤ length s
+  pub inside : sectionTable s + sectionSize * i + sectionSize ≤ length s
 
 -- all headers do, and they are few
 pub record TableInside (s : List ℕ) : Type 0 where
-  pub header : 52 ≤ length s
+  pub header : headerSize ≤ length s
   pub few : sectionCount s ≤ maxSections
-  pub inside : sectionTable s + 40 * sectionCount s ≤ length s
+  pub inside : sectionTable s + sectionSize * sectionCount s ≤ length s
 
 -- a part of the file of so many bytes
 pub record Inside (s : List ℕ) (at size : ℕ) : Type 0 where

@@ -1,7 +1,21 @@
--- The header of an ELF32 file (System V gABI): where its section headers are. Assumes nothing: these are definitions.
+-- The header of an ELF32 file (System V gABI): where its section headers are, and the sizes that the format gives its parts. Assumes nothing:
+-- these are definitions.
 use Prim.Native.Nat.{ℕ}
 use mathlib.Core.List.{List}
 use Rattle.word.specs.Bytes.{leAt}
+
+-- the bytes of the file's header, of a section's header, of a symbol and of a relocation
+abbrev pub headerSize : ℕ
+headerSize = 52
+
+abbrev pub sectionSize : ℕ
+sectionSize = 40
+
+abbrev pub symbolSize : ℕ
+symbolSize = 16
+
+abbrev pub relocationSize : ℕ
+relocationSize = 12
 
 -- how many bits an address has: 32 in a file of class 1 (ELFCLASS32). No other definition says how wide addresses are.
 abbrev pub addressWidth : List ℕ → ℕ

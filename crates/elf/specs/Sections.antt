@@ -8,7 +8,7 @@ use Rattle.word.specs.First.{first}
 use Rattle.word.specs.Places.{fileOffset}
 use Rattle.word.specs.Sums.{sum}
 use Rattle.elf.specs.declared.Section.{Section}
-use Rattle.elf.specs.Headers.{sectionTable, sectionCount}
+use Rattle.elf.specs.Headers.{sectionSize, relocationSize, sectionTable, sectionCount}
 
 -- "Types used"
 abbrev pub NULL : ℕ
@@ -29,7 +29,7 @@ REL = 9
 -- the header of section i
 unfoldable pub sectionAt : List ℕ → ℕ → Section
 sectionAt s i =
-    let at = sectionTable s + 40 * i in
+    let at = sectionTable s + sectionSize * i in
     record {
       kind = leAt 4 s (at + 4);
       flags = leAt 4 s (at + 8);
@@ -49,13 +49,17 @@ allocated h = eqb (h .flags / 2 % 2) 1 && not (eqb (h .kind) NULL)
 unfoldable pub loaded : Section → Bool
 loaded h = allocated h && not (eqb (h .kind) NOBITS)
 
+-- a number names an allocated section
+unfoldable pub isAllocated : List ℕ → ℕ → Bool
+isAllocated s i = ltb i (sectionCount s) && allocated (sectionAt s i)
+
 -- the lowest SYMTAB, or the number of sections where there is none
 unfoldable pub symbolTable : List ℕ → ℕ
 symbolTable s = first (λ i. eqb (sectionAt s i .kind) SYMTAB) (sectionCount s)
 
 -- "A RELA or REL row counts only if its info names an allocated row."
-unfoldable pub targets : List ℕ → Section → Bool
-targets s h = ltb (h .info) (sectionCount s) && allocated (sectionAt s (h .info))
+abbrev pub targets : List ℕ → Section → Bool
+targets s h = isAllocated s (h .info)
 
 unfoldable pub countingRel : List ℕ → ℕ → Bool
 countingRel s i = eqb (sectionAt s i .kind) REL && targets s (sectionAt s i)
@@ -63,9 +67,13 @@ countingRel s i = eqb (sectionAt s i .kind) REL && targets s (sectionAt s i)
 unfoldable pub countingRela : List ℕ → ℕ → Bool
 countingRela s i = eqb (sectionAt s i .kind) RELA && targets s (sectionAt s i)
 
+-- how many entries a RELA section has
+abbrev pub relocationEntries : Section → ℕ
+relocationEntries h = h .size / relocationSize
+
 -- how many relocations section i holds: none, unless it is a counting RELA
 unfoldable pub relocationsIn : List ℕ → ℕ → ℕ
-relocationsIn s i = cond (countingRela s i) (sectionAt s i .size / 12) 0
+relocationsIn s i = cond (countingRela s i) (relocationEntries (sectionAt s i)) 0
 
 -- and all sections below i
 abbrev pub relocationsBelow : List ℕ → ℕ → ℕ

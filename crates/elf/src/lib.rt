@@ -2,15 +2,46 @@
 ghost use mathlib.Core.Path.{_≡_};
 ghost use Prim.Native.Nat.{_+_, _*_, _^_, _≤_, _<_};
 ghost use lib.ListN.{length};
-ghost use Rattle.elf.specs.Headers.{sectionCount};
-ghost use Rattle.elf.specs.Sections.{sectionAt, allocated, loaded, symbolTable, targets, countingRela, relocationsIn, relocationsBelow};
+ghost use Rattle.elf.specs.Headers.{headerSize, symbolSize, relocationSize, sectionTable, sectionCount};
+ghost use Rattle.elf.specs.Sections.{sectionAt, allocated, loaded, isAllocated, symbolTable, targets, countingRela, relocationEntries, relocationsIn, relocationsBelow};
 ghost use Rattle.elf.specs.Facts.{HeaderInside, TableInside, Inside};
-ghost use Rattle.elf.specs.Entries.{bytesOf, symbolAt, symbolCount, relocationAt, locationOf};
+ghost use Rattle.elf.specs.Entries.{bytesOf, symbolEntries, symbolAt, symbolCount, relocationAt, locationOf};
 use word::FileOffset;
 use word::SectionOffset;
 
 // "1 to 32 rows"
 pub const MAX_SECTIONS: usize = 32;
+
+// The bytes of the file's header, of a section's header, of a symbol and of a relocation.
+pub const HEADER_SIZE: usize = 52;
+
+pub const SECTION_SIZE: usize = 40;
+
+pub const SYMBOL_SIZE: u32 = 16;
+
+pub const RELOCATION_SIZE: u32 = 12;
+
+// "Types used"
+pub const NULL: u32 = 0;
+
+pub const SYMTAB: u32 = 2;
+
+pub const RELA: u32 = 4;
+
+pub const NOBITS: u32 = 8;
+
+pub const REL: u32 = 9;
+
+// The sections of a symbol that is undefined and of one that is absolute, the binding of a weak one, and two types.
+pub const SHN_UNDEF: u16 = 0;
+
+pub const SHN_ABS: u16 = 0xfff1;
+
+pub const STB_WEAK: u8 = 2;
+
+pub const STT_TLS: u8 = 6;
+
+pub const STT_GNU_IFUNC: u8 = 10;
 
 // A section header (document 01: row).
 pub struct Section {
@@ -46,9 +77,17 @@ pub struct Location {
     pub entry: usize,
 }
 
+// Where the section header table starts.
+pub fn section_table(object: &[u8]) -> FileOffset
+    requires { ⌜ headerSize ≤ length (now object) ⌝ }
+    ensures { λ r. ⌜ r .0 ≡ sectionTable (now (object .entry)) ⌝ }
+{
+    FileOffset(endian::read32(object, 32))
+}
+
 // How many sections an object has.
 pub fn section_count(object: &[u8]) -> usize
-    requires { ⌜ 52 ≤ length (now object) ⌝ }
+    requires { ⌜ headerSize ≤ length (now object) ⌝ }
     ensures { λ r. ⌜ r ≡ sectionCount (now (object .entry)) ⌝ }
 {
     endian::read16(object, 48) as usize
@@ -59,7 +98,8 @@ pub fn read_section(object: &[u8], i: usize) -> Section
     requires { ⌜ HeaderInside (now object) i ⌝ }
     ensures { λ r. ⌜ r ≡ sectionAt (now (object .entry)) i ⌝ }
 {
-    let at = endian::read32(object, 32) as usize + 40 * i;
+    let table = section_table(object);
+    let at = table.0 as usize + SECTION_SIZE * i;
     Section {
         kind: endian::read32(object, at + 4),
         flags: endian::read32(object, at + 8),
@@ -76,14 +116,14 @@ pub fn read_section(object: &[u8], i: usize) -> Section
 pub fn is_allocated(h: Section) -> bool
     ensures { λ r. ⌜ r ≡ allocated h ⌝ }
 {
-    (h.flags / 2 % 2 == 1) & (h.kind != 0)
+    (h.flags / 2 % 2 == 1) & (h.kind != NULL)
 }
 
 // Whether it has bytes in the file as well (document 01: laid).
 pub fn is_loaded(h: Section) -> bool
     ensures { λ r. ⌜ r ≡ loaded h ⌝ }
 {
-    is_allocated(h) & (h.kind != 8)
+    is_allocated(h) & (h.kind != NOBITS)
 }
 
 // The lowest SYMTAB, or the number of sections where there is none.
@@ -95,7 +135,7 @@ pub fn symbol_table(object: &[u8]) -> usize
     let mut i: usize = 0;
     while i < n {
         let h = read_section(object, i);
-        if h.kind == 2 {
+        if h.kind == SYMTAB {
             return i;
         }
         i += 1;
@@ -103,16 +143,24 @@ pub fn symbol_table(object: &[u8]) -> usize
     n
 }
 
+// Whether a number names an allocated section.
+pub fn is_allocated_section(object: &[u8], i: u32) -> bool
+    requires { ⌜ TableInside (now object) ⌝ }
+    ensures { λ r. ⌜ r ≡ isAllocated (now (object .entry)) i ⌝ }
+{
+    let at = i as usize;
+    if section_count(object) <= at {
+        return false;
+    }
+    is_allocated(read_section(object, at))
+}
+
 // Whether a section's info names an allocated section.
 pub fn has_target(object: &[u8], h: Section) -> bool
     requires { ⌜ TableInside (now object) ⌝ }
     ensures { λ r. ⌜ r ≡ targets (now (object .entry)) h ⌝ }
 {
-    let info = h.info as usize;
-    if section_count(object) <= info {
-        return false;
-    }
-    is_allocated(read_section(object, info))
+    is_allocated_section(object, h.info)
 }
 
 // Whether section i is a RELA that counts.
@@ -121,7 +169,14 @@ pub fn is_counting_rela(object: &[u8], i: usize) -> bool
     ensures { λ r. ⌜ r ≡ countingRela (now (object .entry)) i ⌝ }
 {
     let h = read_section(object, i);
-    (h.kind == 4) & has_target(object, h)
+    (h.kind == RELA) & has_target(object, h)
+}
+
+// How many entries a RELA section has.
+pub fn relocation_entries(h: Section) -> usize
+    ensures { λ r. ⌜ (r ≡ relocationEntries h) × (r < 2 ^ 32) ⌝ }
+{
+    (h.size / RELOCATION_SIZE) as usize
 }
 
 // How many relocations section i holds.
@@ -130,8 +185,7 @@ fn relocations_in(object: &[u8], i: usize) -> usize
     ensures { λ r. ⌜ (r ≡ relocationsIn (now (object .entry)) i) × (r < 2 ^ 32) ⌝ }
 {
     if is_counting_rela(object, i) {
-        let h = read_section(object, i);
-        return (h.size / 12) as usize;
+        return relocation_entries(read_section(object, i));
     }
     0
 }
@@ -160,6 +214,13 @@ pub fn section_bytes(object: &[u8], h: Section) -> &[u8]
     &object[from..to]
 }
 
+// How many entries a SYMTAB section has.
+pub fn symbol_entries(h: Section) -> usize
+    ensures { λ r. ⌜ r ≡ symbolEntries h ⌝ }
+{
+    (h.size / SYMBOL_SIZE) as usize
+}
+
 // How many symbols there are.
 pub fn symbol_count(object: &[u8]) -> usize
     requires { ⌜ TableInside (now object) ⌝ }
@@ -169,16 +230,15 @@ pub fn symbol_count(object: &[u8]) -> usize
     if section_count(object) <= table {
         return 0;
     }
-    let h = read_section(object, table);
-    (h.size / 16) as usize
+    symbol_entries(read_section(object, table))
 }
 
 // Entry k of a SYMTAB section.
 pub fn read_symbol(object: &[u8], table: Section, k: usize) -> Symbol
-    requires { ⌜ Inside (now object) (table .offset .0 + 16 * k) 16 ⌝ }
+    requires { ⌜ Inside (now object) (table .offset .0 + symbolSize * k) symbolSize ⌝ }
     ensures { λ r. ⌜ r ≡ symbolAt (now (object .entry)) table k ⌝ }
 {
-    let at = table.offset.0 as usize + 16 * k;
+    let at = table.offset.0 as usize + SYMBOL_SIZE as usize * k;
     let info = endian::read8(object, at + 12);
     Symbol {
         value: SectionOffset(endian::read32(object, at + 4)),
@@ -190,10 +250,10 @@ pub fn read_symbol(object: &[u8], table: Section, k: usize) -> Symbol
 
 // Entry k of a RELA section.
 pub fn read_relocation(object: &[u8], h: Section, k: usize) -> Relocation
-    requires { ⌜ Inside (now object) (h .offset .0 + 12 * k) 12 ⌝ }
+    requires { ⌜ Inside (now object) (h .offset .0 + relocationSize * k) relocationSize ⌝ }
     ensures { λ r. ⌜ r ≡ relocationAt (now (object .entry)) h k ⌝ }
 {
-    let at = h.offset.0 as usize + 12 * k;
+    let at = h.offset.0 as usize + RELOCATION_SIZE as usize * k;
     let info = endian::read32(object, at + 4);
     Relocation {
         offset: SectionOffset(endian::read32(object, at)),

@@ -5,7 +5,7 @@ use mathlib.Core.List.{List}
 use lib.ListN.{length}
 use lib.Dec.{leb, eqb}
 use Rattle.word.specs.Bytes.{leAt}
-use Rattle.elf.specs.Headers.{sectionTable, sectionCount, maxSections}
+use Rattle.elf.specs.Headers.{headerSize, sectionSize, sectionTable, sectionCount, maxSections}
 
 abbrev pub maxObject : ℕ
 maxObject = 65536
@@ -15,7 +15,7 @@ maxObject = 65536
 unfoldable pub headerAllowed : List ℕ → Bool
 headerAllowed s =
     leb (length s) maxObject
-    && leb 52 (length s)
+    && leb headerSize (length s)
     && eqb (leAt 4 s 0) 0x464C457F
     && eqb (leAt 1 s 4) 1
     && eqb (leAt 1 s 5) 1
@@ -23,12 +23,12 @@ headerAllowed s =
     && eqb (leAt 2 s 16) 1
     && eqb (leAt 2 s 18) 243
     && eqb (leAt 4 s 20) 1
-    && eqb (leAt 2 s 40) 52
+    && eqb (leAt 2 s 40) headerSize
 
 -- check 5 at place 0: "e_shentsize 40, 1 to 32 rows of 40 bytes, wholly inside the file"
 unfoldable pub tableAllowed : List ℕ → Bool
 tableAllowed s =
-    eqb (leAt 2 s 46) 40
+    eqb (leAt 2 s 46) sectionSize
     && leb 1 (sectionCount s)
     && leb (sectionCount s) maxSections
-    && leb (sectionTable s + 40 * sectionCount s) (length s)
+    && leb (sectionTable s + sectionSize * sectionCount s) (length s)

@@ -2,8 +2,11 @@
 ghost use mathlib.Core.Path.{_≡_};
 ghost use Prim.Native.Nat.{_≤_};
 ghost use lib.ListN.{length};
+ghost use Rattle.elf.specs.Headers.{headerSize};
 ghost use Rattle.header.specs.Headers.{headerAllowed, tableAllowed};
+use elf::HEADER_SIZE;
 use elf::MAX_SECTIONS;
+use elf::SECTION_SIZE;
 
 // "at most 65,536 bytes"
 pub const MAX_OBJECT: usize = 65536;
@@ -15,7 +18,7 @@ pub fn check_header(object: &[u8]) -> bool
     if MAX_OBJECT < object.len() {
         return false;
     }
-    if object.len() < 52 {
+    if object.len() < HEADER_SIZE {
         return false;
     }
     (endian::read32(object, 0) == 0x464c457f)
@@ -25,18 +28,20 @@ pub fn check_header(object: &[u8]) -> bool
         & (endian::read16(object, 16) == 1)
         & (endian::read16(object, 18) == 243)
         & (endian::read32(object, 20) == 1)
-        & (endian::read16(object, 40) == 52)
+        & (endian::read16(object, 40) as usize == HEADER_SIZE)
 }
 
 // Check 5 at place 0: the section header table.
 pub fn check_table(object: &[u8]) -> bool
-    requires { ⌜ 52 ≤ length (now object) ⌝ }
+    requires { ⌜ headerSize ≤ length (now object) ⌝ }
     ensures { λ r. ⌜ r ≡ tableAllowed (now (object .entry)) ⌝ }
 {
-    let n = endian::read16(object, 48) as usize;
-    let start = endian::read32(object, 32) as usize;
-    (endian::read16(object, 46) == 40)
+    let n = elf::section_count(object);
+    if MAX_SECTIONS < n {
+        return false;
+    }
+    let start = elf::section_table(object);
+    (endian::read16(object, 46) as usize == SECTION_SIZE)
         & (1 <= n)
-        & (n <= MAX_SECTIONS)
-        & (start + 40 * n <= object.len())
+        & (start.0 as usize + SECTION_SIZE * n <= object.len())
 }

@@ -13,6 +13,7 @@ ghost use Rattle.judgement.specs.Judgement.{planOf};
 ghost use Rattle.judgement.specs.Facts.{Fitting, withSection};
 use lookup::Addresses;
 use order::Counts;
+use placing::has_bytes;
 
 // Lays section t into the image from `at` on.
 fn lay_at(
@@ -45,7 +46,7 @@ fn lay_one(
     ensures { λ _. ⌜ now (image .exit) ≡ withSection (now (object .entry)) (now (order .entry)) t (now (image .entry)) ⌝ }
 {
     let h = elf::read_section(object, t);
-    if !elf::is_loaded(h) | (h.size == 0) {
+    if !has_bytes(h) {
         return;
     }
     let at = addresses[t] - counts.base.0;

@@ -5,7 +5,7 @@ use Rattle.word.specs.First.{tabulate}
 use Rattle.lookup.specs.declared.Value.{Value}
 use Rattle.lookup.specs.declared.Value.the-variants.{Given, NotGiven}
 use Rattle.elf.specs.Headers.{maxSections}
-use Rattle.order.specs.Orders.{placementCount}
+use Rattle.order.specs.Orders.{placementsStart, placementCount}
 use Rattle.lookup.specs.Values.{valueIn}
 
 -- the address of a section, or 0, which means nothing, for one that the order does not place
@@ -15,7 +15,7 @@ orZero NotGiven = 0
 
 -- the address that an order gives a section, if it places it
 unfoldable pub placedAt : List ℕ → ℕ → Value
-placedAt s section = valueIn s 12 (placementCount s) section
+placedAt s section = valueIn s placementsStart (placementCount s) section
 
 -- the array: an entry for each section number
 unfoldable pub addresses : List ℕ → List ℕ

@@ -4,9 +4,9 @@ use mathlib.Core.Bool.{true}
 use mathlib.Core.List.{List}
 use Prim.Native.Nat.{ℕ, _+_, _*_, _≤_}
 use lib.ListN.{length}
-use Rattle.order.specs.Orders.{entryAt, ascending}
+use Rattle.order.specs.Orders.{entrySize, entryAt, ascending}
 
 -- n entries from a place on lie in the order, and ascend
 pub record Searchable (s : List ℕ) (at n : ℕ) : Type 0 where
-  pub inside : at + 8 * n ≤ length s
+  pub inside : at + entrySize * n ≤ length s
   pub ascends : ascending (λ i. entryAt s at i .index) n ≡ true

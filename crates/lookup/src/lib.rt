@@ -6,6 +6,7 @@ ghost use Rattle.lookup.specs.Facts.{Searchable};
 ghost use Rattle.lookup.specs.Addresses.{placedAt, addresses};
 use elf::MAX_SECTIONS;
 use order::Counts;
+use order::PLACEMENTS_START;
 use order::Reading;
 use word::Address;
 
@@ -43,7 +44,7 @@ pub fn external_value(order: &[u8], counts: Counts, symbol: u32) -> Value
     requires { ⌜ reading (now order) ≡ Reading.WellFormed counts ⌝ }
     ensures { λ r. ⌜ r ≡ externalValue (now (order .entry)) symbol ⌝ }
 {
-    let start = 16 + 8 * counts.placements;
+    let start = order::externals_start(counts.placements);
     find(order, start, counts.externals, symbol)
 }
 
@@ -52,7 +53,7 @@ pub fn placed_at(order: &[u8], counts: Counts, section: u32) -> Value
     requires { ⌜ reading (now order) ≡ Reading.WellFormed counts ⌝ }
     ensures { λ r. ⌜ r ≡ placedAt (now (order .entry)) section ⌝ }
 {
-    find(order, 12, counts.placements, section)
+    find(order, PLACEMENTS_START, counts.placements, section)
 }
 
 // "The 32 row addresses travel as one array passed by value."
@@ -67,7 +68,7 @@ pub fn address_array(order: &[u8], counts: Counts) -> Addresses
     let n = counts.placements;
     let mut i: usize = 0;
     while i < n {
-        let e = order::read_entry(order, 12, i);
+        let e = order::read_entry(order, PLACEMENTS_START, i);
         let section = e.index as usize;
         if section < MAX_SECTIONS {
             array[section] = e.value.0;

@@ -32,6 +32,23 @@ maxPlacements = 32
 abbrev pub maxExternals : ℕ
 maxExternals = 1024
 
+-- the bytes of an entry, and of an order without entries, which is three counts and the base
+abbrev pub entrySize : ℕ
+entrySize = 8
+
+abbrev pub emptySize : ℕ
+emptySize = 16
+
+-- placements start behind the base and their count; behind p placements stand the count of the external values and these
+abbrev pub placementsStart : ℕ
+placementsStart = 12
+
+abbrev pub externalCountAt : ℕ → ℕ
+externalCountAt p = placementsStart + entrySize * p
+
+abbrev pub externalsAt : ℕ → ℕ
+externalsAt p = emptySize + entrySize * p
+
 -- an entry: a number of a section or a symbol, and its address or value
 unfoldable pub encodeEntries : List Entry → List ℕ
 encodeEntries [] = []
@@ -51,7 +68,7 @@ encode o =
 
 -- entry i of a list that starts at a place
 unfoldable pub entryAt : List ℕ → ℕ → ℕ → Entry
-entryAt s at i = record { index = leAt 4 s (at + 8 * i); value = address (leAt 4 s (at + 8 * i + 4)) }
+entryAt s at i = record { index = leAt 4 s (at + entrySize * i); value = address (leAt 4 s (at + entrySize * i + 4)) }
 
 -- the base, and the placements
 abbrev pub base : List ℕ → ℕ
@@ -61,14 +78,14 @@ abbrev pub placementCount : List ℕ → ℕ
 placementCount s = leAt 4 s 8
 
 abbrev pub placement : List ℕ → ℕ → Entry
-placement s i = entryAt s 12 i
+placement s i = entryAt s placementsStart i
 
--- the external values, which start behind their count and the placements
+-- the external values
 abbrev pub externalsStart : List ℕ → ℕ
-externalsStart s = 16 + 8 * placementCount s
+externalsStart s = externalsAt (placementCount s)
 
 abbrev pub externalCount : List ℕ → ℕ
-externalCount s = leAt 4 s (12 + 8 * placementCount s)
+externalCount s = leAt 4 s (externalCountAt (placementCount s))
 
 abbrev pub external : List ℕ → ℕ → Entry
 external s i = entryAt s (externalsStart s) i
@@ -80,12 +97,12 @@ ascending f n = everywhere (λ i. ltb (f i) (f (suc i))) (n - 1)
 -- check 2: the bytes are an order's
 unfoldable pub wellFormed : List ℕ → Bool
 wellFormed s =
-    leb 16 (length s)
+    leb emptySize (length s)
     && eqb (leAt 4 s 0) 1
     && leb (placementCount s) maxPlacements
     && leb (externalsStart s) (length s)
     && leb (externalCount s) maxExternals
-    && eqb (length s) (externalsStart s + 8 * externalCount s)
+    && eqb (length s) (externalsStart s + entrySize * externalCount s)
     && ascending (λ i. placement s i .index) (placementCount s)
     && ascending (λ i. external s i .index) (externalCount s)
 

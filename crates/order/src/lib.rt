@@ -2,7 +2,7 @@
 ghost use mathlib.Core.Path.{_≡_};
 ghost use Prim.Native.Nat.{_+_, _*_, _≤_};
 ghost use lib.ListN.{length};
-ghost use Rattle.order.specs.Orders.{reading, entryAt, ascending};
+ghost use Rattle.order.specs.Orders.{entrySize, externalsAt, maxPlacements, reading, entryAt, ascending};
 ghost use Rattle.order.specs.Windows.{lengthAllowed, windowAllowed};
 use word::Address;
 
@@ -11,6 +11,14 @@ pub const MAX_PLACEMENTS: usize = 32;
 pub const MAX_EXTERNALS: usize = 1024;
 
 pub const MAX_IMAGE: usize = 65536;
+
+// The bytes of an entry, and of an order without entries, which is three counts and the base.
+pub const ENTRY_SIZE: usize = 8;
+
+pub const EMPTY_SIZE: usize = 16;
+
+// Placements start behind the base and their count.
+pub const PLACEMENTS_START: usize = 12;
 
 // A section and its address, or a symbol and its value, which is a run-time address too.
 pub struct Entry {
@@ -30,12 +38,20 @@ pub enum Reading {
     WellFormed(Counts),
 }
 
+// Where external values start, behind so many placements and their own count.
+pub fn externals_start(placements: usize) -> usize
+    requires { ⌜ placements ≤ maxPlacements ⌝ }
+    ensures { λ r. ⌜ r ≡ externalsAt placements ⌝ }
+{
+    EMPTY_SIZE + ENTRY_SIZE * placements
+}
+
 // Entry i of a list that starts at `at`.
 pub fn read_entry(order: &[u8], at: usize, i: usize) -> Entry
-    requires { ⌜ at + 8 * i + 8 ≤ length (now order) ⌝ }
+    requires { ⌜ at + entrySize * i + entrySize ≤ length (now order) ⌝ }
     ensures { λ r. ⌜ r ≡ entryAt (now (order .entry)) at i ⌝ }
 {
-    let place = at + 8 * i;
+    let place = at + ENTRY_SIZE * i;
     Entry {
         index: endian::read32(order, place),
         value: Address(endian::read32(order, place + 4)),
@@ -44,7 +60,7 @@ pub fn read_entry(order: &[u8], at: usize, i: usize) -> Entry
 
 // Whether the n entries from `at` on ascend strictly by their indices.
 fn ascends(order: &[u8], at: usize, n: usize) -> bool
-    requires { ⌜ at + 8 * n ≤ length (now order) ⌝ }
+    requires { ⌜ at + entrySize * n ≤ length (now order) ⌝ }
     ensures { λ r. ⌜ r ≡ ascending (λ i. entryAt (now (order .entry)) at i .index) n ⌝ }
 {
     let mut i: usize = 1;
@@ -63,7 +79,7 @@ fn ascends(order: &[u8], at: usize, n: usize) -> bool
 pub fn read_order(order: &[u8]) -> Reading
     ensures { λ r. ⌜ r ≡ reading (now (order .entry)) ⌝ }
 {
-    if order.len() < 16 {
+    if order.len() < EMPTY_SIZE {
         return Reading::Malformed;
     }
     if endian::read32(order, 0) != 1 {
@@ -73,18 +89,18 @@ pub fn read_order(order: &[u8]) -> Reading
     if MAX_PLACEMENTS < placements {
         return Reading::Malformed;
     }
-    let start = 16 + 8 * placements;
+    let start = externals_start(placements);
     if order.len() < start {
         return Reading::Malformed;
     }
-    let externals = endian::read32(order, 12 + 8 * placements) as usize;
+    let externals = endian::read32(order, PLACEMENTS_START + ENTRY_SIZE * placements) as usize;
     if MAX_EXTERNALS < externals {
         return Reading::Malformed;
     }
-    if order.len() != start + 8 * externals {
+    if order.len() != start + ENTRY_SIZE * externals {
         return Reading::Malformed;
     }
-    if !ascends(order, 12, placements) {
+    if !ascends(order, PLACEMENTS_START, placements) {
         return Reading::Malformed;
     }
     if !ascends(order, start, externals) {

@@ -260,7 +260,7 @@ fn apply_all(
     requires { ⌜ SoundObject (now object) × (reading (now order) ≡ Reading.WellFormed counts) × SymbolsOf (now object) symbols × Checked (now object) (now order) addresses site × (now part ≡ found (now object) site) ⌝ }
     ensures { λ _. ⌜ now (part .exit) ≡ after (now (object .entry)) (now (order .entry)) addresses site (count site) ⌝ }
 {
-    let n = (site.rela.size / 12) as usize;
+    let n = elf::relocation_entries(site.rela);
     let mut j: usize = 0;
     while j < n {
         apply(object, order, counts, symbols, addresses, site, j, part);

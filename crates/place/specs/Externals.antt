@@ -4,7 +4,7 @@ use mathlib.Core.Bool.{Bool, not, _&&_}
 use mathlib.Core.List.{List}
 use lib.Dec.{ltb, eqb}
 use Rattle.elf.specs.Sections.{sectionAt, symbolTable}
-use Rattle.elf.specs.Entries.{symbolAt, symbolCount}
+use Rattle.elf.specs.Entries.{SHN_UNDEF, symbolAt, symbolCount}
 use Rattle.lookup.specs.Values.{isGiven, externalValue}
 use Rattle.place.specs.declared.Fault.{Fault}
 use Rattle.place.specs.Placements.{lowest}
@@ -12,7 +12,7 @@ use Rattle.place.specs.Placements.{lowest}
 -- "undefined symbols (section 0, index above 0)", of the table
 unfoldable pub isUndefined : List ℕ → ℕ → Bool
 isUndefined object k =
-    ltb 0 k && ltb k (symbolCount object) && eqb (symbolAt object (sectionAt object (symbolTable object)) k .section) 0
+    ltb 0 k && ltb k (symbolCount object) && eqb (symbolAt object (sectionAt object (symbolTable object)) k .section) SHN_UNDEF
 
 -- check 7: "outside value for a wrong symbol", at the "lowest such symbol"
 unfoldable pub externalCheck : List ℕ → List ℕ → Fault

@@ -4,8 +4,7 @@ use mathlib.Core.Bool.{Bool, not, cond, _&&_, _||_}
 use mathlib.Core.List.{List}
 use lib.Dec.{ltb}
 use Rattle.word.specs.First.{first}
-use Rattle.elf.specs.Headers.{sectionCount}
-use Rattle.elf.specs.Sections.{sectionAt, allocated}
+use Rattle.elf.specs.Sections.{isAllocated}
 use Rattle.lookup.specs.Values.{isGiven}
 use Rattle.lookup.specs.Addresses.{placedAt}
 use Rattle.place.specs.declared.Fault.{Fault}
@@ -14,10 +13,6 @@ use Rattle.place.specs.declared.Fault.the-variants.{Nowhere, At}
 -- the least number below n at which a rule is broken, if there is one
 unfoldable pub lowest : (ℕ → Bool) → ℕ → Fault
 lowest broken n = cond (ltb (first broken n) n) (At (first broken n)) Nowhere
-
--- a number names an allocated section of the object
-unfoldable pub isAllocated : List ℕ → ℕ → Bool
-isAllocated object i = ltb i (sectionCount object) && allocated (sectionAt object i)
 
 -- a number is in one only: placed and not allocated, or allocated and not placed
 unfoldable pub differs : List ℕ → List ℕ → ℕ → Bool

@@ -3,32 +3,23 @@ ghost use mathlib.Core.Path.{_≡_};
 ghost use mathlib.Core.Bool.{not, _&&_};
 ghost use Rattle.word.specs.First.{first};
 ghost use Rattle.elf.specs.Headers.{sectionCount};
+ghost use Rattle.elf.specs.Sections.{isAllocated};
 ghost use Rattle.validate.specs.Facts.{SoundObject};
 ghost use Rattle.order.specs.Orders.{reading, placement, placementCount};
 ghost use Rattle.lookup.specs.Addresses.{placedAt};
-ghost use Rattle.place.specs.Placements.{isAllocated, placementCheck};
+ghost use Rattle.place.specs.Placements.{placementCheck};
 ghost use Rattle.lookup.specs.Values.{isGiven};
 ghost use Rattle.place.specs.Externals.{isUndefined, externalCheck};
+use elf::SHN_UNDEF;
 use lookup::Value;
 use order::Counts;
+use order::PLACEMENTS_START;
 use order::Reading;
 
 // The lowest section or symbol that breaks a rule, if one does.
 pub enum Fault {
     Nowhere,
     At(u32),
-}
-
-// Whether a number names an allocated section.
-pub fn is_allocated_section(object: &[u8], i: u32) -> bool
-    requires { ⌜ SoundObject (now object) ⌝ }
-    ensures { λ r. ⌜ r ≡ isAllocated (now (object .entry)) i ⌝ }
-{
-    let at = i as usize;
-    if elf::section_count(object) <= at {
-        return false;
-    }
-    elf::is_allocated(elf::read_section(object, at))
 }
 
 // Whether an order gives a value.
@@ -49,7 +40,7 @@ fn lowest_unplaced(object: &[u8], order: &[u8], counts: Counts) -> usize
     let n = elf::section_count(object);
     let mut i: usize = 0;
     while i < n {
-        let allocated = is_allocated_section(object, i as u32);
+        let allocated = elf::is_allocated_section(object, i as u32);
         let placed = is_given(lookup::placed_at(order, counts, i as u32));
         if allocated & !placed {
             return i;
@@ -67,8 +58,8 @@ fn first_extra(object: &[u8], order: &[u8], counts: Counts) -> usize
     let n = counts.placements;
     let mut j: usize = 0;
     while j < n {
-        let e = order::read_entry(order, 12, j);
-        if !is_allocated_section(object, e.index) {
+        let e = order::read_entry(order, PLACEMENTS_START, j);
+        if !elf::is_allocated_section(object, e.index) {
             return j;
         }
         j += 1;
@@ -85,7 +76,7 @@ pub fn check_placements(object: &[u8], order: &[u8], counts: Counts) -> Fault
     let extra = first_extra(object, order, counts);
     let missing = unplaced < elf::section_count(object);
     if extra < counts.placements {
-        let e = order::read_entry(order, 12, extra);
+        let e = order::read_entry(order, PLACEMENTS_START, extra);
         if missing & (unplaced < e.index as usize) {
             return Fault::At(unplaced as u32);
         }
@@ -108,7 +99,7 @@ fn is_undefined(object: &[u8], k: u32) -> bool
     }
     let table = elf::read_section(object, elf::symbol_table(object));
     let symbol = elf::read_symbol(object, table, at);
-    (0 < k) & (symbol.section == 0)
+    (0 < k) & (symbol.section == SHN_UNDEF)
 }
 
 // Check 7: the lowest symbol that has an external value and is not undefined.
@@ -116,7 +107,7 @@ pub fn check_externals(object: &[u8], order: &[u8], counts: Counts) -> Fault
     requires { ⌜ SoundObject (now object) × (reading (now order) ≡ Reading.WellFormed counts) ⌝ }
     ensures { λ r. ⌜ r ≡ externalCheck (now (object .entry)) (now (order .entry)) ⌝ }
 {
-    let start = 16 + 8 * counts.placements;
+    let start = order::externals_start(counts.placements);
     let n = counts.externals;
     let mut j: usize = 0;
     while j < n {

@@ -3,11 +3,13 @@ ghost use mathlib.Core.Path.{_≡_};
 ghost use Prim.Native.Nat.{_≤_};
 ghost use Rattle.validate.specs.Facts.{SoundObject};
 ghost use Rattle.order.specs.Orders.{reading};
+ghost use Rattle.order.specs.Windows.{maxImage};
 use lookup::Addresses;
 use order::Counts;
 use order::Reading;
 use place::Fault;
 use symbols::SymbolValue;
+use validate::MAX_SYMBOLS;
 use validate::ObjectCheck;
 use word::Address;
 
@@ -36,7 +38,7 @@ fn read(object: &[u8], order: &[u8], counts: Counts, len: usize)
 
 // Check 6.
 fn placements(object: &[u8], order: &[u8], counts: Counts, len: usize)
-    requires { ⌜ SoundObject (now object) × (reading (now order) ≡ Reading.WellFormed counts) × (len ≤ 65536) ⌝ }
+    requires { ⌜ SoundObject (now object) × (reading (now order) ≡ Reading.WellFormed counts) × (len ≤ maxImage) ⌝ }
 {
     match place::check_placements(object, order, counts) {
         Fault::At(i) => harness::answer(6, i as u64),
@@ -46,7 +48,7 @@ fn placements(object: &[u8], order: &[u8], counts: Counts, len: usize)
 
 // Check 7.
 fn externals(object: &[u8], order: &[u8], counts: Counts, len: usize)
-    requires { ⌜ SoundObject (now object) × (reading (now order) ≡ Reading.WellFormed counts) × (len ≤ 65536) ⌝ }
+    requires { ⌜ SoundObject (now object) × (reading (now order) ≡ Reading.WellFormed counts) × (len ≤ maxImage) ⌝ }
 {
     match place::check_externals(object, order, counts) {
         Fault::At(k) => harness::answer(7, k as u64),
@@ -56,7 +58,7 @@ fn externals(object: &[u8], order: &[u8], counts: Counts, len: usize)
 
 // Check 8.
 fn placing(object: &[u8], order: &[u8], counts: Counts, len: usize)
-    requires { ⌜ SoundObject (now object) × (reading (now order) ≡ Reading.WellFormed counts) × (len ≤ 65536) ⌝ }
+    requires { ⌜ SoundObject (now object) × (reading (now order) ≡ Reading.WellFormed counts) × (len ≤ maxImage) ⌝ }
 {
     let given = lookup::address_array(order, counts);
     let placed = placing::check_placing(object, given, counts.base, len);
@@ -90,7 +92,7 @@ fn values(object: &[u8], order: &[u8], counts: Counts, array: Addresses)
 {
     let symbols = symbols::symbols_of(object);
     let n = symbols.count;
-    if 1024 < n {
+    if MAX_SYMBOLS < n {
         return;
     }
     let end = n as u32 + 3;

@@ -201,7 +201,7 @@ fn relocations(s: &[u8]) -> u64
 }
 
 fn relocations_in(digest: u64, s: &[u8], h: Section) -> u64 {
-    let n = (h.size / 12) as usize;
+    let n = elf::relocation_entries(h);
     let mut d = digest;
     let mut k: usize = 0;
     while k < n {

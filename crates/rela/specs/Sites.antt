@@ -1,11 +1,11 @@
 -- "How a record is read": a relocation's place, and what its rules look at. Assumes nothing: these are definitions.
-use Prim.Native.Nat.{ℕ, _+_, _/_}
+use Prim.Native.Nat.{ℕ, _+_}
 use mathlib.Core.List.{List}
 use lib.ListN.{getD}
 use lib.IntN.{ℤ}
 use Rattle.word.specs.Whole.{signed}
 use Rattle.elf.specs.declared.Relocation.{Relocation}
-use Rattle.elf.specs.Sections.{sectionAt}
+use Rattle.elf.specs.Sections.{sectionAt, relocationEntries}
 use Rattle.elf.specs.Entries.{bytesOf, relocationAt}
 use Rattle.types.specs.declared.Decision.{Decision}
 use Rattle.types.specs.Types.{decision}
@@ -19,7 +19,7 @@ siteAt object addresses i =
 
 -- how many relocations it has
 abbrev pub count : Site → ℕ
-count x = x .rela .size / 12
+count x = relocationEntries (x .rela)
 
 -- relocation j: its fields, and what its type asks for
 abbrev pub entry : List ℕ → Site → ℕ → Relocation

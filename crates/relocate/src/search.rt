@@ -12,6 +12,7 @@ use checks::is_in_reach;
 use checks::is_on_boundary;
 use checks::is_paired;
 use checks::is_symbol_kept;
+use elf::RELOCATION_SIZE;
 use lookup::Addresses;
 use order::Counts;
 use order::Reading;
@@ -105,7 +106,7 @@ pub fn check_relocations(
             continue 'search;
         }
         let site = site_at(object, addresses, i);
-        let count = (site.rela.size / 12) as usize;
+        let count = (site.rela.size / RELOCATION_SIZE) as usize;
         let mut previous = Previous::Nothing;
         let mut j: usize = 0;
         while j < count {

@@ -8,26 +8,13 @@ use Rattle.word.specs.Places.{address}
 use Rattle.word.specs.Whole.{plus}
 use Rattle.elf.specs.declared.Symbol.{Symbol}
 use Rattle.elf.specs.Headers.{addressWidth}
-use Rattle.elf.specs.Sections.{sectionAt, symbolTable}
-use Rattle.elf.specs.Entries.{symbolAt, symbolCount}
+use Rattle.elf.specs.Sections.{sectionAt, isAllocated, symbolTable}
+use Rattle.elf.specs.Entries.{SHN_UNDEF, SHN_ABS, STB_WEAK, STT_TLS, STT_GNU_IFUNC, symbolAt, symbolCount}
 use Rattle.lookup.specs.declared.Value.{Value}
 use Rattle.lookup.specs.declared.Value.the-variants.{Given, NotGiven}
 use Rattle.lookup.specs.Values.{externalValue}
 use Rattle.symbols.specs.declared.SymbolValue.{SymbolValue}
 use Rattle.symbols.specs.declared.SymbolValue.the-variants.{Resolved, Unresolved}
-use Rattle.place.specs.Placements.{isAllocated}
-
-abbrev pub SHN_ABS : ℕ
-SHN_ABS = 0xFFF1
-
-abbrev pub STB_WEAK : ℕ
-STB_WEAK = 2
-
-abbrev pub STT_TLS : ℕ
-STT_TLS = 6
-
-abbrev pub STT_GNU_IFUNC : ℕ
-STT_GNU_IFUNC = 10
 
 -- "for an undefined symbol the order's value, else 0 if weak (binding 2)"
 abbrev pub ofUndefined : Symbol → Value → SymbolValue
@@ -35,12 +22,13 @@ ofUndefined y (Given v) = Resolved v
 ofUndefined y NotGiven = cond (eqb (y .binding) STB_WEAK) (Resolved (address 0)) Unresolved
 
 -- a symbol of the table, by the section that it is defined in: "placed address plus value modulo 2^32 for a symbol of an allocated row;
--- the value for section 0xFFF1; for an undefined symbol the order's value, else 0 if weak". "Anything else" does not resolve.
+-- the value for section 0xFFF1", an absolute symbol, which is in no section: its value is the address itself; "for an undefined symbol the
+-- order's value, else 0 if weak". "Anything else" does not resolve.
 unfoldable pub ofSection : List ℕ → List ℕ → List ℕ → ℕ → Symbol → SymbolValue
 ofSection object order addresses k y =
     cond (isAllocated object (y .section)) (Resolved (address (plus (addressWidth object) (getD addresses (y .section) 0) (y .value .0))))
     (cond (eqb (y .section) SHN_ABS) (Resolved (address (y .value .0)))
-    (cond (eqb (y .section) 0) (ofUndefined y (externalValue order k)) Unresolved))
+    (cond (eqb (y .section) SHN_UNDEF) (ofUndefined y (externalValue order k)) Unresolved))
 
 -- "0 for symbol 0, whatever its entry holds and even in an empty table"; "an index past the table, and types TLS 6 and IFUNC 10 do not
 -- resolve"

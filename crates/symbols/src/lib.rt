@@ -4,6 +4,11 @@ ghost use Rattle.validate.specs.Facts.{SoundObject};
 ghost use Rattle.order.specs.Orders.{reading};
 ghost use Rattle.symbols.specs.Values.{ofUndefined, ofSection, symbolValue};
 ghost use Rattle.symbols.specs.Facts.{SymbolsOf};
+use elf::SHN_ABS;
+use elf::SHN_UNDEF;
+use elf::STB_WEAK;
+use elf::STT_GNU_IFUNC;
+use elf::STT_TLS;
 use elf::Section;
 use elf::Symbol;
 use lookup::Addresses;
@@ -25,7 +30,7 @@ fn undefined_value(symbol: Symbol, value: Value) -> SymbolValue
     match value {
         Value::Given(v) => SymbolValue::Resolved(v),
         Value::NotGiven => {
-            if symbol.binding == 2 {
+            if symbol.binding == STB_WEAK {
                 SymbolValue::Resolved(Address(0))
             } else {
                 SymbolValue::Unresolved
@@ -53,15 +58,15 @@ fn value_in_section(
     ensures { λ r. ⌜ r ≡ ofSection (now (object .entry)) (now (order .entry)) addresses k symbol ⌝ }
 {
     let section = symbol.section;
-    if place::is_allocated_section(object, section as u32) {
+    if elf::is_allocated_section(object, section as u32) {
         let address = addresses[section as usize];
         return SymbolValue::Resolved(Address(arith::add32(address, symbol.value.0 as u64)));
     }
-    if section == 0xfff1 {
+    if section == SHN_ABS {
         // An absolute symbol is in no section: its value is the address itself.
         return SymbolValue::Resolved(Address(symbol.value.0));
     }
-    if section != 0 {
+    if section != SHN_UNDEF {
         return SymbolValue::Unresolved;
     }
     undefined_value(symbol, lookup::external_value(order, counts, k))
@@ -117,7 +122,7 @@ pub fn symbol_value(
         };
     }
     let symbol = elf::read_symbol(object, symbols.table, at);
-    if (symbol.kind == 6) | (symbol.kind == 10) {
+    if (symbol.kind == STT_TLS) | (symbol.kind == STT_GNU_IFUNC) {
         return Lookup {
             value: SymbolValue::Unresolved,
             addresses,

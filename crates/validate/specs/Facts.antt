@@ -5,7 +5,7 @@ use mathlib.Core.Bool.{true}
 use mathlib.Core.List.{List}
 use Prim.Native.Nat.{ℕ, _≤_, _<_}
 use Rattle.word.specs.Bytes.{leAt}
-use Rattle.elf.specs.Headers.{sectionCount}
+use Rattle.elf.specs.Headers.{sectionSize, sectionCount}
 use Rattle.elf.specs.Sections.{sectionAt}
 use Rattle.elf.specs.Facts.{TableInside}
 use Rattle.header.specs.Headers.{headerAllowed}
@@ -21,6 +21,6 @@ pub record Targeted (s : List ℕ) (i : ℕ) : Type 0 where
 pub record SoundObject (s : List ℕ) : Type 0 where
   pub header : headerAllowed s ≡ true
   pub table : TableInside s
-  pub entries : leAt 2 s 46 ≡ 40
+  pub entries : leAt 2 s 46 ≡ sectionSize
   pub some : 1 ≤ sectionCount s
   pub sections : (i : ℕ) → i < sectionCount s → SoundSection s i

@@ -1,13 +1,14 @@
 -- "Row rules": each sentence as a test that section i keeps it. Assumes nothing: these are definitions.
-use Prim.Native.Nat.{ℕ, suc, _+_, _/_, _%_}
+use Prim.Native.Nat.{ℕ, suc, _+_, _%_}
 use mathlib.Core.Bool.{Bool, not, cond, _&&_, _||_}
 use mathlib.Core.List.{List}
 use lib.ListN.{length}
 use lib.Dec.{leb, ltb, eqb}
 use Rattle.word.specs.First.{first, everywhere}
 use Rattle.word.specs.Powers.{oneBit}
-use Rattle.elf.specs.Headers.{sectionCount}
+use Rattle.elf.specs.Headers.{symbolSize, relocationSize, sectionCount}
 use Rattle.elf.specs.Sections.{NULL, SYMTAB, RELA, NOBITS, REL, sectionAt, allocated, loaded, symbolTable, countingRel, countingRela, relocationsBelow}
+use Rattle.elf.specs.Entries.{symbolEntries}
 use Rattle.validate.specs.declared.SectionCheck.{SectionCheck}
 use Rattle.validate.specs.declared.SectionCheck.the-variants.{Sound, Broken}
 use Rattle.validate.specs.declared.ObjectCheck.{ObjectCheck}
@@ -43,7 +44,7 @@ unfoldable pub symbolTableWell : List ℕ → ℕ → Bool
 symbolTableWell s i =
     let h = sectionAt s i in
     not (eqb (h .kind) SYMTAB)
-    || (eqb i (symbolTable s) && eqb (h .entsize) 16 && eqb (h .size % 16) 0 && leb (h .size / 16) maxSymbols)
+    || (eqb i (symbolTable s) && eqb (h .entsize) symbolSize && eqb (h .size % symbolSize) 0 && leb (symbolEntries h) maxSymbols)
 
 -- "A counting REL is refused."
 unfoldable pub noCountingRel : List ℕ → ℕ → Bool
@@ -54,7 +55,7 @@ noCountingRel s i = not (countingRel s i)
 unfoldable pub relaKept : List ℕ → ℕ → Bool
 relaKept s i =
     let h = sectionAt s i in
-    (eqb (h .entsize) 12 && eqb (h .size % 12) 0)
+    (eqb (h .entsize) relocationSize && eqb (h .size % relocationSize) 0)
     && (ltb (symbolTable s) (sectionCount s) && eqb (h .link) (symbolTable s))
     && loaded (sectionAt s (h .info))
     && everywhere (λ j. not (countingRela s j && eqb (sectionAt s j .info) (h .info))) i

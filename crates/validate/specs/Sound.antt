@@ -3,11 +3,12 @@ use mathlib.Core.Logic.{_⊎_}
 use mathlib.Core.Path.{_≡_}
 use mathlib.Core.Bool.{true, false}
 use mathlib.Core.List.{List}
-use Prim.Native.Nat.{ℕ, suc, _+_, _/_, _%_, _≤_, _<_}
+use Prim.Native.Nat.{ℕ, suc, _+_, _%_, _≤_, _<_}
 use lib.ListN.{length}
 use Rattle.word.specs.Powers.{oneBit}
-use Rattle.elf.specs.Headers.{sectionCount}
+use Rattle.elf.specs.Headers.{symbolSize, relocationSize, sectionCount}
 use Rattle.elf.specs.Sections.{NULL, SYMTAB, RELA, NOBITS, REL, sectionAt, allocated, loaded, symbolTable, countingRel, countingRela, relocationsBelow}
+use Rattle.elf.specs.Entries.{symbolEntries}
 use Rattle.validate.specs.Rules.{maxSymbols, maxRelocations}
 
 -- section i is a SYMTAB
@@ -15,15 +16,15 @@ pub record SoundSymbols (s : List ℕ) (i : ℕ) : Type 0 where
   -- "At most one SYMTAB", "The higher row of two is at fault."
   pub lowest : i ≡ symbolTable s
   -- "entry size 16, whole entries, at most 1,024"
-  pub entries : sectionAt s i .entsize ≡ 16
-  pub whole : sectionAt s i .size % 16 ≡ 0
-  pub few : sectionAt s i .size / 16 ≤ maxSymbols
+  pub entries : sectionAt s i .entsize ≡ symbolSize
+  pub whole : sectionAt s i .size % symbolSize ≡ 0
+  pub few : symbolEntries (sectionAt s i) ≤ maxSymbols
 
 -- section i is a RELA that counts
 pub record SoundRela (s : List ℕ) (i : ℕ) : Type 0 where
   -- "entry size 12, whole entries"
-  pub entries : sectionAt s i .entsize ≡ 12
-  pub whole : sectionAt s i .size % 12 ≡ 0
+  pub entries : sectionAt s i .entsize ≡ relocationSize
+  pub whole : sectionAt s i .size % relocationSize ≡ 0
   -- "links to the SYMTAB (the lowest, if there are two)"
   pub some-table : symbolTable s < sectionCount s
   pub linked : sectionAt s i .link ≡ symbolTable s

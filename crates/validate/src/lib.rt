@@ -5,14 +5,21 @@ ghost use mathlib.Core.Bool.{not, _&&_};
 ghost use lib.Dec.{eqb};
 ghost use Rattle.word.specs.First.{everywhere};
 ghost use lib.ListN.{length};
-ghost use Rattle.elf.specs.Headers.{sectionCount};
+ghost use Rattle.elf.specs.Headers.{headerSize, sectionCount};
 ghost use Rattle.elf.specs.Sections.{sectionAt, countingRela};
 ghost use Rattle.elf.specs.Facts.{TableInside};
 ghost use Rattle.validate.specs.Rules.{startsNull, insideFile, allocatedWell, symbolTableWell, noCountingRel, relaKept, relocationsKept, relaWell, relocationsWell, sectionCheck, objectCheck};
 ghost use Rattle.validate.specs.Facts.{Targeted};
+use elf::NOBITS;
+use elf::NULL;
+use elf::REL;
+use elf::RELA;
+use elf::RELOCATION_SIZE;
+use elf::SYMBOL_SIZE;
+use elf::SYMTAB;
 
 // "whole entries, at most 1,024", and "at most 4,096 records"
-pub const MAX_SYMBOLS: u32 = 1024;
+pub const MAX_SYMBOLS: usize = 1024;
 
 pub const MAX_RELOCATIONS: usize = 4096;
 
@@ -54,10 +61,10 @@ fn is_plain_well(object: &[u8], i: usize) -> bool
     let kind = h.kind;
     let end = h.offset.0 as usize + h.size as usize;
     let align = h.alignment;
-    let starts = (i != 0) | (kind == 0);
-    let inside = (kind == 0) | (kind == 8) | (end <= object.len());
+    let starts = (i != 0) | (kind == NULL);
+    let inside = (kind == NULL) | (kind == NOBITS) | (end <= object.len());
     let aligned = (align == 0) | arith::one_bit(align);
-    let table = (kind == 2) | (kind == 4) | (kind == 9);
+    let table = (kind == SYMTAB) | (kind == RELA) | (kind == REL);
     starts & inside & (!elf::is_allocated(h) | (aligned & !table))
 }
 
@@ -67,11 +74,11 @@ fn is_symbol_table_well(object: &[u8], i: usize) -> bool
     ensures { λ r. ⌜ r ≡ symbolTableWell (now (object .entry)) i ⌝ }
 {
     let h = elf::read_section(object, i);
-    (h.kind != 2)
+    (h.kind != SYMTAB)
         | ((i == elf::symbol_table(object))
-            & (h.entsize == 16)
-            & (h.size % 16 == 0)
-            & (h.size / 16 <= MAX_SYMBOLS))
+            & (h.entsize == SYMBOL_SIZE)
+            & (h.size % SYMBOL_SIZE == 0)
+            & (elf::symbol_entries(h) <= MAX_SYMBOLS))
 }
 
 // The rules of a counting RELA.
@@ -82,7 +89,7 @@ fn is_rela_kept(object: &[u8], i: usize) -> bool
     let h = elf::read_section(object, i);
     let table = elf::symbol_table(object);
     let target = elf::read_section(object, h.info as usize);
-    let sized = (h.entsize == 12) & (h.size % 12 == 0);
+    let sized = (h.entsize == RELOCATION_SIZE) & (h.size % RELOCATION_SIZE == 0);
     let linked = (table < elf::section_count(object)) & (h.link as usize == table);
     sized
         & linked
@@ -100,10 +107,10 @@ fn is_relocation_well(object: &[u8], i: usize) -> bool
     if !elf::has_target(object, h) {
         return true;
     }
-    if h.kind == 9 {
+    if h.kind == REL {
         return false;
     }
-    if h.kind != 4 {
+    if h.kind != RELA {
         return true;
     }
     is_rela_kept(object, i)
@@ -111,7 +118,7 @@ fn is_relocation_well(object: &[u8], i: usize) -> bool
 
 // Check 5.
 fn check_sections(object: &[u8]) -> SectionCheck
-    requires { ⌜ 52 ≤ length (now object) ⌝ }
+    requires { ⌜ headerSize ≤ length (now object) ⌝ }
     ensures { λ r. ⌜ r ≡ sectionCheck (now (object .entry)) ⌝ }
 {
     if !header::check_table(object) {

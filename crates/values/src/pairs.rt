@@ -3,8 +3,12 @@ ghost use mathlib.Core.Path.{_≡_};
 ghost use mathlib.Core.Bool.{cond};
 ghost use Rattle.values.specs.Pairs.{isPair, pairOf};
 ghost use Rattle.rela.specs.Facts.{SoundSite, There};
+use elf::RELOCATION_SIZE;
 use rela::sites::Site;
 use word::SectionOffset;
+
+// The type of a paired high half.
+pub const PCREL_HI20: u8 = 23;
 
 // The one PCREL_HI20 at an offset, or that there is not exactly one.
 pub enum Pair {
@@ -18,7 +22,7 @@ fn is_pair(object: &[u8], site: Site, offset: SectionOffset, k: usize) -> bool
     ensures { λ r. ⌜ r ≡ isPair (now (object .entry)) site offset k ⌝ }
 {
     let r = elf::read_relocation(object, site.rela, k);
-    (r.kind == 23) & (r.offset.0 == offset.0)
+    (r.kind == PCREL_HI20) & (r.offset.0 == offset.0)
 }
 
 // k if it is chosen, else what was.
@@ -33,7 +37,7 @@ pub fn hi20_pair(object: &[u8], site: Site, offset: SectionOffset) -> Pair
     requires { ⌜ SoundSite (now object) site ⌝ }
     ensures { λ r. ⌜ r ≡ pairOf (now (object .entry)) site offset ⌝ }
 {
-    let n = (site.rela.size / 12) as usize;
+    let n = (site.rela.size / RELOCATION_SIZE) as usize;
     let mut at = n;
     let mut k: usize = 0;
     'search: while k < n {

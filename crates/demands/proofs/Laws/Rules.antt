@@ -11,7 +11,7 @@ use borrow.Author.Tests.{leb-true, ltb-true, ltb-false, eqb-true, eqb-false, le-
 use Rattle.word.specs.First.{first}
 use Rattle.word.proofs.Laws.Tests.{and-left, and-right, neither-left, neither-right, clash, both, given, implied, implies, same-tests}
 use Rattle.word.proofs.Laws.First.{first-below, first-at, everywhere-at, everywhere-is}
-use Rattle.elf.specs.Sections.{sectionAt, allocated}
+use Rattle.elf.specs.Sections.{sectionAt, allocated, isAllocated}
 use Rattle.header.specs.Headers.{headerAllowed, tableAllowed}
 use Rattle.order.specs.Orders.{placementCount, placement, externalCount, external, ascending, wellFormed}
 use Rattle.lookup.specs.Values.{isGiven, externalValue}
@@ -21,7 +21,7 @@ use Rattle.order.proofs.Laws.Sound.{wellFormed-sound, sound-wellFormed}
 use Rattle.plans.specs.declared.Span.{Span}
 use Rattle.journal.specs.Journals.{maxEntries, oldAt, count, held, noRoom}
 use Rattle.place.specs.declared.Fault.the-variants.{Nowhere, At}
-use Rattle.place.specs.Placements.{lowest, isAllocated, differs}
+use Rattle.place.specs.Placements.{lowest, differs}
 use Rattle.place.specs.Externals.{isUndefined}
 use Rattle.placing.specs.Placing.{endOf, aligned, endsInMemory, hasBytes, inWindow, share, apart, misplaced}
 use Rattle.rela.specs.Sites.{A}

@@ -12,7 +12,7 @@ use Rattle.word.specs.First.{first, everywhere, tabulate}
 use Rattle.word.specs.Sums.{sum}
 use Rattle.word.specs.Powers.{oneBit}
 use Rattle.elf.specs.Headers.{addressWidth, sectionCount}
-use Rattle.elf.specs.Sections.{sectionAt, allocated, loaded, symbolTable, targets, countingRel, countingRela, relocationsIn}
+use Rattle.elf.specs.Sections.{sectionAt, allocated, loaded, symbolTable, isAllocated, countingRel, countingRela, relocationsIn}
 use Rattle.elf.specs.Entries.{bytesOf, relocationAt, relocationCount, locationOf}
 use Rattle.header.specs.Headers.{headerAllowed, tableAllowed}
 use Rattle.validate.specs.Rules.{startsNull, insideFile, allocatedWell, symbolTableWell, noCountingRel, relaKept, relaWell, relocationsKept, relocationsWell, sectionWell}
@@ -26,7 +26,6 @@ use Rattle.journal.specs.Journals.{entry, entries, total, isBlank, endsWithin, 
 use Rattle.plans.specs.Plans.{end, lowest, spanOf}
 use Rattle.history.specs.Calls.{Files}
 use Rattle.journal.proofs.Laws.Sound.{test-sound}
-use Rattle.place.specs.Placements.{isAllocated}
 use Rattle.placing.specs.Placing.{endOf, unit, aligned, endsInMemory, hasBytes, inWindow, share, apart, misplaced}
 use Rattle.symbols.specs.Values.{symbolValue}
 use Rattle.types.specs.Types.{table, among, lookup, decision}
@@ -95,7 +94,7 @@ unfolding object words bytes leAt le
 count-is = refl
 
 pub sections-are : (i : ℕ) → i < 4 → SoundSection object i
-unfolding object words bytes leAt le sectionWell startsNull insideFile allocatedWell symbolTableWell noCountingRel relaKept relaWell relocationsKept relocationsWell sectionAt allocated loaded symbolTable targets countingRel countingRela relocationsIn first everywhere sum oneBit
+unfolding object words bytes leAt le sectionWell startsNull insideFile allocatedWell symbolTableWell noCountingRel relaKept relaWell relocationsKept relocationsWell sectionAt allocated loaded symbolTable isAllocated countingRel countingRela relocationsIn first everywhere sum oneBit
 sections-are zero h = section-sound object 0 refl
 sections-are (suc zero) h = section-sound object 1 refl
 sections-are (suc (suc zero)) h = section-sound object 2 refl
@@ -126,31 +125,31 @@ placed-are (suc (suc (suc (suc i)))) h a = absurd (omega arith)
 
 -- there is one relocation, and it breaks no rule
 relocations-are : relocationCount object ≡ 1
-unfolding object words bytes leAt le sum relocationsIn countingRela targets sectionAt allocated
+unfolding object words bytes leAt le sum relocationsIn countingRela isAllocated sectionAt allocated
 relocations-are = refl
 
 shape-is : Shape object order 0
-unfolding object order words bytes leAt le sum relocationsIn locationOf countingRela targets sectionAt allocated siteAt relocationAt decision table lookup among shapeWell neverFalls staysInside noOverlap previous first addresses tabulate placedAt valueIn entryAt
+unfolding object order words bytes leAt le sum relocationsIn locationOf countingRela isAllocated sectionAt allocated siteAt relocationAt decision table lookup among shapeWell neverFalls staysInside noOverlap previous first addresses tabulate placedAt valueIn entryAt
 shape-is = shape-well object (site object order 0) (entryOf object order 0) refl
 
 symbol-is : SymbolResolves object order 0
-unfolding object order words bytes leAt le sum relocationsIn locationOf countingRela targets sectionAt allocated siteAt relocationAt decision table lookup among symbolWell symbolValue first addresses tabulate placedAt valueIn entryAt
+unfolding object order words bytes leAt le sum relocationsIn locationOf countingRela isAllocated sectionAt allocated siteAt relocationAt decision table lookup among symbolWell symbolValue first addresses tabulate placedAt valueIn entryAt
 symbol-is = symbol-well object (site object order 0) (entryOf object order 0) (valueOf object order 0) refl
 
 form-is : FormIs object order 0
-unfolding object order words bytes leAt le sum relocationsIn locationOf countingRela targets sectionAt allocated siteAt relocationAt decision table lookup among formWell standsWell first addresses tabulate placedAt valueIn entryAt
+unfolding object order words bytes leAt le sum relocationsIn locationOf countingRela isAllocated sectionAt allocated siteAt relocationAt decision table lookup among formWell standsWell first addresses tabulate placedAt valueIn entryAt
 form-is = form-well object (site object order 0) (entryOf object order 0) refl
 
 pair-is : OnePair object order 0
-unfolding object order words bytes leAt le sum relocationsIn locationOf countingRela targets sectionAt allocated siteAt relocationAt decision table lookup among pairWell first addresses tabulate placedAt valueIn entryAt
+unfolding object order words bytes leAt le sum relocationsIn locationOf countingRela isAllocated sectionAt allocated siteAt relocationAt decision table lookup among pairWell first addresses tabulate placedAt valueIn entryAt
 pair-is = pair-well object (site object order 0) (entryOf object order 0) refl
 
 reach-is : Reaches object order 0
-unfolding object order words bytes leAt le sum relocationsIn locationOf countingRela targets sectionAt allocated siteAt relocationAt decision table lookup among first addresses tabulate placedAt valueIn entryAt
+unfolding object order words bytes leAt le sum relocationsIn locationOf countingRela isAllocated sectionAt allocated siteAt relocationAt decision table lookup among first addresses tabulate placedAt valueIn entryAt
 reach-is = reach-well object (site object order 0) (entryOf object order 0) _ refl
 
 boundary-is : OnBoundary object order 0
-unfolding object order words bytes leAt le sum relocationsIn locationOf countingRela targets sectionAt allocated siteAt relocationAt decision table lookup among first addresses tabulate placedAt valueIn entryAt
+unfolding object order words bytes leAt le sum relocationsIn locationOf countingRela isAllocated sectionAt allocated siteAt relocationAt decision table lookup among first addresses tabulate placedAt valueIn entryAt
 boundary-is = boundary-well object (site object order 0) (entryOf object order 0) refl
 
 -- its four bytes are all that is laid

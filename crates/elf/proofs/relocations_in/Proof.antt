@@ -1,9 +1,8 @@
 -- `elf::relocations_in` meets its contract. Assumes nothing.
 use mathlib.Core.Path.{_≡_, sym, ap, _∙_}
-use Prim.Native.Nat.{_/_}
 use mathlib.Core.Bool.{true, false}
 use native.Mathlib.Omega.{arith}
-use Rattle.elf.specs.Sections.{countingRela, relocationsIn}
+use Rattle.elf.specs.Sections.{countingRela, relocationEntries, relocationsIn}
 use borrow.Author.Needs.{needs}
 use Rattle.elf.proofs.relocations_in.Statement.{statement}
 use Rattle.elf.proofs.relocations_in.Tie as tie
@@ -12,7 +11,7 @@ returns : tie.Need-returns
 unfolding relocationsIn
 returns c =
     let counts : countingRela (c .before .before .before .before .before .args .object .now) (c .before .before .before .before .before .args .i) ≡ true = sym (c .before .before .before .is-counting-rela .ensures) ∙ c .before .before .if1 .taken in
-    (rw counts (ap (λ h. h .size / 12) (c .before .read-section .ensures)), omega arith)
+    (rw counts (c .relocation-entries .ensures .0 ∙ ap relocationEntries (c .before .read-section .ensures)), c .relocation-entries .ensures .1)
 
 returns-2 : tie.Need-returns-2
 unfolding relocationsIn
@@ -23,4 +22,4 @@ returns-2 c =
 pub relocations-in-spec : {M : Type 1} → statement M
 relocations-in-spec =
     tie.close
-    (tie.spec (λ c κs. search needs) (λ c κs. search needs) (λ c. search needs) returns returns-2)
+    (tie.spec (λ c κs. search needs) (λ c κs. search needs) (λ c κs. search needs) returns returns-2)

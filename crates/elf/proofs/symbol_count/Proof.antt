@@ -1,11 +1,11 @@
 -- `elf::symbol_count` meets its contract. Assumes nothing.
 use mathlib.Core.Path.{ap, _∙_}
-use Prim.Native.Nat.{_/_, _≤_, _<_}
+use Prim.Native.Nat.{_≤_, _<_}
 use native.Mathlib.Omega.{arith}
 use borrow.Author.Tests.{lt-ltb, le-ltb}
 use Rattle.elf.specs.Headers.{sectionCount}
 use Rattle.elf.specs.Sections.{sectionAt, symbolTable}
-use Rattle.elf.specs.Entries.{symbolCount}
+use Rattle.elf.specs.Entries.{symbolEntries, symbolCount}
 use borrow.Author.Needs.{needs}
 use Rattle.elf.proofs.symbol_count.Statement.{statement}
 use Rattle.elf.proofs.symbol_count.Tie as tie
@@ -22,7 +22,7 @@ unfolding symbolCount
 returns-2 c =
     let s = c .before .before .before .before .before .before .args .object .now in
     let there : symbolTable s < sectionCount s = omega arith in
-    rw (lt-ltb _ _ there) (ap (λ h. h .size / 16) (c .before .read-section .ensures) ∙ ap (λ i. sectionAt s i .size / 16) (c .before .before .before .before .symbol-table .ensures))
+    rw (lt-ltb _ _ there) (c .symbol-entries .ensures ∙ ap symbolEntries (c .before .read-section .ensures) ∙ ap (λ i. symbolEntries (sectionAt s i)) (c .before .before .before .before .symbol-table .ensures))
 
 pub symbol-count-spec : {M : Type 1} → statement M
 symbol-count-spec =
@@ -32,5 +32,5 @@ symbol-count-spec =
     (λ c κs. search needs)
     returns
     (λ c κs. search needs)
-    (λ c. search needs)
+    (λ c κs. search needs)
     returns-2)

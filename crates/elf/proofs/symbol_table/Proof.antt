@@ -8,13 +8,13 @@ use borrow.Author.Count.{below-more}
 use borrow.Author.Tests.{eq-eqb, ne-eqb}
 use Rattle.word.proofs.Laws.First.{first-is}
 use Rattle.elf.specs.Headers.{sectionCount}
-use Rattle.elf.specs.Sections.{sectionAt, symbolTable}
+use Rattle.elf.specs.Sections.{SYMTAB, sectionAt, symbolTable}
 use borrow.Author.Needs.{needs}
 use Rattle.elf.proofs.symbol_table.Statement.{statement}
 use Rattle.elf.proofs.symbol_table.Tie as tie
 
 abbrev Inv-loop : tie.InvT-loop
-Inv-loop object n i₀ i = (i ≤ n) × ((j : ℕ) → j < i → eqb (sectionAt object j .kind) 2 ≡ false)
+Inv-loop object n i₀ i = (i ≤ n) × ((j : ℕ) → j < i → eqb (sectionAt object j .kind) SYMTAB ≡ false)
 
 abbrev μ-loop : tie.MeasureT-loop
 μ-loop object n i₀ i = n - i

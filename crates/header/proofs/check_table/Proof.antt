@@ -1,4 +1,9 @@
 -- `header::check_table` meets its contract. Assumes nothing.
+use Prim.Native.Nat.{_≤_, _<_}
+use native.Mathlib.Omega.{arith}
+use borrow.Author.Tests.{le-leb, lt-leb}
+use Rattle.word.proofs.Laws.Tests.{and-true, and-false}
+use Rattle.elf.specs.Headers.{sectionCount, maxSections}
 use Rattle.header.specs.Headers.{tableAllowed}
 use borrow.Author.Needs.{needs}
 use Rattle.header.proofs.check_table.Statement.{statement}
@@ -6,17 +11,26 @@ use Rattle.header.proofs.check_table.Tie as tie
 
 returns : tie.Need-returns
 unfolding tableAllowed
-returns c = cc
+returns c =
+    let many : maxSections < sectionCount (c .before .before .before .args .object .now) = omega arith in
+    simp (lt-leb _ _ many, and-false)
+
+returns-2 : tie.Need-returns-2
+unfolding tableAllowed
+returns-2 c =
+    let few : sectionCount (c .before .before .before .before .before .before .args .object .now) ≤ maxSections = omega arith in
+    simp (le-leb _ _ few, and-true) (cc)
 
 pub check-table-spec : {M : Type 1} → statement M
 check-table-spec =
     tie.close
     (tie.spec
     (λ c κs. search needs)
-    (λ c. search needs)
+    returns
+    (λ c κs. search needs)
     (λ c κs. search needs)
     (λ c. search needs)
-    (λ c κs. search needs)
     (λ c. search needs)
     (λ c. search needs)
-    returns)
+    (λ c. search needs)
+    returns-2)

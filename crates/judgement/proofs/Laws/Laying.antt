@@ -1,16 +1,16 @@
 -- Laws of laying: the plan of a fitting install lies inside the image, and is laid section by section. Assumes nothing.
 use mathlib.Core.Path.{_≡_, refl, sym, ap, _∙_, subst}
-use mathlib.Core.Bool.{Bool, true, false, not, cond, _&&_, _||_}
+use mathlib.Core.Bool.{Bool, true, false, cond, _&&_}
 use mathlib.Core.List.{List, [], _∷_, _++_, append-assoc}
 use Prim.Native.Nat.{ℕ, zero, suc, _+_, _-_, _≤_, _<_}
 use native.Mathlib.Omega.{arith}
 use native.Mathlib.Decide.{decLt}
 use lib.ListN.{length, getD, take, drop}
-use lib.Dec.{ltb, eqb}
+use lib.Dec.{ltb}
 use lib.Seq.{sets, sets-eq}
 use borrow.Rule.Slice.PartMut.{putMid, post-is}
-use borrow.Author.Tests.{leb-true, eqb-true, eqb-false, lt-ltb}
-use Rattle.word.proofs.Laws.Tests.{and-left, never}
+use borrow.Author.Tests.{leb-true}
+use Rattle.word.proofs.Laws.Tests.{and-left}
 use Rattle.word.proofs.Laws.Lists.{length-part}
 use Rattle.order.specs.declared.Counts.{Counts}
 use Rattle.order.specs.Orders.{base}
@@ -123,15 +123,7 @@ lays-inside object order len ps e =
     let f = plan-fits object order len ps e in
     subst (Inside len) (f .plan-is) (plan-inside object order (f .counts) len (f .fitting))
 
--- ---- a section that has bytes in the image, by what the code tests
-
-pub no-bytes : (l : Bool) (n : ℕ) → (not l || eqb n 0) ≡ true → (l && ltb 0 n) ≡ false
-no-bytes true n e = ap (ltb 0) (eqb-true n 0 e)
-no-bytes false n e = refl
-
-pub some-bytes : (l : Bool) (n : ℕ) → (not l || eqb n 0) ≡ false → (l && ltb 0 n) ≡ true
-some-bytes true n e = let some : n ≡ 0 → ⊥ = eqb-false n 0 e in lt-ltb 0 n (omega arith)
-some-bytes false n e = never (sym e)
+-- ---- a section that has bytes in the image, or none
 
 pub with-none : (object order image : List ℕ) (t : ℕ) → hasBytes (sectionAt object t) ≡ false → withSection object order t image ≡ image
 unfolding withSection

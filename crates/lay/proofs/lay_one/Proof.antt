@@ -1,19 +1,19 @@
 -- `lay::lay_one` meets its contract. Assumes nothing.
 use mathlib.Core.Path.{_≡_, sym, ap, _∙_}
-use mathlib.Core.Bool.{true, _&&_}
+use mathlib.Core.Bool.{true}
 use mathlib.Core.List.{List}
 use Prim.Native.Nat.{ℕ, _+_, _-_, _≤_}
 use native.Mathlib.Omega.{arith}
 use lib.ListN.{length, getD}
-use lib.Dec.{ltb}
 use lib.Seq.{sets}
+use borrow.Author.Tests.{not-true, not-false}
 use Rattle.order.specs.Orders.{base}
 use Rattle.lookup.specs.Addresses.{addresses}
 use Rattle.order.proofs.Laws.Sound.{reading-sound}
-use Rattle.elf.specs.Sections.{sectionAt, loaded}
+use Rattle.elf.specs.Sections.{sectionAt}
 use Rattle.placing.specs.Placing.{hasBytes}
 use Rattle.stores.specs.Sections.{relocated}
-use Rattle.judgement.proofs.Laws.Laying.{is-sound, length-short, bytes-inside, bytes-loaded, no-bytes, some-bytes, with-none, with-some}
+use Rattle.judgement.proofs.Laws.Laying.{is-sound, length-short, bytes-inside, bytes-loaded, with-none, with-some}
 use borrow.Author.Needs.{needs}
 use Rattle.lay.proofs.lay_one.Statement.{statement}
 use Rattle.lay.proofs.lay_one.Tie as tie
@@ -35,30 +35,27 @@ base-is c = reading-sound (O c) (c .args .counts) (c .pre .0 .placeable .named .
 address : (c : tie.Start) → getD (c .args .t4) (c .args .t) 0 ≡ getD (addresses (O c)) (c .args .t) 0
 address c = ap (λ l. getD l (c .args .t) 0) (c .pre .1)
 
--- ---- where the header has been read, and whether it is loaded
+-- ---- where the header has been read, and whether the section has bytes
 
-abbrev header : tie.After-is-loaded → tie.After-read-section
+abbrev header : tie.After-has-bytes → tie.After-read-section
 header c = c .before
 
-abbrev st : tie.After-is-loaded → tie.Start
+abbrev st : tie.After-has-bytes → tie.Start
 st c = header c .before .before .before .before
 
-has-bytes : (c : tie.After-is-loaded) → hasBytes (sectionAt (S (st c)) (st c .args .t)) ≡ c .is-loaded .result && ltb 0 (header c .read-section .result .size)
-unfolding hasBytes
-has-bytes c =
-    ap (λ h. loaded h && ltb 0 (h .size)) (sym (header c .read-section .ensures))
-    ∙ ap (λ l. l && ltb 0 (header c .read-section .result .size)) (sym (c .is-loaded .ensures))
+has-bytes-is : (c : tie.After-has-bytes) → hasBytes (sectionAt (S (st c)) (st c .args .t)) ≡ c .has-bytes .result
+has-bytes-is c = ap hasBytes (sym (header c .read-section .ensures)) ∙ sym (c .has-bytes .ensures)
 
 -- ---- where the section has bytes
 
-abbrev read : tie.Else1 → tie.After-is-loaded
-read c = c .before .before
+abbrev read : tie.Else1 → tie.After-has-bytes
+read c = c .before
 
 abbrev T : tie.Else1 → ℕ
 T c = st (read c) .args .t
 
 some : (c : tie.Else1) → hasBytes (sectionAt (S (st (read c))) (T c)) ≡ true
-some c = has-bytes (read c) ∙ some-bytes (read c .is-loaded .result) (header (read c) .read-section .result .size) (c .if1 .left)
+some c = has-bytes-is (read c) ∙ not-false _ (c .if1 .left)
 
 inside : (c : tie.Else1) → let s = st (read c) in (base (O s) ≤ getD (addresses (O s)) (T c) 0) × (getD (addresses (O s)) (T c) 0 - base (O s) + sectionAt (S s) (T c) .size ≤ Len s)
 inside c = let s = st (read c) in bytes-inside (S s) (O s) (s .args .counts) (Len s) (s .pre .0) (T c) (s .pre .2) (some c)
@@ -70,9 +67,9 @@ read-section-requires c κs =
 
 returns : tie.Need-returns
 returns c =
-    let r : tie.After-is-loaded = search in
+    let r : tie.After-has-bytes = search in
     let s = st r in
-    sym (with-none (S s) (O s) (s .args .image .now) (s .args .t) (has-bytes r ∙ no-bytes (r .is-loaded .result) (header r .read-section .result .size) (c .if1 .taken)))
+    sym (with-none (S s) (O s) (s .args .image .now) (s .args .t) (has-bytes-is r ∙ not-true _ (c .if1 .taken)))
 
 mul-at : tie.Need-mul-at
 mul-at c = let s : tie.Start = search in omega (arith, is-sound _ _ _ _ (s .pre .0) .table .few, s .pre .2)

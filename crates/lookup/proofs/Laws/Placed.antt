@@ -7,7 +7,8 @@ use native.Mathlib.Omega.{arith}
 use lib.ListN.{getD}
 use Rattle.word.proofs.Laws.First.{getD-tabulate}
 use Rattle.lookup.specs.declared.Value.the-variants.{Given, NotGiven}
-use Rattle.order.specs.Orders.{placementCount, placement, externalsStart, externalCount, external, entryAt, ascending, wellFormed}
+use Rattle.elf.specs.Headers.{maxSections}
+use Rattle.order.specs.Orders.{placementsStart, placementCount, placement, externalsStart, externalCount, external, entryAt, ascending, wellFormed}
 use Rattle.lookup.specs.Values.{valueIn, externalValue}
 use Rattle.lookup.specs.Addresses.{orZero, placedAt, addresses}
 use Rattle.order.proofs.Laws.Sound.{wellFormed-sound}
@@ -28,24 +29,24 @@ module _ (s : List ℕ) (w : wellFormed s ≡ true) where
 
   pub placedAt-named : (section j : ℕ) → j < placementCount s → placement s j .index ≡ section → placedAt s section ≡ Given (placement s j .value)
   unfolding placedAt
-  placedAt-named section j h e = valueIn-at s 12 (placementCount s) section (wellFormed-sound s w .placed) j h e
+  placedAt-named section j h e = valueIn-at s placementsStart (placementCount s) section (wellFormed-sound s w .placed) j h e
 
   pub placedAt-unnamed : (section : ℕ)
-      → (placedAt s section ≡ NotGiven → Unnamed s 12 (placementCount s) section) × (Unnamed s 12 (placementCount s) section → placedAt s section ≡ NotGiven)
+      → (placedAt s section ≡ NotGiven → Unnamed s placementsStart (placementCount s) section) × (Unnamed s placementsStart (placementCount s) section → placedAt s section ≡ NotGiven)
   unfolding placedAt
-  placedAt-unnamed section = valueIn-unnamed s 12 (placementCount s) section (wellFormed-sound s w .placed)
+  placedAt-unnamed section = valueIn-unnamed s placementsStart (placementCount s) section (wellFormed-sound s w .placed)
 
   -- ---- the array
 
-  addresses-at : (section : ℕ) → section < 32 → getD (addresses s) section 0 ≡ orZero (placedAt s section)
+  addresses-at : (section : ℕ) → section < maxSections → getD (addresses s) section 0 ≡ orZero (placedAt s section)
   unfolding addresses
-  addresses-at section h = getD-tabulate (λ section. orZero (placedAt s section)) 32 section 0 h
+  addresses-at section h = getD-tabulate (λ section. orZero (placedAt s section)) maxSections section 0 h
 
-  pub addresses-named : (section j : ℕ) → section < 32 → j < placementCount s → placement s j .index ≡ section
+  pub addresses-named : (section j : ℕ) → section < maxSections → j < placementCount s → placement s j .index ≡ section
       → getD (addresses s) section 0 ≡ placement s j .value .0
   addresses-named section j l h e = addresses-at section l ∙ ap orZero (placedAt-named section j h e)
 
-  pub addresses-unnamed : (section : ℕ) → section < 32 → Unnamed s 12 (placementCount s) section → getD (addresses s) section 0 ≡ 0
+  pub addresses-unnamed : (section : ℕ) → section < maxSections → Unnamed s placementsStart (placementCount s) section → getD (addresses s) section 0 ≡ 0
   addresses-unnamed section l u = addresses-at section l ∙ ap orZero (placedAt-unnamed section .1 u)
 
   -- ---- symbols

@@ -5,18 +5,15 @@ use Rattle.lookup.specs.Values.{externalValue}
 use Rattle.lookup.proofs.external_value.Statement.{statement}
 use Rattle.lookup.proofs.external_value.Tie as tie
 
-mul-start : tie.Need-mul-start
-mul-start c = let k : Sound _ _ = reading-sound _ _ (c .before .before .pre) in omega arith
-
-add-start : tie.Need-add-start
-add-start c = let k : Sound _ _ = reading-sound _ _ (c .before .before .pre) in omega arith
+externals-start-requires : tie.Need-externals-start-requires
+externals-start-requires c κs = let k : Sound _ _ = reading-sound _ _ (c .before .pre) in omega arith
 
 find-requires : tie.Need-find-requires
-find-requires c κs = let k : Sound _ _ = reading-sound _ _ (c .before .before .pre) in record { inside = omega arith; ascends = k .given }
+find-requires c κs = let k : Sound _ _ = reading-sound _ _ (c .before .before .pre) in record { inside = omega arith; ascends = rw (c .externals-start .ensures) (k .given) }
 
 returns : tie.Need-returns
 unfolding externalValue
 returns c = let k : Sound _ _ = reading-sound _ _ (c .before .before .before .pre) in cc
 
 pub external-value-spec : {M : Type 1} → statement M
-external-value-spec = tie.close (tie.spec mul-start add-start find-requires returns)
+external-value-spec = tie.close (tie.spec externals-start-requires find-requires returns)

@@ -12,33 +12,33 @@ use Rattle.word.proofs.Laws.Bytes.{Bytes, length-bytes, bytes-leAt, leAt-bytes}
 use Rattle.word.proofs.Laws.Lists.{part-append, part-whole}
 use Rattle.word.proofs.Laws.First.{tabulate-same, length-tabulate, getD-tabulate}
 use Rattle.order.specs.declared.Entry.{Entry}
-use Rattle.order.specs.Orders.{Order, encodeEntries, encode, entryAt, base, placementCount, placement, externalCount, external, ascending, wellFormed, orderOf}
+use Rattle.order.specs.Orders.{Order, entrySize, placementsStart, externalCountAt, externalsAt, maxPlacements, maxExternals, encodeEntries, encode, entryAt, base, placementCount, placement, externalCount, external, ascending, wellFormed, orderOf}
 use Rattle.order.proofs.Laws.Ascending.{ascending-is}
 use Rattle.order.proofs.Laws.Sound.{Sound, countsOf, wellFormed-sound, sound-wellFormed}
 
--- the entries after the first are those of a list that starts 8 bytes on
-entryAt-shift : (s : List ℕ) (at j : ℕ) → entryAt s at (suc j) ≡ entryAt s (at + 8) j
+-- the entries after the first are those of a list that starts one entry on
+entryAt-shift : (s : List ℕ) (at j : ℕ) → entryAt s at (suc j) ≡ entryAt s (at + entrySize) j
 unfolding entryAt
 entryAt-shift s at j =
-    let on : at + 8 * suc j ≡ at + 8 + 8 * j = omega arith in
+    let on : at + entrySize * suc j ≡ at + entrySize + entrySize * j = omega arith in
     rw on
 
 -- ---- bytes that are read, and written again
 
-entry-bytes : (s : List ℕ) → Bytes s → (at : ℕ) → at + 8 ≤ length s → bytes 4 (entryAt s at 0 .index) ++ bytes 4 (entryAt s at 0 .value .0) ≡ part s at 8
+entry-bytes : (s : List ℕ) → Bytes s → (at : ℕ) → at + entrySize ≤ length s → bytes 4 (entryAt s at 0 .index) ++ bytes 4 (entryAt s at 0 .value .0) ≡ part s at entrySize
 unfolding entryAt
 entry-bytes s b at h =
-    let none : at + 8 * 0 ≡ at = omega arith in
+    let none : at + entrySize * 0 ≡ at = omega arith in
     rw (none, bytes-leAt 4 s at b (omega arith), bytes-leAt 4 s (at + 4) b (omega arith)) (part-append s at 4 (at + 4) 4 refl)
 
-encode-entries : (s : List ℕ) → Bytes s → (n at : ℕ) → at + 8 * n ≤ length s → encodeEntries (tabulate (entryAt s at) n) ≡ part s at (8 * n)
+encode-entries : (s : List ℕ) → Bytes s → (n at : ℕ) → at + entrySize * n ≤ length s → encodeEntries (tabulate (entryAt s at) n) ≡ part s at (entrySize * n)
 unfolding encodeEntries tabulate part
 encode-entries s b zero at h = refl
 encode-entries s b (suc n) at h =
-    let shift : tabulate (λ j. entryAt s at (suc j)) n ≡ tabulate (entryAt s (at + 8)) n = tabulate-same _ _ n (λ j l. entryAt-shift s at j) in
-    let all : 8 + 8 * n ≡ 8 * suc n = omega arith in
-    ap₂ _++_ (entry-bytes s b at (omega arith)) (ap encodeEntries shift ∙ encode-entries s b n (at + 8) (omega arith))
-    ∙ part-append s at 8 (at + 8) (8 * n) refl
+    let shift : tabulate (λ j. entryAt s at (suc j)) n ≡ tabulate (entryAt s (at + entrySize)) n = tabulate-same _ _ n (λ j l. entryAt-shift s at j) in
+    let all : entrySize + entrySize * n ≡ entrySize * suc n = omega arith in
+    ap₂ _++_ (entry-bytes s b at (omega arith)) (ap encodeEntries shift ∙ encode-entries s b n (at + entrySize) (omega arith))
+    ∙ part-append s at entrySize (at + entrySize) (entrySize * n) refl
     ∙ ap (part s at) all
 
 pub encode-orderOf : (s : List ℕ) → Bytes s → wellFormed s ≡ true → encode (orderOf s) ≡ s
@@ -54,16 +54,16 @@ encode-orderOf s b w =
       length-tabulate (external s) e,
       bytes-leAt 4 s 4 b (omega arith),
       bytes-leAt 4 s 8 b (omega arith),
-      bytes-leAt 4 s (12 + 8 * p) b (omega arith),
-      encode-entries s b p 12 (omega arith),
-      encode-entries s b e (16 + 8 * p) (omega arith),
+      bytes-leAt 4 s (externalCountAt p) b (omega arith),
+      encode-entries s b p placementsStart (omega arith),
+      encode-entries s b e (externalsAt p) (omega arith),
       part-append s 0 4 4 4 refl,
       part-append s 0 8 8 4 refl,
-      part-append s 0 12 12 (8 * p) refl,
-      part-append s 0 (12 + 8 * p) (12 + 8 * p) 4 (omega arith),
-      part-append s 0 (12 + 8 * p + 4) (16 + 8 * p) (8 * e) (omega arith),
+      part-append s 0 placementsStart placementsStart (entrySize * p) refl,
+      part-append s 0 (externalCountAt p) (externalCountAt p) 4 (omega arith),
+      part-append s 0 (externalCountAt p + 4) (externalsAt p) (entrySize * e) (omega arith),
     )
-    (part-whole s (12 + 8 * p + 4 + 8 * e) (omega arith))
+    (part-whole s (externalCountAt p + 4 + entrySize * e) (omega arith))
 
 -- ---- an order that is written, and read again
 
@@ -80,10 +80,10 @@ pub record Spelt (n : ℕ) (es : List Entry) : Type 0 where
 -- an order that bytes can spell
 pub record Spellable (o : Order) : Type 0 where
   pub base : o .base .0 < 2 ^ 32
-  pub placements : Spelt 32 (o .placements)
-  pub externals : Spelt 1024 (o .externals)
+  pub placements : Spelt maxPlacements (o .placements)
+  pub externals : Spelt maxExternals (o .externals)
 
-length-entries : (es : List Entry) → length (encodeEntries es) ≡ 8 * length es
+length-entries : (es : List Entry) → length (encodeEntries es) ≡ entrySize * length es
 unfolding encodeEntries
 length-entries [] = refl
 length-entries (e ∷ es) = simp (length-append, length-bytes) (omega (arith, length-entries es))
@@ -96,9 +96,9 @@ entryAt-bytes x s a t at e l hi hv =
     let i : List ℕ = bytes 4 (x .index) in
     let v : List ℕ = bytes 4 (x .value .0) in
     let on : s ≡ (a ++ i) ++ (v ++ t) = e ∙ simp append-assoc in
-    let index : leAt 4 s (at + 8 * 0) ≡ x .index = leAt-bytes 4 (x .index) s a (v ++ t) (at + 8 * 0) e (omega arith) hi in
-    let value : leAt 4 s (at + 8 * 0 + 4) ≡ x .value .0 =
-    leAt-bytes 4 (x .value .0) s (a ++ i) t (at + 8 * 0 + 4) on (simp (length-append, length-bytes) (omega arith)) hv in
+    let index : leAt 4 s (at + entrySize * 0) ≡ x .index = leAt-bytes 4 (x .index) s a (v ++ t) (at + entrySize * 0) e (omega arith) hi in
+    let value : leAt 4 s (at + entrySize * 0 + 4) ≡ x .value .0 =
+    leAt-bytes 4 (x .value .0) s (a ++ i) t (at + entrySize * 0 + 4) on (simp (length-append, length-bytes) (omega arith)) hv in
     let fields : _≡_ {A = Entry} (entryAt s at 0) (record { index = x .index; value = address (x .value .0) }) = rw (index, value) in
     fields
 
@@ -115,10 +115,10 @@ tabulate-entries (x ∷ es) s a t at e l is vs =
     let E : List ℕ = encodeEntries es in
     let here : s ≡ a ++ (i ++ (v ++ (E ++ t))) = e ∙ simp append-assoc in
     let on : s ≡ ((a ++ i) ++ v) ++ (E ++ t) = e ∙ simp append-assoc in
-    let shift : tabulate (λ j. entryAt s at (suc j)) (length es) ≡ tabulate (entryAt s (at + 8)) (length es) =
+    let shift : tabulate (λ j. entryAt s at (suc j)) (length es) ≡ tabulate (entryAt s (at + entrySize)) (length es) =
     tabulate-same _ _ (length es) (λ j h. entryAt-shift s at j) in
-    let rest : tabulate (entryAt s (at + 8)) (length es) ≡ es =
-    tabulate-entries es s ((a ++ i) ++ v) t (at + 8) on (simp (length-append, length-bytes) (omega arith))
+    let rest : tabulate (entryAt s (at + entrySize)) (length es) ≡ es =
+    tabulate-entries es s ((a ++ i) ++ v) t (at + entrySize) on (simp (length-append, length-bytes) (omega arith))
     (λ j h. is (suc j) (omega arith)) (λ j h. vs (suc j) (omega arith)) in
     ap₂ _∷_ (entryAt-bytes x s a (E ++ t) at here l (is 0 (omega arith)) (vs 0 (omega arith))) (shift ∙ rest)
 
@@ -147,7 +147,7 @@ module _ (o : Order) where
   abbrev Es : List ℕ
   Es = encodeEntries (o .externals)
 
-  length-encode : length (encode o) ≡ 16 + 8 * length (o .placements) + 8 * length (o .externals)
+  length-encode : length (encode o) ≡ externalsAt (length (o .placements)) + entrySize * length (o .externals)
   unfolding encode
   length-encode = simp (length-append, length-bytes, length-entries) (omega arith)
 
@@ -166,7 +166,7 @@ module _ (o : Order) where
         leAt-bytes 4 (length (o .placements)) _ (bytes 4 1 ++ B) (Ps ++ (E ++ Es)) 8 (simp append-assoc)
         (simp (length-append, length-bytes)) (omega (arith, k .placements .few))
 
-    count-encode : leAt 4 (encode o) (12 + 8 * length (o .placements)) ≡ length (o .externals)
+    count-encode : leAt 4 (encode o) (externalCountAt (length (o .placements))) ≡ length (o .externals)
     unfolding encode
     count-encode =
         leAt-bytes 4 (length (o .externals)) _ (((bytes 4 1 ++ B) ++ P) ++ Ps) Es _ (simp append-assoc)
@@ -175,13 +175,13 @@ module _ (o : Order) where
     externalCount-encode : externalCount (encode o) ≡ length (o .externals)
     externalCount-encode = rw placementCount-encode count-encode
 
-    placements-encode : tabulate (entryAt (encode o) 12) (length (o .placements)) ≡ o .placements
+    placements-encode : tabulate (entryAt (encode o) placementsStart) (length (o .placements)) ≡ o .placements
     unfolding encode
     placements-encode =
-        tabulate-entries (o .placements) _ ((bytes 4 1 ++ B) ++ P) (E ++ Es) 12 (simp append-assoc) (simp (length-append, length-bytes))
+        tabulate-entries (o .placements) _ ((bytes 4 1 ++ B) ++ P) (E ++ Es) placementsStart (simp append-assoc) (simp (length-append, length-bytes))
         (k .placements .indices) (k .placements .values)
 
-    externals-encode : tabulate (entryAt (encode o) (16 + 8 * length (o .placements))) (length (o .externals)) ≡ o .externals
+    externals-encode : tabulate (entryAt (encode o) (externalsAt (length (o .placements)))) (length (o .externals)) ≡ o .externals
     unfolding encode
     externals-encode =
         tabulate-entries (o .externals) _ ((((bytes 4 1 ++ B) ++ P) ++ Ps) ++ E) [] _ (simp (append-assoc, append-nil))
@@ -201,17 +201,17 @@ module _ (o : Order) where
           room = omega (arith, placementCount-encode, length-encode);
           some = omega (arith, externalCount-encode, k .externals .few);
           whole = omega (arith, placementCount-encode, externalCount-encode, length-encode);
-          placed = rw placementCount-encode (ascending-entries (o .placements) 32 12 (encode o) (k .placements) placements-encode);
+          placed = rw placementCount-encode (ascending-entries (o .placements) maxPlacements placementsStart (encode o) (k .placements) placements-encode);
           given =
               rw (externalCount-encode, placementCount-encode)
-              (ascending-entries (o .externals) 1024 _ (encode o) (k .externals) externals-encode);
+              (ascending-entries (o .externals) maxExternals _ (encode o) (k .externals) externals-encode);
         })
 
     pub orderOf-encode : orderOf (encode o) ≡ o
     unfolding orderOf
     orderOf-encode =
         let externals : tabulate (external (encode o)) (length (o .externals)) ≡ o .externals =
-        ap (λ n. tabulate (entryAt (encode o) (16 + 8 * n)) (length (o .externals))) placementCount-encode ∙ externals-encode in
+        ap (λ n. tabulate (entryAt (encode o) (externalsAt n)) (length (o .externals))) placementCount-encode ∙ externals-encode in
         let fields : _≡_ {A = Order} (orderOf (encode o)) (record { base = address (o .base .0); placements = o .placements; externals = o .externals }) =
         rw (externalCount-encode, placementCount-encode, base-encode, placements-encode, externals) in
         fields

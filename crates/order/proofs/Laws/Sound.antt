@@ -12,21 +12,21 @@ use Rattle.word.specs.Places.{address}
 use Rattle.word.proofs.Laws.Tests.{and-left, and-right}
 use Rattle.order.specs.declared.Counts.{Counts}
 use Rattle.order.specs.declared.Reading.the-variants.{Malformed, WellFormed}
-use Rattle.order.specs.Orders.{base, placementCount, externalCount, entryAt, ascending, wellFormed, reading}
+use Rattle.order.specs.Orders.{entrySize, emptySize, placementsStart, externalCountAt, externalsAt, maxPlacements, maxExternals, base, placementCount, externalCount, entryAt, ascending, wellFormed, reading}
 
 -- the parts of a reading, by its counts
 pub record Sound (s : List ℕ) (c : Counts) : Type 0 where
   pub base-is : c .base .0 ≡ base s
   pub placements-are : c .placements ≡ placementCount s
-  pub externals-are : c .externals ≡ leAt 4 s (12 + 8 * c .placements)
-  pub long : 16 ≤ length s
+  pub externals-are : c .externals ≡ leAt 4 s (externalCountAt (c .placements))
+  pub long : emptySize ≤ length s
   pub one : leAt 4 s 0 ≡ 1
-  pub few : c .placements ≤ 32
-  pub room : 16 + 8 * c .placements ≤ length s
-  pub some : c .externals ≤ 1024
-  pub whole : length s ≡ 16 + 8 * c .placements + 8 * c .externals
-  pub placed : ascending (λ i. entryAt s 12 i .index) (c .placements) ≡ true
-  pub given : ascending (λ i. entryAt s (16 + 8 * c .placements) i .index) (c .externals) ≡ true
+  pub few : c .placements ≤ maxPlacements
+  pub room : externalsAt (c .placements) ≤ length s
+  pub some : c .externals ≤ maxExternals
+  pub whole : length s ≡ externalsAt (c .placements) + entrySize * c .externals
+  pub placed : ascending (λ i. entryAt s placementsStart i .index) (c .placements) ≡ true
+  pub given : ascending (λ i. entryAt s (externalsAt (c .placements)) i .index) (c .externals) ≡ true
 
 abbrev pub countsOf : List ℕ → Counts
 countsOf s = record { base = address (base s); placements = placementCount s; externals = externalCount s }
@@ -36,7 +36,7 @@ countsOf s = record { base = address (base s); placements = placementCount s; ex
 pub wellFormed-sound : (s : List ℕ) → wellFormed s ≡ true → Sound s (countsOf s)
 unfolding wellFormed
 wellFormed-sound s w =
-    let head : leb 16 (length s) && eqb (leAt 4 s 0) 1 && leb (placementCount s) 32 ≡ true =
+    let head : leb emptySize (length s) && eqb (leAt 4 s 0) 1 && leb (placementCount s) maxPlacements ≡ true =
     and-left _ _ (and-left _ _ (and-left _ _ (and-left _ _ (and-left _ _ w)))) in
     record {
       base-is = refl;
@@ -90,7 +90,7 @@ unsound-reading s unsound = go (wellFormed s) refl
     go false w = refl
 
 -- the same of counts that were read
-pub unsound-read : (s : List ℕ) (p e : ℕ) → p ≡ placementCount s → e ≡ leAt 4 s (12 + 8 * p)
+pub unsound-read : (s : List ℕ) (p e : ℕ) → p ≡ placementCount s → e ≡ leAt 4 s (externalCountAt p)
     → (Sound s (record { base = address (base s); placements = p; externals = e }) → ⊥)
     → Malformed ≡ reading s
 unsound-read s p e ep ee unsound =

@@ -1,9 +1,10 @@
 -- `patch::apply_all` meets its contract. The invariant: the first `j` relocations are applied. Assumes nothing.
 use mathlib.Core.Path.{_≡_, refl, ap, _∙_}
-use Prim.Native.Nat.{_-_, _/_, _≤_}
+use Prim.Native.Nat.{_-_, _≤_}
 use native.Mathlib.Numerals.{add-one}
 use native.Mathlib.Omega.{arith}
 use lib.ListN.{length}
+use Rattle.rela.specs.Sites.{count}
 use Rattle.rela.proofs.Laws.Sites.{found-length}
 use Rattle.stores.specs.Sections.{applied, after}
 use borrow.Author.Needs.{needs}
@@ -26,7 +27,7 @@ apply-requires c κs =
     let f = c .before .before .before .before .before .before .before .pre in
     let at = c .before .before .loop in
     let size : length (at .part) ≡ a .site .target .size = at .inv .1 ∙ ap length (f .4) ∙ found-length (a .object .now) (a .site) (f .3 .site) in
-    (f .0, f .1, f .2, f .3, c .before .loop-test .taken, size)
+    (f .0, f .1, f .2, f .3, omega (arith, c .before .before .before .relocation-entries .ensures .0), size)
 
 loop-again : tie.Need-loop-again Inv-loop μ-loop
 unfolding after
@@ -39,7 +40,7 @@ returns : tie.Need-returns Inv-loop μ-loop
 returns c =
     let a = c .before .before .before .before .before .before .args in
     let at = c .before .loop in
-    let stop : at .j ≡ a .site .rela .size / 12 = omega arith in
+    let stop : at .j ≡ count (a .site) = omega (arith, c .before .before .relocation-entries .ensures .0) in
     at .inv .2 ∙ ap (after (a .object .now) (a .order .now) (a .addresses) (a .site)) stop
 
 pub apply-all-spec : {M : Type 1} → statement M
@@ -48,7 +49,7 @@ apply-all-spec =
     (tie.spec
     Inv-loop
     μ-loop
-    (λ c. search needs)
+    (λ c κs. search needs)
     loop-holds
     apply-requires
     (λ c. search needs)

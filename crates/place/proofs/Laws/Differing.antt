@@ -1,32 +1,25 @@
 -- Laws of check 6, by the lowest section that is not placed and the first placement of none. Assumes nothing.
-use mathlib.Core.Path.{_≡_}
+use mathlib.Core.Path.{_≡_, sym, ap, _∙_}
 use mathlib.Core.Bool.{Bool, true, false, not, _&&_}
 use mathlib.Core.List.{List}
 use Prim.Native.Nat.{ℕ, _^_, _≤_, _<_}
 use native.Mathlib.Omega.{arith}
 use native.Mathlib.Decide.{decLt}
 use lib.Dec.{ltb}
-use borrow.Author.Tests.{ltb-true, ltb-false, lt-ltb, le-ltb}
+use borrow.Author.Tests.{ltb-true, ltb-false, lt-ltb}
 use Rattle.word.specs.First.{first}
-use Rattle.word.proofs.Laws.Tests.{and-left, or-true}
+use Rattle.word.proofs.Laws.Tests.{and-left, and-right, or-true}
 use Rattle.word.proofs.Laws.First.{first-le, first-at, first-below}
-use Rattle.elf.specs.Headers.{sectionCount}
-use Rattle.elf.specs.Sections.{sectionAt, allocated}
-use Rattle.order.specs.Orders.{placement, placementCount, entryAt, ascending}
+use Rattle.elf.specs.Headers.{sectionCount, maxSections}
+use Rattle.elf.specs.Sections.{isAllocated}
+use Rattle.elf.proofs.Laws.Sections.{not-there}
+use Rattle.order.specs.declared.Entry.{Entry}
+use Rattle.order.specs.Orders.{placementsStart, placement, placementCount, entryAt, ascending}
 use Rattle.lookup.specs.Addresses.{placedAt}
 use Rattle.place.specs.declared.Fault.the-variants.{Nowhere, At}
-use Rattle.place.specs.Placements.{isAllocated, differs, placementCheck}
+use Rattle.place.specs.Placements.{differs, placementCheck}
 use Rattle.lookup.specs.Values.{isGiven}
 use Rattle.place.proofs.Laws.Lowest.{lowest-at, lowest-nowhere, named-below, named-none, named-given}
-
--- a number that names an allocated section is in the table
-pub allocated-there : (object : List ℕ) (i : ℕ) → isAllocated object i ≡ true → i < sectionCount object
-unfolding isAllocated
-allocated-there object i e = ltb-true _ _ (and-left (ltb i (sectionCount object)) (allocated (sectionAt object i)) e)
-
-not-there : (object : List ℕ) (i : ℕ) → sectionCount object ≤ i → isAllocated object i ≡ false
-unfolding isAllocated
-not-there object i h = rw (le-ltb i (sectionCount object) h)
 
 -- placed and not allocated; allocated and not placed
 abbrev pub extra : List ℕ → List ℕ → ℕ → Bool
@@ -92,21 +85,85 @@ module _ (object order : List ℕ) where
   abbrev pub firstExtra : ℕ
   firstExtra = first (λ j. not (isAllocated object (placement order j .index))) (placementCount order)
 
-  module _ (up : ascending (λ i. entryAt order 12 i .index) (placementCount order) ≡ true) where
+  module _ (up : ascending (λ i. entryAt order placementsStart i .index) (placementCount order) ≡ true) where
     pub extra-below : firstExtra < placementCount order → (k : ℕ) → k < placement order firstExtra .index → extra object order k ≡ false
     unfolding placedAt
     extra-below h k l =
-        named-below order 12 (placementCount order) up (λ x. not (isAllocated object x)) firstExtra h
+        named-below order placementsStart (placementCount order) up (λ x. not (isAllocated object x)) firstExtra h
         (λ i m. first-below (λ j. not (isAllocated object (placement order j .index))) (placementCount order) i m) k l
 
     pub extra-at : firstExtra < placementCount order → extra object order (placement order firstExtra .index) ≡ true
     unfolding placedAt
     extra-at h =
-        rw (named-given order 12 (placementCount order) firstExtra h)
+        rw (named-given order placementsStart (placementCount order) firstExtra h)
         (first-at (λ j. not (isAllocated object (placement order j .index))) (placementCount order) h)
 
     pub extra-none : placementCount order ≤ firstExtra → (k : ℕ) → extra object order k ≡ false
     unfolding placedAt
     extra-none h k =
-        named-none order 12 (placementCount order) up (λ x. not (isAllocated object x))
+        named-none order placementsStart (placementCount order) up (λ x. not (isAllocated object x))
         (λ i l. first-below (λ j. not (isAllocated object (placement order j .index))) (placementCount order) i (omega arith)) k
+
+-- ---- what check 6 answers, by what was found on the way
+
+-- the lowest section that is not placed and the first placement of none, and how many sections and placements there are
+pub record Found (object order : List ℕ) (u x n p : ℕ) : Type 0 where
+  pub lowest : u ≡ unplaced object order
+  pub first-one : x ≡ firstExtra object order
+  pub sections : n ≡ sectionCount object
+  pub placements : p ≡ placementCount order
+  pub up : ascending (λ i. entryAt order placementsStart i .index) p ≡ true
+  pub few : n ≤ maxSections
+
+module _ (object order : List ℕ) (u x n p : ℕ) (f : Found object order u x n p) where
+  pub lowest-small : u ≤ maxSections
+  lowest-small = omega (arith, f .lowest, f .sections, f .few, unplaced-le object order)
+
+  ascends : ascending (λ i. entryAt order placementsStart i .index) (placementCount order) ≡ true
+  ascends = ap (ascending (λ i. entryAt order placementsStart i .index)) (sym (f .placements)) ∙ f .up
+
+  first-index : (e : Entry) → e ≡ entryAt order placementsStart x → e .index ≡ placement order (firstExtra object order) .index
+  first-index e read = ap (λ (e : Entry). e .index) (read ∙ ap (placement order) (f .first-one))
+
+  -- a section below the first placement of none is not placed
+  pub found-lower : (e : Entry) → e ≡ entryAt order placementsStart x → x < p → (ltb u n && ltb u (e .index)) ≡ true → At u ≡ placementCheck object order
+  found-lower e read h flag =
+      let index = first-index e read in
+      let there : firstExtra object order < placementCount order = omega (arith, f .first-one, f .placements) in
+      let low = ltb-true u n (and-left (ltb u n) (ltb u (e .index)) flag) in
+      let lower = ltb-true u (e .index) (and-right (ltb u n) (ltb u (e .index)) flag) in
+      let in-table : unplaced object order < sectionCount object = omega (arith, f .lowest, f .sections) in
+      ap At (f .lowest)
+      ∙ sym
+      (differ-missing object order (unplaced object order) (omega (arith, f .sections, f .few))
+      (λ j l. extra-below object order ascends there j (omega (arith, f .lowest)))
+      (missing-below object order) (missing-at object order in-table))
+
+  -- none is
+  pub found-extra : (e : Entry) → e ≡ entryAt order placementsStart x → x < p → e .index < 2 ^ 32 → (ltb u n && ltb u (e .index)) ≡ false
+      → At (e .index) ≡ placementCheck object order
+  found-extra e read h small flag =
+      let index = first-index e read in
+      let there : firstExtra object order < placementCount order = omega (arith, f .first-one, f .placements) in
+      let none : (ltb (unplaced object order) (sectionCount object) && ltb (unplaced object order) (placement order (firstExtra object order) .index)) ≡ false =
+      rw (← (f .lowest), ← (f .sections), ← index) flag in
+      ap At index
+      ∙ sym
+      (differ-extra object order (placement order (firstExtra object order) .index) (omega arith) (extra-below object order ascends there)
+      (not-missing-below object order (placement order (firstExtra object order) .index) none) (extra-at object order ascends there))
+
+  -- every placement is of an allocated section
+  pub found-missing : p ≤ x → ltb u n ≡ true → At u ≡ placementCheck object order
+  found-missing h flag =
+      let none : placementCount order ≤ firstExtra object order = omega (arith, f .first-one, f .placements) in
+      let there : unplaced object order < sectionCount object = omega (arith, ltb-true u n flag, f .lowest, f .sections) in
+      ap At (f .lowest)
+      ∙ sym
+      (differ-missing object order (unplaced object order) (omega (arith, f .sections, f .few)) (λ j l. extra-none object order ascends none j)
+      (missing-below object order) (missing-at object order there))
+
+  pub found-nothing : p ≤ x → ltb u n ≡ false → Nowhere ≡ placementCheck object order
+  found-nothing h flag =
+      let none : placementCount order ≤ firstExtra object order = omega (arith, f .first-one, f .placements) in
+      let out : sectionCount object ≤ unplaced object order = omega (arith, ltb-false u n flag, f .lowest, f .sections) in
+      sym (differ-nowhere object order (extra-none object order ascends none) (missing-none object order out))

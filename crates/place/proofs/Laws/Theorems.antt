@@ -10,12 +10,12 @@ use Rattle.word.proofs.Laws.Tests.{same-tests}
 use Rattle.word.specs.First.{first}
 use Rattle.word.proofs.Laws.First.{first-below}
 use Rattle.elf.specs.Headers.{sectionCount}
-use Rattle.elf.specs.Sections.{sectionAt, allocated}
-use Rattle.order.specs.Orders.{placementCount}
+use Rattle.elf.specs.Sections.{sectionAt, allocated, isAllocated}
+use Rattle.order.specs.Orders.{placementsStart, placementCount}
 use Rattle.lookup.specs.Values.{isGiven, valueIn}
 use Rattle.lookup.specs.Addresses.{placedAt}
 use Rattle.place.specs.declared.Fault.the-variants.{Nowhere, At}
-use Rattle.place.specs.Placements.{lowest, isAllocated, differs, placementCheck}
+use Rattle.place.specs.Placements.{lowest, differs, placementCheck}
 use Rattle.place.proofs.Laws.Lowest.{given-named}
 
 -- where nothing is broken, the rule holds everywhere
@@ -45,7 +45,7 @@ nothing-to-place object order e none few i h = go (allocated (sectionAt object i
     go : (b : Bool) → allocated (sectionAt object i) ≡ b → allocated (sectionAt object i) ≡ false
     go false q = q
     go true q =
-        let given : isGiven (valueIn order 12 (placementCount order) i) ≡ true =
+        let given : isGiven (valueIn order placementsStart (placementCount order) i) ≡ true =
         placed-allocated object order e i (omega arith) ∙ rw (lt-ltb i (sectionCount object) h, q) in
-        let entry = given-named order 12 (placementCount order) i given in
+        let entry = given-named order placementsStart (placementCount order) i given in
         absurd (omega (arith, entry .1))

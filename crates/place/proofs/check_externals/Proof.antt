@@ -1,12 +1,15 @@
 -- `place::check_externals` meets its contract. Assumes nothing.
 use mathlib.Core.Path.{_≡_, sym, ap, _∙_}
-use Prim.Native.Nat.{ℕ, _+_, _-_, _*_, _^_, _≤_, _<_}
+use mathlib.Core.List.{List}
+use Prim.Native.Nat.{ℕ, _-_, _^_, _≤_, _<_}
 use mathlib.Core.Bool.{true, false, not, _&&_}
 use native.Mathlib.Omega.{arith}
 use borrow.Author.Count.{below-more}
-use Rattle.order.specs.Orders.{entryAt}
+use Rattle.order.specs.declared.Entry.{Entry}
+use Rattle.order.specs.declared.Counts.{Counts}
+use Rattle.order.specs.Orders.{externalsAt, entryAt, ascending}
 use Rattle.lookup.specs.Values.{isGiven, valueIn, externalValue}
-use Rattle.order.proofs.Laws.Sound.{countsOf, reading-sound, sound-counts}
+use Rattle.order.proofs.Laws.Sound.{Sound, reading-sound, sound-counts}
 use Rattle.place.specs.declared.Fault.the-variants.{At}
 use Rattle.place.specs.Placements.{lowest}
 use Rattle.place.specs.Externals.{isUndefined, externalCheck}
@@ -21,60 +24,91 @@ Inv-loop object order start n j₀ j = (j ≤ n) × ((k : ℕ) → k < j → not
 abbrev μ-loop : tie.MeasureT-loop
 μ-loop object order start n j₀ j = n - j
 
-mul-start : tie.Need-mul-start Inv-loop μ-loop
-mul-start c =
-    let o = c .before .before .before .args .order .now in
-    let f = reading-sound o (c .before .before .before .args .counts) (c .before .before .before .pre .1) in
-    omega arith
+-- ---- the places on the way: an inserted line moves one of them
 
-add-start : tie.Need-add-start Inv-loop μ-loop
-add-start c =
-    let o = c .before .before .before .args .order .now in
-    let f = reading-sound o (c .before .before .before .args .counts) (c .before .before .before .pre .1) in
+abbrev entered : tie.After-externals-start Inv-loop μ-loop → tie.Start Inv-loop μ-loop
+entered c = c .before .before .before
+
+abbrev at-start : tie.At-loop Inv-loop μ-loop → tie.After-externals-start Inv-loop μ-loop
+at-start c = c .before
+
+abbrev turn : tie.After-read-entry Inv-loop μ-loop → tie.At-loop Inv-loop μ-loop
+turn c = c .before .before
+
+abbrev at-entry : tie.After-is-undefined Inv-loop μ-loop → tie.After-read-entry Inv-loop μ-loop
+at-entry c = c .before
+
+-- ---- what is known where the list's start is
+
+abbrev object : tie.After-externals-start Inv-loop μ-loop → List ℕ
+object c = entered c .args .object .now
+
+abbrev order : tie.After-externals-start Inv-loop μ-loop → List ℕ
+order c = entered c .args .order .now
+
+abbrev start : tie.After-externals-start Inv-loop μ-loop → ℕ
+start c = c .externals-start .result
+
+abbrev number : tie.After-externals-start Inv-loop μ-loop → ℕ
+number c = entered c .args .counts .externals
+
+reads : (c : tie.After-externals-start Inv-loop μ-loop) → Sound (order c) (entered c .args .counts)
+reads c = reading-sound (order c) (entered c .args .counts) (entered c .pre .1)
+
+up : (c : tie.After-externals-start Inv-loop μ-loop) → ascending (λ i. entryAt (order c) (start c) i .index) (number c) ≡ true
+up c = ap (λ at. ascending (λ i. entryAt (order c) at i .index) (number c)) (c .externals-start .ensures) ∙ reads c .given
+
+-- check 7, by the start and the number that the code has
+same : (c : tie.After-externals-start Inv-loop μ-loop)
+    → lowest (λ x. isGiven (valueIn (order c) (start c) (number c) x) && not (isUndefined (object c) x)) (2 ^ 32) ≡ externalCheck (object c) (order c)
+unfolding externalCheck externalValue
+same c =
+    ap (λ at. lowest (λ x. isGiven (valueIn (order c) at (number c) x) && not (isUndefined (object c) x)) (2 ^ 32)) (c .externals-start .ensures)
+    ∙ ap (λ (k : Counts). lowest (λ x. isGiven (valueIn (order c) (externalsAt (k .placements)) (k .externals) x) && not (isUndefined (object c) x)) (2 ^ 32))
+    (sound-counts (order c) (entered c .args .counts) (reads c))
+
+-- what is known of the entry that was read
+
+abbrev entry : (c : tie.After-read-entry Inv-loop μ-loop) → Entry
+entry c = entryAt (order (at-start (turn c))) (start (at-start (turn c))) (turn c .loop .j)
+
+tested : (c : tie.After-is-undefined Inv-loop μ-loop) → c .is-undefined .result ≡ isUndefined (object (at-start (turn (at-entry c)))) (entry (at-entry c) .index)
+tested c = c .is-undefined .ensures ∙ ap (λ (e : Entry). isUndefined (object (at-start (turn (at-entry c)))) (e .index)) (at-entry c .read-entry .ensures)
+
+-- ---- the needs
+
+externals-start-requires : tie.Need-externals-start-requires Inv-loop μ-loop
+externals-start-requires c κs =
+    let a = c .before .before in
+    let f : Sound _ _ = reading-sound (a .args .order .now) (a .args .counts) (a .pre .1) in
     omega arith
 
 loop-holds : tie.Need-loop-holds Inv-loop μ-loop
 loop-holds c = (omega arith, λ k h. absurd (omega arith))
 
 read-entry-requires : tie.Need-read-entry-requires Inv-loop μ-loop
-read-entry-requires c κs =
-    let o = c .before .before .before .before .before .args .order .now in
-    let f = reading-sound o (c .before .before .before .before .before .args .counts) (c .before .before .before .before .before .pre .1) in
-    omega arith
+read-entry-requires c κs = omega (arith, reads (at-start (c .before)))
 
 returns : tie.Need-returns Inv-loop μ-loop
-unfolding externalCheck externalValue
 returns c =
-    let o = c .before .before .before .before .before .before .before .before .args .order .now in
-    let f = reading-sound o (c .before .before .before .before .before .before .before .before .args .counts) (c .before .before .before .before .before .before .before .before .pre .1) in
-    let counts : c .before .before .before .before .before .before .before .before .args .counts ≡ countsOf o = sound-counts o (c .before .before .before .before .before .before .before .before .args .counts) f in
-    let at = c .before .before .before .before .loop in
-    let s = c .before .before .before .before .before .before .before .before .args .object .now in
-    let found : not (isUndefined s (entryAt o (16 + 8 * c .before .before .before .before .before .before .before .before .args .counts .placements) (at .j) .index)) ≡ true = rw (← (c .before .before .read-entry .ensures), ← (c .before .is-undefined .ensures)) (c .if1 .taken) in
-    let small : entryAt o (16 + 8 * c .before .before .before .before .before .before .before .before .args .counts .placements) (at .j) .index < 2 ^ 32 = rw (← (c .before .before .read-entry .ensures)) (omega arith) in
-    ap At (ap (λ e. e .index) (c .before .before .read-entry .ensures))
-    ∙ sym (lowest-named o (16 + 8 * c .before .before .before .before .before .before .before .before .args .counts .placements) (c .before .before .before .before .before .before .before .before .args .counts .externals) (f .given) (λ x. not (isUndefined s x)) (at .j) (omega arith) small (at .inv .1) found)
-    ∙ ap (λ k. lowest (λ x. isGiven (valueIn o (16 + 8 * k .placements) (k .externals) x) && not (isUndefined s x)) (2 ^ 32)) counts
+    let e = at-entry (c .before) in
+    let b = at-start (turn e) in
+    let index : e .read-entry .result .index ≡ entry e .index = ap (λ (e : Entry). e .index) (e .read-entry .ensures) in
+    let small : entry e .index < 2 ^ 32 = omega (arith, index, e .read-entry .ok) in
+    ap At index
+    ∙ sym (lowest-named (order b) (start b) (number b) (up b) (λ x. not (isUndefined (object b) x)) (turn e .loop .j) (omega arith) small (turn e .loop .inv .1)
+    (ap not (sym (tested (c .before))) ∙ c .if1 .taken))
+    ∙ same b
 
 loop-again : tie.Need-loop-again Inv-loop μ-loop
 loop-again c =
-    let o = c .before .before .before .before .before .before .before .before .args .order .now in
-    let f = reading-sound o (c .before .before .before .before .before .before .before .before .args .counts) (c .before .before .before .before .before .before .before .before .pre .1) in
-    let at = c .before .before .before .before .loop in
-    let s = c .before .before .before .before .before .before .before .before .args .object .now in
-    let other : not (isUndefined s (entryAt o (16 + 8 * c .before .before .before .before .before .before .before .before .args .counts .placements) (at .j) .index)) ≡ false = rw (← (c .before .before .read-entry .ensures), ← (c .before .is-undefined .ensures)) (c .if1 .left) in
-    (search needs, below-more _ _ (at .inv .1) other)
+    (search needs, below-more _ _ (turn (at-entry (c .before)) .loop .inv .1) (ap not (sym (tested (c .before))) ∙ c .if1 .left))
 
 returns-2 : tie.Need-returns-2 Inv-loop μ-loop
-unfolding externalCheck externalValue
 returns-2 c =
-    let o = c .before .before .before .before .before .args .order .now in
-    let f = reading-sound o (c .before .before .before .before .before .args .counts) (c .before .before .before .before .before .pre .1) in
-    let counts : c .before .before .before .before .before .args .counts ≡ countsOf o = sound-counts o (c .before .before .before .before .before .args .counts) f in
-    let at = c .before .loop in
-    let s = c .before .before .before .before .before .args .object .now in
-    sym (lowest-unnamed o (16 + 8 * c .before .before .before .before .before .args .counts .placements) (c .before .before .before .before .before .args .counts .externals) (f .given) (λ x. not (isUndefined s x)) (λ k h. at .inv .1 k (omega arith)))
-    ∙ ap (λ k. lowest (λ x. isGiven (valueIn o (16 + 8 * k .placements) (k .externals) x) && not (isUndefined s x)) (2 ^ 32)) counts
+    let b = at-start (c .before) in
+    sym (lowest-unnamed (order b) (start b) (number b) (up b) (λ x. not (isUndefined (object b) x)) (λ k h. c .before .loop .inv .1 k (omega arith)))
+    ∙ same b
 
 pub check-externals-spec : {M : Type 1} → statement M
 check-externals-spec =
@@ -82,8 +116,7 @@ check-externals-spec =
     (tie.spec
     Inv-loop
     μ-loop
-    mul-start
-    add-start
+    externals-start-requires
     loop-holds
     read-entry-requires
     (λ c κs. search needs)

@@ -5,9 +5,9 @@ use mathlib.Core.Bool.{true, false, not}
 use native.Mathlib.Omega.{arith}
 use borrow.Author.Count.{below-more}
 use Rattle.word.proofs.Laws.First.{first-is}
+use Rattle.elf.specs.Sections.{isAllocated}
 use Rattle.order.specs.Orders.{placement, placementCount}
 use Rattle.order.proofs.Laws.Sound.{reading-sound}
-use Rattle.place.specs.Placements.{isAllocated}
 use borrow.Author.Needs.{needs}
 use Rattle.place.proofs.first_extra.Statement.{statement}
 use Rattle.place.proofs.first_extra.Tie as tie

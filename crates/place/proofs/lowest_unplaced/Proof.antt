@@ -6,8 +6,8 @@ use native.Mathlib.Omega.{arith}
 use borrow.Author.Count.{below-more}
 use Rattle.word.proofs.Laws.First.{first-is}
 use Rattle.elf.specs.Headers.{sectionCount}
+use Rattle.elf.specs.Sections.{isAllocated}
 use Rattle.lookup.specs.Addresses.{placedAt}
-use Rattle.place.specs.Placements.{isAllocated}
 use Rattle.lookup.specs.Values.{isGiven}
 use borrow.Author.Needs.{needs}
 use Rattle.place.proofs.lowest_unplaced.Statement.{statement}

@@ -11,7 +11,7 @@ use borrow.Author.Tests.{leb-true, ltb-false}
 use Rattle.word.proofs.Laws.Tests.{and-left, and-right, given, implies}
 use Rattle.word.proofs.Laws.First.{everywhere-at}
 use Rattle.elf.specs.Headers.{sectionCount}
-use Rattle.elf.specs.Sections.{sectionAt, allocated, loaded}
+use Rattle.elf.specs.Sections.{NOBITS, sectionAt, allocated, loaded}
 use Rattle.place.specs.declared.Fault.the-variants.{Nowhere}
 use Rattle.placing.specs.Placing.{endOf, hasBytes, inWindow, share, apart, aligned, endsInMemory, misplaced, placingCheck}
 use Rattle.place.proofs.Laws.Theorems.{nowhere-holds}
@@ -21,7 +21,7 @@ bytes-allocated : (object : List ℕ) (i : ℕ) → hasBytes (sectionAt object i
 unfolding hasBytes loaded
 bytes-allocated object i e =
     let h = sectionAt object i in
-    and-left (allocated h) (not (eqb (h .kind) 8)) (and-left (allocated h && not (eqb (h .kind) 8)) (ltb 0 (h .size)) e)
+    and-left (allocated h) (not (eqb (h .kind) NOBITS)) (and-left (allocated h && not (eqb (h .kind) NOBITS)) (ltb 0 (h .size)) e)
 
 bytes-some : (object : List ℕ) (i : ℕ) → hasBytes (sectionAt object i) ≡ true → ltb 0 (sectionAt object i .size) ≡ true
 unfolding hasBytes

@@ -6,7 +6,7 @@ use native.Mathlib.Omega.{arith}
 use lib.Dec.{eqb}
 use borrow.Author.Tests.{eq-eqb, ne-eqb, lt-ltb, le-ltb}
 use Rattle.elf.specs.Sections.{sectionAt, symbolTable}
-use Rattle.elf.specs.Entries.{symbolAt, symbolCount}
+use Rattle.elf.specs.Entries.{STT_TLS, STT_GNU_IFUNC, symbolAt, symbolCount}
 use Rattle.validate.proofs.Laws.Bounds.{symbol-inside}
 use Rattle.symbols.specs.Values.{symbolValue}
 use borrow.Author.Needs.{needs}
@@ -38,7 +38,7 @@ returns-3 c =
     let f = c .before .before .before .before .before .before .before .before .before .pre .2 in
     let symbol : c .before .before .before .read-symbol .result ≡ symbolAt s (sectionAt s (symbolTable s)) (a .k) = c .before .before .before .read-symbol .ensures ∙ ap (λ h. symbolAt s h (a .k)) (f .table (omega arith)) in
     let there : a .k < symbolCount s = omega (arith, f .count) in
-    let wrong : (eqb (symbolAt s (sectionAt s (symbolTable s)) (a .k) .kind) 6 || eqb (symbolAt s (sectionAt s (symbolTable s)) (a .k) .kind) 10) ≡ true = rw (← symbol) (c .if3 .taken) in
+    let wrong : (eqb (symbolAt s (sectionAt s (symbolTable s)) (a .k) .kind) STT_TLS || eqb (symbolAt s (sectionAt s (symbolTable s)) (a .k) .kind) STT_GNU_IFUNC) ≡ true = rw (← symbol) (c .if3 .taken) in
     (rw (ne-eqb _ _ (c .before .before .before .before .before .before .if1 .left), lt-ltb _ _ there, wrong), refl)
 
 returns-4 : tie.Need-returns-4
@@ -49,7 +49,7 @@ returns-4 c =
     let f = c .before .before .before .before .before .before .before .before .before .before .pre .2 in
     let symbol : c .before .before .before .before .read-symbol .result ≡ symbolAt s (sectionAt s (symbolTable s)) (a .k) = c .before .before .before .before .read-symbol .ensures ∙ ap (λ h. symbolAt s h (a .k)) (f .table (omega arith)) in
     let there : a .k < symbolCount s = omega (arith, f .count) in
-    let right : (eqb (symbolAt s (sectionAt s (symbolTable s)) (a .k) .kind) 6 || eqb (symbolAt s (sectionAt s (symbolTable s)) (a .k) .kind) 10) ≡ false = rw (← symbol) (c .before .if3 .left) in
+    let right : (eqb (symbolAt s (sectionAt s (symbolTable s)) (a .k) .kind) STT_TLS || eqb (symbolAt s (sectionAt s (symbolTable s)) (a .k) .kind) STT_GNU_IFUNC) ≡ false = rw (← symbol) (c .before .if3 .left) in
     (rw (ne-eqb _ _ (c .before .before .before .before .before .before .before .if1 .left), lt-ltb _ _ there, right, ← symbol) (c .value-in-section .ensures), refl)
 
 pub symbol-value-spec : {M : Type 1} → statement M

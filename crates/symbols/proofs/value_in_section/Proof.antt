@@ -5,9 +5,9 @@ use native.Mathlib.Omega.{arith}
 use borrow.Author.Tests.{eq-eqb, ne-eqb}
 use Rattle.word.specs.Places.{address}
 use Rattle.symbols.specs.declared.SymbolValue.the-variants.{Resolved}
-use Rattle.place.specs.Placements.{isAllocated}
+use Rattle.elf.specs.Sections.{isAllocated}
 use Rattle.symbols.specs.Values.{ofUndefined, ofSection}
-use Rattle.place.proofs.Laws.Differing.{allocated-there}
+use Rattle.elf.proofs.Laws.Sections.{allocated-there}
 use borrow.Author.Needs.{needs}
 use Rattle.symbols.proofs.value_in_section.Statement.{statement}
 use Rattle.symbols.proofs.value_in_section.Tie as tie

@@ -14,9 +14,9 @@ use Rattle.word.proofs.Laws.First.{first-at}
 use Rattle.word.proofs.Laws.Sums.{sum-locate}
 use Rattle.word.proofs.Laws.Powers.{power-one-bit}
 use Rattle.elf.specs.declared.Section.{Section}
-use Rattle.elf.specs.Headers.{sectionCount}
-use Rattle.elf.specs.Sections.{NULL, SYMTAB, RELA, NOBITS, sectionAt, allocated, loaded, symbolTable, targets, countingRela, relocationsIn, relocationsBelow}
-use Rattle.elf.specs.Entries.{symbolCount, relocationCount, locationOf}
+use Rattle.elf.specs.Headers.{symbolSize, relocationSize, sectionCount}
+use Rattle.elf.specs.Sections.{NULL, SYMTAB, RELA, NOBITS, sectionAt, allocated, loaded, symbolTable, targets, countingRela, relocationEntries, relocationsIn, relocationsBelow}
+use Rattle.elf.specs.Entries.{symbolEntries, symbolCount, relocationCount, locationOf}
 use Rattle.elf.specs.Facts.{Inside}
 use Rattle.validate.specs.Rules.{maxSymbols, maxRelocations}
 use Rattle.validate.specs.Facts.{SoundObject}
@@ -62,16 +62,16 @@ module _ (s : List ℕ) (f : SoundObject s) where
   unfolding symbolTable
   table-kind h = eqb-true _ _ (first-at (λ i. eqb (sectionAt s i .kind) SYMTAB) (sectionCount s) h)
 
-  pub some-symbol : (k : ℕ) → k < symbolCount s → (symbolTable s < sectionCount s) × (k < sectionAt s (symbolTable s) .size / 16)
+  pub some-symbol : (k : ℕ) → k < symbolCount s → (symbolTable s < sectionCount s) × (k < symbolEntries (sectionAt s (symbolTable s)))
   unfolding symbolCount
   some-symbol k h = go (ltb (symbolTable s) (sectionCount s)) refl h
     where
-      go : (b : Bool) → ltb (symbolTable s) (sectionCount s) ≡ b → k < cond b (sectionAt s (symbolTable s) .size / 16) 0
-          → (symbolTable s < sectionCount s) × (k < sectionAt s (symbolTable s) .size / 16)
+      go : (b : Bool) → ltb (symbolTable s) (sectionCount s) ≡ b → k < cond b (symbolEntries (sectionAt s (symbolTable s))) 0
+          → (symbolTable s < sectionCount s) × (k < symbolEntries (sectionAt s (symbolTable s)))
       go true e l = (ltb-true _ _ e, l)
       go false e l = absurd (omega arith)
 
-  pub symbol-inside : (k : ℕ) → k < symbolCount s → Inside s (sectionAt s (symbolTable s) .offset .0 + 16 * k) 16
+  pub symbol-inside : (k : ℕ) → k < symbolCount s → Inside s (sectionAt s (symbolTable s) .offset .0 + symbolSize * k) symbolSize
   symbol-inside k h =
       let t = some-symbol k h in
       let kind : sectionAt s (symbolTable s) .kind ≡ SYMTAB = table-kind (t .0) in
@@ -83,21 +83,21 @@ module _ (s : List ℕ) (f : SoundObject s) where
   unfolding symbolCount
   symbols-few = go (ltb (symbolTable s) (sectionCount s)) refl
     where
-      go : (b : Bool) → ltb (symbolTable s) (sectionCount s) ≡ b → cond b (sectionAt s (symbolTable s) .size / 16) 0 ≤ maxSymbols
+      go : (b : Bool) → ltb (symbolTable s) (sectionCount s) ≡ b → cond b (symbolEntries (sectionAt s (symbolTable s))) 0 ≤ maxSymbols
       go true e = f .sections (symbolTable s) (ltb-true _ _ e) .symbols (table-kind (ltb-true _ _ e)) .few
       go false e = omega arith
 
   -- ---- relocations
 
-  some-relocation : (i k : ℕ) → k < relocationsIn s i → (countingRela s i ≡ true) × (k < sectionAt s i .size / 12)
+  some-relocation : (i k : ℕ) → k < relocationsIn s i → (countingRela s i ≡ true) × (k < relocationEntries (sectionAt s i))
   unfolding relocationsIn
   some-relocation i k h = go (countingRela s i) refl h
     where
-      go : (b : Bool) → countingRela s i ≡ b → k < cond b (sectionAt s i .size / 12) 0 → (countingRela s i ≡ true) × (k < sectionAt s i .size / 12)
+      go : (b : Bool) → countingRela s i ≡ b → k < cond b (relocationEntries (sectionAt s i)) 0 → (countingRela s i ≡ true) × (k < relocationEntries (sectionAt s i))
       go true e l = (e, l)
       go false e l = absurd (omega arith)
 
-  pub relocation-inside : (i k : ℕ) → i < sectionCount s → k < relocationsIn s i → Inside s (sectionAt s i .offset .0 + 12 * k) 12
+  pub relocation-inside : (i k : ℕ) → i < sectionCount s → k < relocationsIn s i → Inside s (sectionAt s i .offset .0 + relocationSize * k) relocationSize
   relocation-inside i k h l =
       let t = some-relocation i k l in
       let kind : sectionAt s i .kind ≡ RELA = rela-kind s i (t .0) in

@@ -3,7 +3,7 @@ use mathlib.Core.Logic.{_⊎_, inl, inr}
 use mathlib.Core.Path.{_≡_, refl, sym, ap, _∙_}
 use mathlib.Core.Bool.{Bool, true, false, not, cond, _&&_, _||_}
 use mathlib.Core.List.{List}
-use Prim.Native.Nat.{ℕ, _+_, _/_, _%_, _≤_, _<_}
+use Prim.Native.Nat.{ℕ, _+_, _%_, _≤_, _<_}
 use native.Mathlib.Omega.{arith}
 use lib.ListN.{length}
 use lib.Dec.{leb, ltb, eqb}
@@ -12,17 +12,19 @@ use Rattle.word.specs.First.{first, everywhere}
 use Rattle.word.specs.Powers.{oneBit}
 use Rattle.word.proofs.Laws.Tests.{and-left, and-right, both, one-of-two, or-two, given, implied}
 use Rattle.word.proofs.Laws.First.{first-below, everywhere-at, everywhere-is}
-use Rattle.elf.specs.Headers.{sectionCount}
+use Rattle.elf.specs.Headers.{symbolSize, relocationSize, sectionCount}
 use Rattle.elf.specs.Sections.{NULL, SYMTAB, RELA, NOBITS, REL, sectionAt, allocated, loaded, symbolTable, targets, countingRel, countingRela}
+use Rattle.elf.specs.Entries.{symbolEntries}
 use Rattle.validate.specs.declared.SectionCheck.{SectionCheck}
 use Rattle.validate.specs.declared.SectionCheck.the-variants.{Sound, Broken}
 use Rattle.validate.specs.declared.ObjectCheck.the-variants.{Passed, BadHeader}
 use Rattle.header.specs.Headers.{headerAllowed, tableAllowed}
-use Rattle.validate.specs.Rules.{startsNull, insideFile, allocatedWell, symbolTableWell, noCountingRel, relaKept, relocationsKept, relaWell, relocationsWell, sectionWell, sectionCheck, afterHeader, objectCheck}
+use Rattle.validate.specs.Rules.{maxSymbols, startsNull, insideFile, allocatedWell, symbolTableWell, noCountingRel, relaKept, relocationsKept, relaWell, relocationsWell, sectionWell, sectionCheck, afterHeader, objectCheck}
 use Rattle.validate.specs.Sound.{SoundSymbols, SoundRela, SoundSection}
 use Rattle.validate.specs.Facts.{SoundObject}
 use Rattle.header.proofs.Laws.Headers.{header-long, table-inside, table-entries, table-some, allowed-table}
-use Rattle.validate.proofs.Laws.Tables.{target-inside, check-sound}
+use Rattle.elf.proofs.Laws.Sections.{allocated-there}
+use Rattle.validate.proofs.Laws.Tables.{check-sound}
 
 -- ---- tests
 
@@ -59,11 +61,11 @@ section-symbols : (s : List ℕ) (i : ℕ) → symbolTableWell s i ≡ true → 
 unfolding symbolTableWell
 section-symbols s i e k =
     let h = sectionAt s i in
-    let kept : eqb i (symbolTable s) && eqb (h .entsize) 16 && eqb (h .size % 16) 0 && leb (h .size / 16) 1024 ≡ true = given _ _ e (eq-eqb _ _ k) in
+    let kept : eqb i (symbolTable s) && eqb (h .entsize) symbolSize && eqb (h .size % symbolSize) 0 && leb (symbolEntries h) maxSymbols ≡ true = given _ _ e (eq-eqb _ _ k) in
     let lowest : eqb i (symbolTable s) ≡ true = search (and-left, and-right) in
-    let entries : eqb (h .entsize) 16 ≡ true = search (and-left, and-right) in
-    let whole : eqb (h .size % 16) 0 ≡ true = search (and-left, and-right) in
-    let few : leb (h .size / 16) 1024 ≡ true = search (and-left, and-right) in
+    let entries : eqb (h .entsize) symbolSize ≡ true = search (and-left, and-right) in
+    let whole : eqb (h .size % symbolSize) 0 ≡ true = search (and-left, and-right) in
+    let few : leb (symbolEntries h) maxSymbols ≡ true = search (and-left, and-right) in
     record { lowest = eqb-true _ _ lowest; entries = eqb-true _ _ entries; whole = eqb-true _ _ whole; few = leb-true _ _ few }
 
 -- a test that cannot hold twice
@@ -112,9 +114,9 @@ unfolding relaWell relocationsWell relaKept relocationsKept
 section-rela s i e f c =
     let h = sectionAt s i in
     let new : ℕ → Bool = λ j. not (countingRela s j && eqb (sectionAt s j .info) (h .info)) in
-    let kept : (eqb (h .entsize) 12 && eqb (h .size % 12) 0) && (ltb (symbolTable s) (sectionCount s) && eqb (h .link) (symbolTable s)) && loaded (sectionAt s (h .info)) && everywhere new i ≡ true = given _ _ e c in
-    let entries : eqb (h .entsize) 12 ≡ true = search (and-left, and-right) in
-    let whole : eqb (h .size % 12) 0 ≡ true = search (and-left, and-right) in
+    let kept : (eqb (h .entsize) relocationSize && eqb (h .size % relocationSize) 0) && (ltb (symbolTable s) (sectionCount s) && eqb (h .link) (symbolTable s)) && loaded (sectionAt s (h .info)) && everywhere new i ≡ true = given _ _ e c in
+    let entries : eqb (h .entsize) relocationSize ≡ true = search (and-left, and-right) in
+    let whole : eqb (h .size % relocationSize) 0 ≡ true = search (and-left, and-right) in
     let some-table : ltb (symbolTable s) (sectionCount s) ≡ true = search (and-left, and-right) in
     let linked : eqb (h .link) (symbolTable s) ≡ true = search (and-left, and-right) in
     let target-loaded : loaded (sectionAt s (h .info)) ≡ true = search (and-left, and-right) in
@@ -124,7 +126,7 @@ section-rela s i e f c =
       whole = eqb-true _ _ whole;
       some-table = ltb-true _ _ some-table;
       linked = eqb-true _ _ linked;
-      target-there = target-inside s h (counting-targets s i c);
+      target-there = allocated-there s (h .info) (counting-targets s i c);
       target-loaded = target-loaded;
       target-new = λ j l d q. not-both _ _ (everywhere-at new i all-new j l) d (eq-eqb _ _ q);
       few = leb-true _ _ (given _ _ f c);

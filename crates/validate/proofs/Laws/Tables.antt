@@ -11,15 +11,10 @@ use Rattle.word.specs.First.{first}
 use Rattle.word.proofs.Laws.First.{first-is}
 use Rattle.elf.specs.declared.Section.{Section}
 use Rattle.elf.specs.Headers.{sectionCount}
-use Rattle.elf.specs.Sections.{sectionAt, targets, countingRel, countingRela}
+use Rattle.elf.specs.Sections.{REL, RELA, sectionAt, targets, countingRel, countingRela}
 use Rattle.validate.specs.declared.SectionCheck.the-variants.{Sound, Broken}
 use Rattle.header.specs.Headers.{tableAllowed}
 use Rattle.validate.specs.Rules.{startsNull, insideFile, allocatedWell, symbolTableWell, noCountingRel, relaKept, relocationsKept, relaWell, relocationsWell, sectionWell, sectionCheck}
-
--- a target is in the table
-pub target-inside : (s : List ℕ) (h : Section) → targets s h ≡ true → h .info < sectionCount s
-unfolding targets
-target-inside s h e = ltb-true _ _ (and-left _ _ e)
 
 -- ---- the rules of RELA and REL sections, by what is found
 
@@ -33,17 +28,17 @@ module _ (s : List ℕ) (i : ℕ) where
   well-untargeted t = rw (t, and-false, and-false)
 
   -- a REL with a target
-  pub broken-rel : targets s (sectionAt s i) ≡ true → sectionAt s i .kind ≡ 9 → relocationWell s i ≡ false
+  pub broken-rel : targets s (sectionAt s i) ≡ true → sectionAt s i .kind ≡ REL → relocationWell s i ≡ false
   unfolding noCountingRel countingRel
   broken-rel t k = rw (t, eq-eqb _ _ k)
 
   -- neither
-  pub well-other : (sectionAt s i .kind ≡ 9 → ⊥) → (sectionAt s i .kind ≡ 4 → ⊥) → relocationWell s i ≡ true
+  pub well-other : (sectionAt s i .kind ≡ REL → ⊥) → (sectionAt s i .kind ≡ RELA → ⊥) → relocationWell s i ≡ true
   unfolding noCountingRel relaWell relocationsWell countingRel countingRela
   well-other rel rela = rw (ne-eqb _ _ rel, ne-eqb _ _ rela)
 
   -- a RELA with a target
-  pub well-rela : targets s (sectionAt s i) ≡ true → sectionAt s i .kind ≡ 4 → relocationWell s i ≡ (relaKept s i && relocationsKept s i)
+  pub well-rela : targets s (sectionAt s i) ≡ true → sectionAt s i .kind ≡ RELA → relocationWell s i ≡ (relaKept s i && relocationsKept s i)
   unfolding noCountingRel relaWell relocationsWell countingRel countingRela
   well-rela t k = rw (t, k)
 

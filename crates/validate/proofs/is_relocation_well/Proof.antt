@@ -3,7 +3,8 @@ use mathlib.Core.Path.{_≡_, sym, ap, _∙_}
 use mathlib.Core.Bool.{true, false}
 use borrow.Author.Tests.{not-true, not-false}
 use Rattle.elf.specs.Sections.{sectionAt, targets}
-use Rattle.validate.proofs.Laws.Tables.{target-inside, well-untargeted, broken-rel, well-other, well-rela}
+use Rattle.elf.proofs.Laws.Sections.{allocated-there}
+use Rattle.validate.proofs.Laws.Tables.{well-untargeted, broken-rel, well-other, well-rela}
 use borrow.Author.Needs.{needs}
 use Rattle.validate.proofs.is_relocation_well.Statement.{statement}
 use Rattle.validate.proofs.is_relocation_well.Tie as tie
@@ -33,7 +34,7 @@ is-rela-kept-requires c κs =
     let s = c .before .before .before .before .before .before .before .before .args .object .now in
     let i = c .before .before .before .before .before .before .before .before .args .i in
     let t : targets s (sectionAt s i) ≡ true = sym (ap (targets s) (c .before .before .before .before .before .before .read-section .ensures)) ∙ sym (c .before .before .before .before .before .has-target .ensures) ∙ not-false _ (c .before .before .before .before .if1 .left) in
-    record { table = c .before .before .before .before .before .before .before .before .pre .0; there = c .before .before .before .before .before .before .before .before .pre .1; target = target-inside s (sectionAt s i) t }
+    record { table = c .before .before .before .before .before .before .before .before .pre .0; there = c .before .before .before .before .before .before .before .before .pre .1; target = allocated-there s (sectionAt s i .info) t }
 
 returns-4 : tie.Need-returns-4
 returns-4 c =

@@ -6,8 +6,8 @@ use Rattle.validate.proofs.is_symbol_table_well.Tie as tie
 
 returns : tie.Need-returns
 unfolding symbolTableWell
-returns c = rw (c .before .before .before .symbol-table .ensures, c .before .before .before .before .before .read-section .ensures)
+returns c = rw (c .symbol-entries .ensures, c .before .before .before .symbol-table .ensures, c .before .before .before .before .before .read-section .ensures)
 
 pub is-symbol-table-well-spec : {M : Type 1} → statement M
 is-symbol-table-well-spec =
-    tie.close (tie.spec (λ c κs. search needs) (λ c κs. search needs) returns)
+    tie.close (tie.spec (λ c κs. search needs) (λ c κs. search needs) (λ c κs. search needs) returns)

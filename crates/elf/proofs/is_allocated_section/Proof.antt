@@ -1,14 +1,13 @@
--- `place::is_allocated_section` meets its contract. Assumes nothing.
+-- `elf::is_allocated_section` meets its contract. Assumes nothing.
 use mathlib.Core.Path.{ap, _∙_}
 use Prim.Native.Nat.{_≤_, _<_}
 use native.Mathlib.Omega.{arith}
 use borrow.Author.Tests.{lt-ltb, le-ltb}
 use Rattle.elf.specs.Headers.{sectionCount}
-use Rattle.elf.specs.Sections.{allocated}
-use Rattle.place.specs.Placements.{isAllocated}
+use Rattle.elf.specs.Sections.{allocated, isAllocated}
 use borrow.Author.Needs.{needs}
-use Rattle.place.proofs.is_allocated_section.Statement.{statement}
-use Rattle.place.proofs.is_allocated_section.Tie as tie
+use Rattle.elf.proofs.is_allocated_section.Statement.{statement}
+use Rattle.elf.proofs.is_allocated_section.Tie as tie
 
 returns : tie.Need-returns
 unfolding isAllocated
