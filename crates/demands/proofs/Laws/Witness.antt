@@ -27,7 +27,7 @@ use Rattle.riscv.specs.Forms.{hasForm}
 use Rattle.riscv.specs.Ranges.{reaches}
 use Rattle.types.specs.Types.{table, among, lookup, decision}
 use Rattle.elf.specs.Headers.{sectionCount}
-use Rattle.elf.specs.Sections.{sectionAt, allocated, loaded, symbolTable, targets, countingRel, countingRela, relocationsIn}
+use Rattle.elf.specs.Sections.{sectionAt, allocated, loaded, symbolTable, countingRel, countingRela, relocationsIn, isAllocated}
 use Rattle.elf.specs.Entries.{bytesOf, symbolCount, symbolAt, relocationAt, relocationCount, locationOf}
 use Rattle.header.specs.Headers.{headerAllowed, tableAllowed}
 use Rattle.validate.specs.Rules.{startsNull, insideFile, allocatedWell, symbolTableWell, noCountingRel, relaKept, relaWell, relocationsKept, relocationsWell, sectionWell}
@@ -44,7 +44,6 @@ use Rattle.plans.specs.Plans.{overwritten, end, lowest, spanOf}
 use Rattle.plans.specs.Answers.{Answer, done}
 use Rattle.history.specs.Calls.{Files, Outcome, succeed, Call, Install, Rollback, InstallCall, RollbackCall, calling, answers, run}
 use Rattle.history.specs.Histories.{Standing, History, begin, spans, laid, stand, fall, told, historyOf, Start, AsTold}
-use Rattle.place.specs.Placements.{isAllocated}
 use Rattle.place.specs.Externals.{isUndefined}
 use Rattle.placing.specs.Placing.{endOf, unit, aligned, endsInMemory, hasBytes, inWindow, share, apart, misplaced}
 use Rattle.symbols.specs.Values.{ofSection, symbolValue}
@@ -134,7 +133,7 @@ unfolding object words bytes leAt le
 count-is = refl
 
 sections-are : (i : ℕ) → i < 6 → SoundSection object i
-unfolding object words bytes leAt le sectionWell startsNull insideFile allocatedWell symbolTableWell noCountingRel relaKept relaWell relocationsKept relocationsWell sectionAt allocated loaded symbolTable targets countingRel countingRela relocationsIn first everywhere sum oneBit
+unfolding object words bytes leAt le sectionWell startsNull insideFile allocatedWell symbolTableWell noCountingRel relaKept relaWell relocationsKept relocationsWell sectionAt allocated loaded symbolTable isAllocated countingRel countingRela relocationsIn first everywhere sum oneBit
 sections-are i h = section-sound object i (everywhere-at (sectionWell object) 6 refl i h)
 
 -- ---- what is computed of an order: each rule by its test
@@ -171,7 +170,7 @@ record Fine (code from : ℕ) : Type 0 where
   only-laid : (t b : ℕ) → Covers object (orderWith code) t b → (from ≤ b) × (b < from + 28)
 
 fine₁ : Fine 0x20000000 0
-unfolding object orderWith words bytes leAt le wellFormed ascending everywhere first entryAt windowAllowed lengthAllowed sectionAt allocated placedAt valueIn externalValue symbolTable symbolCount symbolAt isAllocated misplaced aligned unit endsInMemory endOf inWindow hasBytes loaded share apart addresses tabulate sum relocationsIn locationOf countingRela targets siteAt relocationAt bytesOf part decision table lookup among neverFalls staysInside previous sharesPlace noOverlap shapeWell ofSection symbolValue inTarget symbolWell hasForm standsWell formWell isPair howMany pairOf pairWell reaches within even residue signed plus minus finding findingOf relocationCheck
+unfolding object orderWith words bytes leAt le wellFormed ascending everywhere first entryAt windowAllowed lengthAllowed sectionAt allocated placedAt valueIn externalValue symbolTable symbolCount symbolAt isAllocated misplaced aligned unit endsInMemory endOf inWindow hasBytes loaded share apart addresses tabulate sum relocationsIn locationOf countingRela siteAt relocationAt bytesOf part decision table lookup among neverFalls staysInside previous sharesPlace noOverlap shapeWell ofSection symbolValue inTarget symbolWell hasForm standsWell formWell isPair howMany pairOf pairWell reaches within even residue signed plus minus finding findingOf relocationCheck
 fine₁ = record { order-is = refl; window-is = refl; placed-are = refl; relocations-are = refl; only-laid = laid }
   where
     laid : (t b : ℕ) → Covers object order₁ t b → (0 ≤ b) × (b < 28)
@@ -184,7 +183,7 @@ fine₁ = record { order-is = refl; window-is = refl; placed-are = refl; relocat
     laid (suc (suc (suc (suc (suc (suc t)))))) b c = absurd (omega (arith, c .there, count-is))
 
 fine₂ : Fine 0x20000020 24
-unfolding object orderWith words bytes leAt le wellFormed ascending everywhere first entryAt windowAllowed lengthAllowed sectionAt allocated placedAt valueIn externalValue symbolTable symbolCount symbolAt isAllocated misplaced aligned unit endsInMemory endOf inWindow hasBytes loaded share apart addresses tabulate sum relocationsIn locationOf countingRela targets siteAt relocationAt bytesOf part decision table lookup among neverFalls staysInside previous sharesPlace noOverlap shapeWell ofSection symbolValue inTarget symbolWell hasForm standsWell formWell isPair howMany pairOf pairWell reaches within even residue signed plus minus finding findingOf relocationCheck
+unfolding object orderWith words bytes leAt le wellFormed ascending everywhere first entryAt windowAllowed lengthAllowed sectionAt allocated placedAt valueIn externalValue symbolTable symbolCount symbolAt isAllocated misplaced aligned unit endsInMemory endOf inWindow hasBytes loaded share apart addresses tabulate sum relocationsIn locationOf countingRela siteAt relocationAt bytesOf part decision table lookup among neverFalls staysInside previous sharesPlace noOverlap shapeWell ofSection symbolValue inTarget symbolWell hasForm standsWell formWell isPair howMany pairOf pairWell reaches within even residue signed plus minus finding findingOf relocationCheck
 fine₂ = record { order-is = refl; window-is = refl; placed-are = refl; relocations-are = refl; only-laid = laid }
   where
     laid : (t b : ℕ) → Covers object order₂ t b → (24 ≤ b) × (b < 24 + 28)
@@ -283,11 +282,11 @@ left₂ = done-leaves object order₂ files (demand-2 .holds-done object order�
 
 -- each takes 28 bytes of the journal
 takes₁ : spanOf (planOf object order₁) .size ≡ 28
-unfolding object orderWith words bytes le leAt part sectionAt allocated loaded hasBytes addresses tabulate placedAt valueIn externalValue entryAt first sum pieces planOf spanOf end lowest relocated relaOf countingRela targets siteAt after applied sumAt distanceAt isPair howMany pairOf symbolTable symbolCount symbolAt isAllocated ofSection relocationAt decision table lookup among bytesOf patched symbolValue residue signed plus minus high low read put
+unfolding object orderWith words bytes le leAt part sectionAt allocated loaded hasBytes addresses tabulate placedAt valueIn externalValue entryAt first sum pieces planOf spanOf end lowest relocated relaOf countingRela siteAt after applied sumAt distanceAt isPair howMany pairOf symbolTable symbolCount symbolAt isAllocated ofSection relocationAt decision table lookup among bytesOf patched symbolValue residue signed plus minus high low read put
 takes₁ = refl
 
 takes₂ : spanOf (planOf object order₂) .size ≡ 28
-unfolding object orderWith words bytes le leAt part sectionAt allocated loaded hasBytes addresses tabulate placedAt valueIn externalValue entryAt first sum pieces planOf spanOf end lowest relocated relaOf countingRela targets siteAt after applied sumAt distanceAt isPair howMany pairOf symbolTable symbolCount symbolAt isAllocated ofSection relocationAt decision table lookup among bytesOf patched symbolValue residue signed plus minus high low read put
+unfolding object orderWith words bytes le leAt part sectionAt allocated loaded hasBytes addresses tabulate placedAt valueIn externalValue entryAt first sum pieces planOf spanOf end lowest relocated relaOf countingRela siteAt after applied sumAt distanceAt isPair howMany pairOf symbolTable symbolCount symbolAt isAllocated ofSection relocationAt decision table lookup among bytesOf patched symbolValue residue signed plus minus high low read put
 takes₂ = refl
 
 stood₁ : stand (begin files) object order₁ (judgement object order₁ (length (files .image))) ≡ succeed (only (stands₁ ∷ []))
@@ -324,11 +323,11 @@ image₂ =
     ++ words (0x12346517 ∷ 0xFD850513 ∷ 0x00002097 ∷ 0x7E0080E7 ∷ 0xFE0508E3 ∷ [])
 
 lays₁ : overwritten (files .image) (planOf object order₁) ≡ image₁
-unfolding files image₁ object orderWith words bytes le leAt part sectionAt allocated loaded hasBytes addresses tabulate placedAt valueIn externalValue entryAt first sum pieces planOf overwritten relocated relaOf countingRela targets siteAt after applied sumAt distanceAt isPair howMany pairOf symbolTable symbolCount symbolAt isAllocated ofSection relocationAt decision table lookup among bytesOf patched symbolValue residue signed plus minus high low read put
+unfolding files image₁ object orderWith words bytes le leAt part sectionAt allocated loaded hasBytes addresses tabulate placedAt valueIn externalValue entryAt first sum pieces planOf overwritten relocated relaOf countingRela siteAt after applied sumAt distanceAt isPair howMany pairOf symbolTable symbolCount symbolAt isAllocated ofSection relocationAt decision table lookup among bytesOf patched symbolValue residue signed plus minus high low read put
 lays₁ = refl
 
 lays₂ : overwritten image₁ (planOf object order₂) ≡ image₂
-unfolding image₁ image₂ object orderWith words bytes le leAt part sectionAt allocated loaded hasBytes addresses tabulate placedAt valueIn externalValue entryAt first sum pieces planOf overwritten relocated relaOf countingRela targets siteAt after applied sumAt distanceAt isPair howMany pairOf symbolTable symbolCount symbolAt isAllocated ofSection relocationAt decision table lookup among bytesOf patched symbolValue residue signed plus minus high low read put
+unfolding image₁ image₂ object orderWith words bytes le leAt part sectionAt allocated loaded hasBytes addresses tabulate placedAt valueIn externalValue entryAt first sum pieces planOf overwritten relocated relaOf countingRela siteAt after applied sumAt distanceAt isPair howMany pairOf symbolTable symbolCount symbolAt isAllocated ofSection relocationAt decision table lookup among bytesOf patched symbolValue residue signed plus minus high low read put
 lays₂ = refl
 
 -- ---- what is read by the manual's fields out of the code and the data of an install
@@ -350,7 +349,7 @@ place NotOne = 0
 
 -- demand 2 says so of each of the two, over any image
 says₁ : (before after : List ℕ) → Laid object order₁ before after → Says (part after 0 20) (part after 24 4) 0x12345FF8 0x2800 0x118
-unfolding object orderWith words bytes le leAt sum relocationsIn countingRela targets sectionAt allocated isAllocated siteAt relocationAt symbolTable symbolCount symbolAt ofSection decision table lookup among addresses tabulate placedAt valueIn externalValue entryAt first symbolValue bytesOf part residue signed plus minus isPair howMany pairOf distanceAt sumAt stackAt ReadsBack high low read
+unfolding object orderWith words bytes le leAt sum relocationsIn countingRela sectionAt allocated isAllocated siteAt relocationAt symbolTable symbolCount symbolAt ofSection decision table lookup among addresses tabulate placedAt valueIn externalValue entryAt first symbolValue bytesOf part residue signed plus minus isPair howMany pairOf distanceAt sumAt stackAt ReadsBack high low read
 says₁ before after l =
     let halves = l .distances-whole 4 1 (record { there = omega arith; counts = refl; entry = omega arith }) I LowI 4 refl in
     let first : halves .0 ≡ 0 = sym (ap place (halves .2)) in
@@ -362,7 +361,7 @@ says₁ before after l =
     }
 
 says₂ : (before after : List ℕ) → Laid object order₂ before after → Says (part after 32 20) (part after 24 4) 0x12345FD8 0x27E0 0xF8
-unfolding object orderWith words bytes le leAt sum relocationsIn countingRela targets sectionAt allocated isAllocated siteAt relocationAt symbolTable symbolCount symbolAt ofSection decision table lookup among addresses tabulate placedAt valueIn externalValue entryAt first symbolValue bytesOf part residue signed plus minus isPair howMany pairOf distanceAt sumAt stackAt ReadsBack high low read
+unfolding object orderWith words bytes le leAt sum relocationsIn countingRela sectionAt allocated isAllocated siteAt relocationAt symbolTable symbolCount symbolAt ofSection decision table lookup among addresses tabulate placedAt valueIn externalValue entryAt first symbolValue bytesOf part residue signed plus minus isPair howMany pairOf distanceAt sumAt stackAt ReadsBack high low read
 says₂ before after l =
     let halves = l .distances-whole 4 1 (record { there = omega arith; counts = refl; entry = omega arith }) I LowI 4 refl in
     let first : halves .0 ≡ 0 = sym (ap place (halves .2)) in

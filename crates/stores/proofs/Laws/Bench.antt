@@ -14,7 +14,7 @@ use Rattle.riscv.specs.Halves.{high, low}
 use Rattle.riscv.specs.Forms.{hasForm}
 use Rattle.riscv.specs.Ranges.{reaches}
 use Rattle.types.specs.Types.{table, among, lookup, decision}
-use Rattle.elf.specs.Sections.{sectionAt, allocated, targets, countingRela, relocationsIn}
+use Rattle.elf.specs.Sections.{sectionAt, allocated, countingRela, relocationsIn, isAllocated}
 use Rattle.elf.specs.Entries.{bytesOf, relocationAt, locationOf}
 use Rattle.rela.specs.Sites.{siteAt}
 use Rattle.rela.specs.Shape.{neverFalls, staysInside, previous, noOverlap, shapeWell}
@@ -93,5 +93,5 @@ numbers =
     ∷ []
 
 pub right : map (λ n. n .given) numbers ≡ map (λ n. n .said) numbers
-unfolding numbers object words bytes le leAt part first sum ceilPower ceilLog residue signed within even minus read put high low hasForm reaches decision table lookup among sectionAt allocated targets countingRela relocationsIn bytesOf relocationAt locationOf siteAt neverFalls staysInside previous noOverlap shapeWell symbolValue symbolWell standsWell formWell pairWell finding findingOf patched sumAt applied after relaOf relocated
+unfolding numbers object words bytes le leAt part first sum ceilPower ceilLog residue signed within even minus read put high low hasForm reaches decision table lookup among sectionAt allocated isAllocated countingRela relocationsIn bytesOf relocationAt locationOf siteAt neverFalls staysInside previous noOverlap shapeWell symbolValue symbolWell standsWell formWell pairWell finding findingOf patched sumAt applied after relaOf relocated
 right = refl
