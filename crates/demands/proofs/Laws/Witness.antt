@@ -2,7 +2,7 @@
 -- call, a branch back, ADD and SUB at one place, and a taking-back. What follows holds of any two calls that keep what is promised, and of
 -- ours. Assumes nothing.
 use mathlib.Core.Path.{_≡_, refl, sym, ap, subst, _∙_}
-use mathlib.Core.Bool.{true, false, not}
+use mathlib.Core.Bool.{true, not}
 use mathlib.Core.List.{List, [], _∷_, _++_}
 use Prim.Native.Nat.{ℕ, zero, suc, _+_, _-_, _/_, _^_, _≤_, _<_}
 use native.Mathlib.Omega.{arith}
@@ -41,8 +41,8 @@ use Rattle.journal.specs.Journals.{count, held, entry, entries, total, isBlank,
 use Rattle.journal.proofs.Laws.Sound.{test-sound}
 use Rattle.plans.specs.declared.Span.{Span}
 use Rattle.plans.specs.Plans.{overwritten, end, lowest, spanOf}
-use Rattle.plans.specs.Answers.{Answer, done}
-use Rattle.history.specs.Calls.{Files, Outcome, succeed, Call, Install, Rollback, InstallCall, RollbackCall, calling, answers, run}
+use Rattle.plans.specs.Answers.{done}
+use Rattle.history.specs.Calls.{Files, succeed, Call, Install, Rollback, InstallCall, RollbackCall, calling, answers, run}
 use Rattle.history.specs.Histories.{Standing, History, begin, spans, laid, stand, fall, told, historyOf, Start, AsTold}
 use Rattle.place.specs.Externals.{isUndefined}
 use Rattle.placing.specs.Placing.{endOf, unit, aligned, endsInMemory, hasBytes, inWindow, share, apart, misplaced}
@@ -52,7 +52,6 @@ use Rattle.rela.specs.Shape.{neverFalls, staysInside, previous, sharesPlace, no
 use Rattle.values.specs.declared.pairs.Pair.{Pair}
 use Rattle.values.specs.declared.pairs.Pair.the-variants.{At, NotOne}
 use Rattle.values.specs.Pairs.{isPair, howMany, pairOf}
-use Rattle.rules.specs.declared.Finding.the-variants.{Kept}
 use Rattle.rules.specs.declared.RelocationCheck.the-variants.{Passed}
 use Rattle.rules.specs.Rules.{inTarget, symbolWell, standsWell, formWell, pairWell}
 use Rattle.rules.specs.Search.{finding, findingOf, relocationCheck}
@@ -62,7 +61,7 @@ use Rattle.stores.specs.Sections.{sumAt, distanceAt, relaOf, relocated, applied
 use Rattle.stores.specs.Promises.{stackAt, ReadsBack, AddUp}
 use Rattle.spans.specs.Pieces.{pieces}
 use Rattle.judgement.specs.Judgement.{planOf, judgement}
-use Rattle.demands.specs.Rules.{Rules, WindowWell, HeaderWell, TableWell, PlacedAsAllocated, ValuedIfUndefined, PlacedIfAllocated, site, entryOf, valueOf, Room}
+use Rattle.demands.specs.Rules.{Rules, WindowWell, HeaderWell, TableWell, PlacedAsAllocated, ValuedIfUndefined, PlacedIfAllocated, site, entryOf, valueOf}
 use Rattle.demands.specs.Laid.{Covers, IsSpan, siteOf, bytesAt, Laid}
 use Rattle.demands.specs.Demands.{Promised, ourInstall, ourRollback}
 use Rattle.demands.proofs.Laws.Rules.{order-well, window-well, header-well, table-well, valued, placed-well}
