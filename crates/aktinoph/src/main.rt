@@ -10,18 +10,18 @@ ghost use mathlib.Core.Bool.{_||_};
 ghost use lib.Dec.{ltb};
 ghost use lib.ListN.{take};
 ghost use Rattle.io.specs.Counts.{Counts};
-ghost use Rattle.text.specs.Lines.{line};
-ghost use Rattle.plans.specs.Answers.{Answer};
-ghost use Rattle.demands.specs.Codes.{Reads};
-use files::MAX_FILE;
-use files::ROOM;
-use files::replace_both;
-use text::Command;
+ghost use Rattle.program_text.specs.Lines.{line};
+ghost use Rattle.plan_pieces.specs.Answers.{Answer};
+ghost use Rattle.calls_demands.specs.Codes.{Reads};
+use program_files::MAX_FILE;
+use program_files::ROOM;
+use program_files::replace_both;
+use program_text::Command;
 
 fn main() {
     let mut word = [0u8; 9];
     let n = os::arg(1, &mut word);
-    match text::asked(&word[..n], os::arg_count()) {
+    match program_text::asked(&word[..n], os::arg_count()) {
         Command::Fit => fit(),
         Command::TakeBack => take_back(),
         Command::Unknown => usage(),
@@ -37,7 +37,7 @@ fn usage() {
 
 fn fit() {
     let mut object = [0u8; ROOM];
-    let a = files::read(2, &mut object);
+    let a = program_files::read(2, &mut object);
     let n = a.len;
     if a.is_read {
         fit_object(&object[..n]);
@@ -46,7 +46,7 @@ fn fit() {
 
 fn fit_object(object: &[u8]) {
     let mut order = [0u8; ROOM];
-    let a = files::read(3, &mut order);
+    let a = program_files::read(3, &mut order);
     let n = a.len;
     if a.is_read {
         over_files(true, object, &order[..n], 4, 5);
@@ -60,7 +60,7 @@ fn take_back() {
 // A call over the files of image and ledger, which the arguments at these places name.
 fn over_files(is_fit: bool, object: &[u8], order: &[u8], image_at: usize, ledger_at: usize) {
     let mut image = [0u8; ROOM];
-    let a = files::read(image_at, &mut image);
+    let a = program_files::read(image_at, &mut image);
     let n = a.len;
     if a.is_read {
         over_image(is_fit, object, order, image_at, &mut image[..n], ledger_at);
@@ -76,7 +76,7 @@ fn over_image(
     ledger_at: usize,
 ) {
     let mut ledger = [0u8; ROOM];
-    let a = files::read(ledger_at, &mut ledger);
+    let a = program_files::read(ledger_at, &mut ledger);
     let n = a.len;
     if !a.is_read {
         return;
@@ -133,7 +133,7 @@ fn line_of(code: u64, out: &mut [u8; 42]) -> usize
     ensures { λ r. ⌜ Counts r (now (out .exit)) ⌝ }
     ensures { λ r. ⌜ ((answer : Answer) → Reads code answer → take r (now (out .exit)) ≡ line answer) ⌝ }
 {
-    text::answer_line(code % 256, code / 4294967296, out)
+    program_text::answer_line(code % 256, code / 4294967296, out)
 }
 
 fn print_answer(code: u64) {

@@ -1,13 +1,13 @@
--- Demand 3 of a list of calls that was run: what the exported replay says of it beside the equation. Assumes nothing: these are definitions.
+-- Demand 3 of a list of calls that was run: what the exported replay says of it beside the equation.
 use mathlib.Core.Path.{_≡_}
 use mathlib.Core.List.{List}
 use Prim.Native.Nat.{ℕ}
 use lib.ListN.{take}
-use Rattle.plans.specs.Answers.{Answer}
-use Rattle.history.specs.Calls.{Files}
-use Rattle.replay.specs.Lists.{callCount, callsOf}
-use Rattle.replay.specs.Replays.{codes}
-use Rattle.demands.specs.Demands.{AnyList, AfterCalls, ourInstall, ourRollback}
+use Rattle.plan_pieces.specs.Answers.{Answer}
+use Rattle.journal_history.specs.Calls.{Files}
+use Rattle.calls_replay.specs.Lists.{callCount, callsOf}
+use Rattle.calls_replay.specs.Replays.{codes}
+use Rattle.calls_demands.specs.Demands.{AnyList, AfterCalls, ourInstall, ourRollback}
 
 -- the first places hold the codes of answers in order, and of these answers and of what is left demand 3 holds
 pub record Demand3Of (calls : List ℕ) (start : Files) (places : List ℕ) (left : Files) : Type 0 where

@@ -4,21 +4,21 @@ ghost use mathlib.Core.Bool.{true};
 ghost use Prim.Native.Nat.{_≤_};
 ghost use lib.ListN.{length};
 ghost use lib.Seq.{sets};
-ghost use Rattle.history.specs.Calls.{files, calling};
-ghost use Rattle.history.specs.Histories.{Start};
-ghost use Rattle.replay.specs.Lists.{callCount, callAt, isCall, isList};
-ghost use Rattle.replay.specs.Replays.{replay as «the-replay»};
-ghost use Rattle.replay.specs.Facts.{leftBy, codesOf};
-ghost use Rattle.demands.specs.Demands.{ourInstall, ourRollback};
-ghost use Rattle.demands.specs.Codes.{Returned};
+ghost use Rattle.journal_history.specs.Calls.{files, calling};
+ghost use Rattle.journal_history.specs.Histories.{Start};
+ghost use Rattle.calls_replay.specs.Lists.{callCount, callAt, isCall, isList};
+ghost use Rattle.calls_replay.specs.Replays.{replay as «the-replay»};
+ghost use Rattle.calls_replay.specs.Requires.{leftBy, codesOf};
+ghost use Rattle.calls_demands.specs.Demands.{ourInstall, ourRollback};
+ghost use Rattle.calls_demands.specs.Codes.{Returned};
 ghost use Rattle.fitter.specs.Replayed.{Demand3Of};
-use install::install;
-use install::rollback;
-use judge::code_of;
-use replay::FIRST_AT;
-use replay::List;
+use calls_install::install;
+use calls_install::rollback;
+use calls_judge::code_of;
+use calls_replay::FIRST_AT;
+use calls_replay::List;
 
-// `install` for callers in other languages. The four buffers do not overlap.
+// `calls_install` for callers in other languages. The four buffers do not overlap.
 #[no_mangle]
 pub extern "C" fn aktinoph_fit(
     object: &[u8],
@@ -46,11 +46,11 @@ fn make_call(calls: &[u8], at: usize, image: &mut [u8], ledger: &mut [u8]) -> u6
     ensures { λ r. ⌜ Returned r (files (now (image .exit)) (now (ledger .exit)))
         (calling ourInstall ourRollback (files (now (image .entry)) (now (ledger .entry))) (callAt (now (calls .entry)) at)) ⌝ }
 {
-    if !replay::is_fit(calls, at) {
+    if !calls_replay::is_fit(calls, at) {
         return aktinoph_take_back(image, ledger);
     }
-    let object = replay::object_of(calls, at);
-    let order = replay::order_of(calls, at);
+    let object = calls_replay::object_of(calls, at);
+    let order = calls_replay::order_of(calls, at);
     aktinoph_fit(object, order, image, ledger)
 }
 
@@ -65,7 +65,7 @@ fn make_calls(calls: &[u8], n: usize, image: &mut [u8], ledger: &mut [u8], answe
     let mut i: usize = 0;
     while i < n {
         answers[i] = make_call(calls, at, image, ledger);
-        at = replay::call_end(calls, at);
+        at = calls_replay::call_end(calls, at);
         i += 1;
     }
 }
@@ -103,7 +103,7 @@ pub extern "C" fn aktinoph_replay(
     ensures { λ r. ⌜ (r ≡ 1 → Start (files (now (image .entry)) (now (ledger .entry)))
         → Demand3Of (now (calls .entry)) (files (now (image .entry)) (now (ledger .entry))) (now (answers .exit)) (files (now (image .exit)) (now (ledger .exit)))) ⌝ }
 {
-    match replay::read_list(calls) {
+    match calls_replay::read_list(calls) {
         List::Malformed => 0,
         List::Calls(n) => replay_list(calls, n, image, ledger, answers),
     }

@@ -10,7 +10,7 @@ use crate::placement::{
 use crate::plan::Plan;
 use crate::relocate::{
     breaks_shape_rule, distance_is_odd_or_too_far, has_not_one_pair, instruction_form_is_wrong,
-    padding_misses_boundary, symbol_does_not_resolve, Site,
+    padding_misses_boundary, symbol_does_not_resolve, RelaEntry,
 };
 use crate::symbol::Symbols;
 use crate::Answer;
@@ -29,15 +29,15 @@ pub fn judge(object: &[u8], order: &[u8], image_length: usize) -> Result<Plan, A
     broken_at(8, lowest_misplaced(&object, addresses, window))?;    // placing
     let symbols = Symbols { object: &object, addresses, external_values: &order.external_values };
     let lists = object.relocation_sections();
-    let sites = lists.iter().flat_map(|list| {
-        (0..list.relocations.len()).map(|index| Site { symbols: &symbols, list, index })
+    let relas = lists.iter().flat_map(|list| {
+        (0..list.relocations.len()).map(|index| RelaEntry { symbols: &symbols, list, index })
     });
-    first_broken_relocation(sites)?;                                // 9 to 14
+    first_broken_relocation(relas)?;                                // 9 to 14
     Ok(Plan::new(&symbols, window, &lists))
 }
 
 /// A check's number, and whether a relocation breaks it.
-type RelocationCheck = (u32, fn(&Site) -> bool);
+type RelocationCheck = (u32, fn(&RelaEntry) -> bool);
 
 /// The checks of one relocation.
 const RELOCATION_CHECKS: [RelocationCheck; 6] = [
@@ -51,10 +51,10 @@ const RELOCATION_CHECKS: [RelocationCheck; 6] = [
 
 /// "Records go by RELA row, then file order, each through 9 to 14 before the
 /// next." The place is the "record, counted from 0 over all".
-fn first_broken_relocation<'a>(sites: impl Iterator<Item = Site<'a>>) -> Result<(), Answer> {
-    for (place, site) in sites.enumerate() {
+fn first_broken_relocation<'a>(relas: impl Iterator<Item = RelaEntry<'a>>) -> Result<(), Answer> {
+    for (place, rela) in relas.enumerate() {
         for (number, is_broken) in RELOCATION_CHECKS {
-            broken_at(number, is_broken(&site).then_some(place as u32))?;
+            broken_at(number, is_broken(&rela).then_some(place as u32))?;
         }
     }
     Ok(())

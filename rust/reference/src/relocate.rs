@@ -8,7 +8,7 @@ use crate::symbol::Symbols;
 
 /// One relocation with everything that its rules look at.
 #[derive(Clone, Copy, Debug)]
-pub struct Site<'a> {
+pub struct RelaEntry<'a> {
     pub symbols: &'a Symbols<'a>,
     /// The RELA section that the relocation is in.
     pub list: &'a RelocationSection,
@@ -16,7 +16,7 @@ pub struct Site<'a> {
     pub index: usize,
 }
 
-impl<'a> Site<'a> {
+impl<'a> RelaEntry<'a> {
     fn relocation(&self) -> &'a Relocation {
         &self.list.relocations[self.index]
     }
@@ -74,9 +74,9 @@ impl<'a> Site<'a> {
     }
 
     /// The other relocations of the same RELA section that come before.
-    fn earlier(&self) -> impl DoubleEndedIterator<Item = Site<'a>> {
-        let site = *self;
-        (0..self.index).map(move |index| Site { index, ..site })
+    fn earlier(&self) -> impl DoubleEndedIterator<Item = RelaEntry<'a>> {
+        let rela = *self;
+        (0..self.index).map(move |index| RelaEntry { index, ..rela })
     }
 
     fn asks_for_pair(&self) -> bool {
@@ -87,11 +87,11 @@ impl<'a> Site<'a> {
     /// "the partner is the PCREL_HI20 record at its value. There must be exactly
     /// one PCREL_HI20 record whose offset equals that value, among the same
     /// RELA row's records."
-    fn hi20_pair(&self) -> Option<Site<'a>> {
+    fn hi20_pair(&self) -> Option<RelaEntry<'a>> {
         const PCREL_HI20: u8 = 23;
         let label = self.symbols.entry(self.relocation().symbol)?;
-        let site = *self;
-        let all = (0..self.list.relocations.len()).map(|index| Site { index, ..site });
+        let rela = *self;
+        let all = (0..self.list.relocations.len()).map(|index| RelaEntry { index, ..rela });
         let mut pairs = all.filter(|other| {
             let other = other.relocation();
             other.kind == PCREL_HI20 && other.offset.0 == label.value
@@ -104,91 +104,91 @@ impl<'a> Site<'a> {
 }
 
 /// Check 9: "type, offset, overlap, addend rule".
-pub fn breaks_shape_rule(site: &Site) -> bool {
-    site.effect() == Effect::Refused
-        || offset_falls(site)
-        || leaves_section(site)
-        || overlaps(site)
-        || addend_is_wrong(site)
+pub fn breaks_shape_rule(rela: &RelaEntry) -> bool {
+    rela.effect() == Effect::Refused
+        || offset_falls(rela)
+        || leaves_section(rela)
+        || overlaps(rela)
+        || addend_is_wrong(rela)
 }
 
 /// "Record offsets never fall."
-fn offset_falls(site: &Site) -> bool {
-    let previous = site.earlier().next_back();
-    previous.is_some_and(|previous| site.offset() < previous.offset())
+fn offset_falls(rela: &RelaEntry) -> bool {
+    let previous = rela.earlier().next_back();
+    previous.is_some_and(|previous| rela.offset() < previous.offset())
 }
 
 /// "The bytes touched lie in the row; a marker's offset is at most the row
 /// size."
-fn leaves_section(site: &Site) -> bool {
-    site.end() > Whole::from(site.target().size)
+fn leaves_section(rela: &RelaEntry) -> bool {
+    rela.end() > Whole::from(rela.target().size)
 }
 
 /// "A non-marker starts at or after the end of the previous non-marker, or both
 /// are of 33..40, 52..56 with equal offset and width (SUB6 and SET6 have a
 /// width of their own)."
-fn overlaps(site: &Site) -> bool {
-    let previous = site.earlier().rev().find(|other| other.patch().is_some());
-    let (Some(this), Some(previous)) = (site.patch(), previous) else {
+fn overlaps(rela: &RelaEntry) -> bool {
+    let previous = rela.earlier().rev().find(|other| other.patch().is_some());
+    let (Some(this), Some(previous)) = (rela.patch(), previous) else {
         return false;
     };
     let shares_place = previous.patch().is_some_and(|other| {
         this.calculation.may_share_place()
             && other.calculation.may_share_place()
-            && site.offset() == previous.offset()
+            && rela.offset() == previous.offset()
             && this.field == other.field
     });
-    site.offset() < previous.end() && !shares_place
+    rela.offset() < previous.end() && !shares_place
 }
 
 /// ALIGN: "A even, 0 to 4,094, offset + A inside the row". PCREL_LO12: "A must
 /// be 0".
-fn addend_is_wrong(site: &Site) -> bool {
-    let addend = site.addend();
-    if site.effect() == Effect::Align {
+fn addend_is_wrong(rela: &RelaEntry) -> bool {
+    let addend = rela.addend();
+    if rela.effect() == Effect::Align {
         addend.rem_euclid(2) != 0
             || !(0..=4_094).contains(&addend)
-            || site.offset() + addend > Whole::from(site.target().size)
+            || rela.offset() + addend > Whole::from(rela.target().size)
     } else {
-        site.asks_for_pair() && addend != 0
+        rela.asks_for_pair() && addend != 0
     }
 }
 
 /// Check 10: "symbol does not resolve (24, 25: or is not in the target row)".
 /// "Markers skip 10."
-pub fn symbol_does_not_resolve(site: &Site) -> bool {
-    site.patch().is_some()
-        && (site.s_plus_a().is_none() || (site.asks_for_pair() && !label_is_in_target(site)))
+pub fn symbol_does_not_resolve(rela: &RelaEntry) -> bool {
+    rela.patch().is_some()
+        && (rela.s_plus_a().is_none() || (rela.asks_for_pair() && !label_is_in_target(rela)))
 }
 
 /// "A PCREL_LO12 symbol is above 0 and defined in the record's own target row"
-fn label_is_in_target(site: &Site) -> bool {
-    let symbol = site.relocation().symbol;
-    let entry = site.symbols.entry(symbol);
-    symbol > 0 && entry.is_some_and(|entry| usize::from(entry.section) == site.list.target)
+fn label_is_in_target(rela: &RelaEntry) -> bool {
+    let symbol = rela.relocation().symbol;
+    let entry = rela.symbols.entry(symbol);
+    symbol > 0 && entry.is_some_and(|entry| usize::from(entry.section) == rela.list.target)
 }
 
 /// Check 11: "Instruction at an even address, as found in the object".
-pub fn instruction_form_is_wrong(site: &Site) -> bool {
+pub fn instruction_form_is_wrong(rela: &RelaEntry) -> bool {
     use crate::instruction::Form;
-    let object = site.symbols.object;
-    site.patch().is_some_and(|patch| {
-        let bytes = object.bytes_of(site.target());
-        let found = &bytes[site.offset() as usize..site.end() as usize];
-        patch.form != Form::Any && (site.place().rem_euclid(2) != 0 || !patch.form.matches(found))
+    let object = rela.symbols.object;
+    rela.patch().is_some_and(|patch| {
+        let bytes = object.bytes_of(rela.target());
+        let found = &bytes[rela.offset() as usize..rela.end() as usize];
+        patch.form != Form::Any && (rela.place().rem_euclid(2) != 0 || !patch.form.matches(found))
     })
 }
 
 /// Check 12: "not exactly one partner".
-pub fn has_not_one_pair(site: &Site) -> bool {
-    site.asks_for_pair() && site.hi20_pair().is_none()
+pub fn has_not_one_pair(rela: &RelaEntry) -> bool {
+    rela.asks_for_pair() && rela.hi20_pair().is_none()
 }
 
 /// Check 13: "distance odd or too far". A CALL reaches everything, but its
 /// distance "is even".
-pub fn distance_is_odd_or_too_far(site: &Site) -> bool {
+pub fn distance_is_odd_or_too_far(rela: &RelaEntry) -> bool {
     use crate::fields::Field;
-    let (Some(patch), Some(distance)) = (site.patch(), site.distance()) else {
+    let (Some(patch), Some(distance)) = (rela.patch(), rela.distance()) else {
         return false;
     };
     let odd = distance.rem_euclid(2) != 0;
@@ -199,11 +199,11 @@ pub fn distance_is_odd_or_too_far(site: &Site) -> bool {
 }
 
 /// Check 14: "P + A a multiple of the smallest power of two at least A + 2".
-pub fn padding_misses_boundary(site: &Site) -> bool {
-    site.effect() == Effect::Align && {
-        let least = (site.addend() + 2) as u64;
+pub fn padding_misses_boundary(rela: &RelaEntry) -> bool {
+    rela.effect() == Effect::Align && {
+        let least = (rela.addend() + 2) as u64;
         let boundary = Whole::from(least.next_power_of_two());
-        (site.place() + site.addend()).rem_euclid(boundary) != 0
+        (rela.place() + rela.addend()).rem_euclid(boundary) != 0
     }
 }
 
@@ -214,22 +214,22 @@ pub fn relocated_bytes(symbols: &Symbols, index: usize, lists: &[RelocationSecti
     let mut bytes = object.bytes_of(&object.sections()[index]).to_vec();
     for list in lists.iter().filter(|list| list.target == index) {
         for index in 0..list.relocations.len() {
-            let site = Site {
+            let rela = RelaEntry {
                 symbols,
                 list,
                 index,
             };
-            apply(&site, &mut bytes);
+            apply(&rela, &mut bytes);
         }
     }
     bytes
 }
 
-fn apply(site: &Site, section: &mut [u8]) {
-    if let Some(patch) = site.patch() {
-        let word = &mut section[site.offset() as usize..site.end() as usize];
+fn apply(rela: &RelaEntry, section: &mut [u8]) {
+    if let Some(patch) = rela.patch() {
+        let word = &mut section[rela.offset() as usize..rela.end() as usize];
         let present = patch.field.present(crate::numbers::number_from(word));
-        let x = calculate(site, patch.calculation, present);
+        let x = calculate(rela, patch.calculation, present);
         patch
             .field
             .write(word, x.expect("checks 10 and 12 have passed"));
@@ -237,13 +237,13 @@ fn apply(site: &Site, section: &mut [u8]) {
 }
 
 /// The number that goes into the field, before the field takes its part.
-fn calculate(site: &Site, calculation: Calculation, present: Whole) -> Option<Whole> {
+fn calculate(rela: &RelaEntry, calculation: Calculation, present: Whole) -> Option<Whole> {
     match calculation {
-        Calculation::Target => site.t(),
-        Calculation::Distance => site.distance(),
-        Calculation::PairDistance => site.hi20_pair()?.distance(),
-        Calculation::Add => Some(present + site.s_plus_a()?),
-        Calculation::Subtract => Some(present - site.s_plus_a()?),
-        Calculation::Set => site.s_plus_a(),
+        Calculation::Target => rela.t(),
+        Calculation::Distance => rela.distance(),
+        Calculation::PairDistance => rela.hi20_pair()?.distance(),
+        Calculation::Add => Some(present + rela.s_plus_a()?),
+        Calculation::Subtract => Some(present - rela.s_plus_a()?),
+        Calculation::Set => rela.s_plus_a(),
     }
 }

@@ -1,6 +1,6 @@
-//! The lines of `crates/encodings/stdout`, worked out anew: fields, halves,
+//! The lines of `crates/tests_encodings/stdout`, worked out anew: fields, halves,
 //! types, sums, ranges and forms over fixed inputs, in hexadecimal. The program
-//! `encodings` writes the same lines from the proved functions.
+//! `tests_encodings` writes the same lines from the proved functions.
 
 use reference::fields::{extract, high_half, insert, low_half, Field, Layout};
 use reference::fields::{B, CB, CJ, I, J, S, U};
@@ -9,7 +9,7 @@ use reference::numbers::Whole;
 use reference::relocation::{effect_of, Calculation, Effect, Patch};
 use testing::compared::Compared;
 
-const PROGRAM: Compared = Compared("encodings");
+const PROGRAM: Compared = Compared("tests_encodings");
 
 const FIELDS: [Field; 13] = [
     Field::U,
@@ -120,7 +120,7 @@ fn half_line(x: u64) -> String {
     format!("h {x:x} {:x} {low:x}", high_half(x))
 }
 
-/// The calculations of the program `encodings`, which name the half too.
+/// The calculations of the program `tests_encodings`, which name the half too.
 fn calculation_number(patch: Patch) -> u32 {
     use Calculation::*;
     match (patch.calculation, patch.field) {

@@ -1,5 +1,5 @@
-//! The cases of `crates/rollbacks/stdin`, and the lines that the program
-//! `rollbacks` writes of them, worked out anew: rollbacks and saves on the
+//! The cases of `crates/tests_rollbacks/stdin`, and the lines that the program
+//! `tests_rollbacks` writes of them, worked out anew: rollbacks and saves on the
 //! shared vectors, on journals that are unsound in one way alone, and at the
 //! ends of what lengths may be.
 
@@ -8,7 +8,7 @@ use reference::{install, judge, rollback, Span, MAX_BYTES};
 use testing::compared::Compared;
 use testing::vectors::{bytes, bytes_after, lines};
 
-const PROGRAM: Compared = Compared("rollbacks");
+const PROGRAM: Compared = Compared("tests_rollbacks");
 
 const SPACE: usize = 131_072;
 

@@ -1,4 +1,4 @@
-//! The two installs of `crates/demands/proofs/Laws/Witness.antt` through this
+//! The two installs of `crates/calls_demands/proofs/Laws/Witness.antt` through this
 //! fitter: the same object, orders, image and journal, as words, and the same
 //! bytes, numbers and answers.
 

@@ -1,7 +1,7 @@
--- `aktinoph::line_of` meets its contract: number and place are read out of the one number. Assumes nothing.
+-- `aktinoph::line_of` meets its contract: number and place are read out of the one number.
 use mathlib.Core.Path.{ap, _∙_}
-use Rattle.plans.specs.Answers.{Answer}
-use Rattle.text.specs.Lines.{line}
+use Rattle.plan_pieces.specs.Answers.{Answer}
+use Rattle.program_text.specs.Lines.{line}
 use borrow.Author.Needs.{needs}
 use Rattle.aktinoph.proofs.line_of.Statement.{statement}
 use Rattle.aktinoph.proofs.line_of.Tie as tie

@@ -1,4 +1,4 @@
--- A list that was run: demand 3 holds of its answers and of what it left. Assumes nothing.
+-- A list that was run: demand 3 holds of its answers and of what it left.
 use mathlib.Core.Path.{_≡_, refl, sym, ap, _∙_, subst}
 use mathlib.Core.Bool.{Bool, true, false, cond, _&&_}
 use mathlib.Core.List.{List, [], _∷_, _++_}
@@ -8,17 +8,17 @@ use lib.ListN.{length, take, drop}
 use lib.Dec.{leb}
 use lib.Seq.{sets, sets-eq, take-at}
 use borrow.Author.Tests.{leb-true}
-use Rattle.word.proofs.Laws.Tests.{and-right}
-use Rattle.plans.specs.Answers.{Answer}
-use Rattle.history.specs.Calls.{Files, Call, Install, Rollback, calling, answers, run}
-use Rattle.history.specs.Histories.{Start, CallsAre}
-use Rattle.replay.specs.declared.List.{List as Listing}
-use Rattle.replay.specs.declared.List.the-variants.{Malformed, Calls}
-use Rattle.replay.specs.Lists.{callCount, isList, callsOf}
-use Rattle.replay.specs.Replays.{Replay, codes, replay}
-use Rattle.replay.proofs.Laws.Replays.{codes-length}
-use Rattle.demands.specs.Demands.{AnyList, AfterCalls, ourInstall, ourRollback}
-use Rattle.demands.proofs.Laws.Promised.{ours-keep}
+use Rattle.numbers_definitions.proofs.Laws.Tests.{and-right}
+use Rattle.plan_pieces.specs.Answers.{Answer}
+use Rattle.journal_history.specs.Calls.{Files, Call, Install, Rollback, calling, answers, run}
+use Rattle.journal_history.specs.Histories.{Start, CallsAre}
+use Rattle.calls_replay.specs.declared.List.{List as Listing}
+use Rattle.calls_replay.specs.declared.List.the-variants.{Malformed, Calls}
+use Rattle.calls_replay.specs.Lists.{callCount, isList, callsOf}
+use Rattle.calls_replay.specs.Replays.{Replay, codes, replay}
+use Rattle.calls_replay.proofs.Laws.Replays.{codes-length}
+use Rattle.calls_demands.specs.Demands.{AnyList, AfterCalls, ourInstall, ourRollback}
+use Rattle.calls_demands.proofs.Laws.Promised.{ours-keep}
 use Rattle.fitter.specs.Replayed.{Demand3Of}
 
 -- what `read_list` says decides

@@ -1,6 +1,6 @@
--- `fitter::aktinoph_fit` meets its contract. Assumes nothing.
+-- `fitter::aktinoph_fit` meets its contract.
 use mathlib.Core.Path.{ap, _∙_}
-use Rattle.plans.specs.Answers.{packed}
+use Rattle.plan_pieces.specs.Answers.{packed}
 use borrow.Author.Needs.{needs}
 use Rattle.fitter.proofs.aktinoph_fit.Statement.{statement}
 use Rattle.fitter.proofs.aktinoph_fit.Tie as tie

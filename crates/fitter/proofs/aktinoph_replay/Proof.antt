@@ -1,12 +1,12 @@
--- `fitter::aktinoph_replay` meets its contract. Assumes nothing.
+-- `fitter::aktinoph_replay` meets its contract.
 use mathlib.Core.Path.{_≡_, sym, _∙_}
 use mathlib.Core.Bool.{true}
 use Prim.Native.Nat.{ℕ}
 use native.Mathlib.Omega.{arith}
-use Rattle.history.specs.Calls.{Files}
-use Rattle.replay.specs.Lists.{callCount, isList}
-use Rattle.replay.proofs.Laws.Replays.{not-run}
-use Rattle.demands.specs.Demands.{ourInstall, ourRollback}
+use Rattle.journal_history.specs.Calls.{Files}
+use Rattle.calls_replay.specs.Lists.{callCount, isList}
+use Rattle.calls_replay.proofs.Laws.Replays.{not-run}
+use Rattle.calls_demands.specs.Demands.{ourInstall, ourRollback}
 use Rattle.fitter.proofs.Laws.Replayed.{malformed-is, listed-is, replay-holds}
 use borrow.Author.Needs.{needs}
 use Rattle.fitter.proofs.aktinoph_replay.Statement.{statement}

@@ -1,15 +1,15 @@
--- `fitter::make_call` meets its contract. Assumes nothing.
+-- `fitter::make_call` meets its contract.
 use mathlib.Core.Path.{_≡_, sym, ap, ap₂, _∙_}
 use Prim.Native.Nat.{_+_, _≤_}
 use native.Mathlib.Omega.{arith}
 use borrow.Author.Tests.{not-true, not-false, eqb-true, eqb-false}
-use Rattle.plans.specs.Answers.{packed}
-use Rattle.history.specs.Calls.{Files, Call, Install, Rollback, calling}
-use Rattle.replay.specs.Lists.{FIT, kindAt, objectLength, orderLength, callAt}
-use Rattle.replay.specs.Facts.{FitInside}
-use Rattle.replay.proofs.Laws.Lists.{ends-inside, end-of-fit}
-use Rattle.replay.proofs.Laws.Replays.{call-fit, call-other}
-use Rattle.demands.specs.Demands.{ourInstall, ourRollback}
+use Rattle.plan_pieces.specs.Answers.{packed}
+use Rattle.journal_history.specs.Calls.{Files, Call, Install, Rollback, calling}
+use Rattle.calls_replay.specs.Lists.{FIT, kindAt, objectLength, orderLength, callAt}
+use Rattle.calls_replay.specs.Requires.{FitInside}
+use Rattle.calls_replay.proofs.Laws.Lists.{ends-inside, end-of-fit}
+use Rattle.calls_replay.proofs.Laws.Replays.{call-fit, call-other}
+use Rattle.calls_demands.specs.Demands.{ourInstall, ourRollback}
 use borrow.Author.Needs.{needs}
 use Rattle.fitter.proofs.make_call.Statement.{statement}
 use Rattle.fitter.proofs.make_call.Tie as tie

@@ -1,18 +1,18 @@
--- `fitter::make_calls` meets its contract. Assumes nothing.
+-- `fitter::make_calls` meets its contract.
 use mathlib.Core.Path.{_≡_, refl, sym, ap, _∙_}
 use mathlib.Core.Bool.{true}
 use Prim.Native.Nat.{_+_, _-_, _≤_, _<_}
 use native.Mathlib.Omega.{arith}
 use lib.ListN.{length, length-set}
 use lib.Seq.{sets, length-sets}
-use Rattle.history.specs.Calls.{Files, run, answers}
-use Rattle.word.specs.First.{tabulate}
-use Rattle.replay.specs.Lists.{callEnd, isCall, callStart}
-use Rattle.replay.specs.Replays.{codes}
-use Rattle.replay.specs.Facts.{leftBy, codesOf}
-use Rattle.replay.proofs.Laws.Lists.{start-next, list-call}
-use Rattle.replay.proofs.Laws.Replays.{left-made, codes-made}
-use Rattle.demands.specs.Demands.{ourInstall, ourRollback}
+use Rattle.journal_history.specs.Calls.{Files, run, answers}
+use Rattle.numbers_definitions.specs.First.{tabulate}
+use Rattle.calls_replay.specs.Lists.{callEnd, isCall, callStart}
+use Rattle.calls_replay.specs.Replays.{codes}
+use Rattle.calls_replay.specs.Requires.{leftBy, codesOf}
+use Rattle.calls_replay.proofs.Laws.Lists.{start-next, list-call}
+use Rattle.calls_replay.proofs.Laws.Replays.{left-made, codes-made}
+use Rattle.calls_demands.specs.Demands.{ourInstall, ourRollback}
 use borrow.Author.Needs.{needs}
 use Rattle.fitter.proofs.make_calls.Statement.{statement}
 use Rattle.fitter.proofs.make_calls.Tie as tie

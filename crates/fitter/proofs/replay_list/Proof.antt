@@ -1,11 +1,11 @@
--- `fitter::replay_list` meets its contract. Assumes nothing.
+-- `fitter::replay_list` meets its contract.
 use mathlib.Core.Path.{sym, ap, _∙_}
 use native.Mathlib.Omega.{arith}
 use lib.Seq.{sets}
-use Rattle.history.specs.Calls.{Files}
-use Rattle.replay.specs.Facts.{leftBy, codesOf}
-use Rattle.replay.proofs.Laws.Replays.{no-places, ran}
-use Rattle.demands.specs.Demands.{ourInstall, ourRollback}
+use Rattle.journal_history.specs.Calls.{Files}
+use Rattle.calls_replay.specs.Requires.{leftBy, codesOf}
+use Rattle.calls_replay.proofs.Laws.Replays.{no-places, ran}
+use Rattle.calls_demands.specs.Demands.{ourInstall, ourRollback}
 use borrow.Author.Needs.{needs}
 use Rattle.fitter.proofs.replay_list.Statement.{statement}
 use Rattle.fitter.proofs.replay_list.Tie as tie

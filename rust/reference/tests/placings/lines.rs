@@ -1,4 +1,4 @@
-//! The lines, as the program `placings` writes them.
+//! The lines, as the program `tests_placings` writes them.
 
 use reference::object::{Header, Object};
 use reference::order::{Order, Window};

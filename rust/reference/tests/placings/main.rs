@@ -1,6 +1,6 @@
-//! `crates/placings/stdin` and `stdout`, worked out anew: pairs of an object
+//! `crates/tests_placings/stdin` and `stdout`, worked out anew: pairs of an object
 //! and an order, right ones and wrong ones, and how this fitter places them.
-//! The program `placings` writes the same lines from the proved functions.
+//! The program `tests_placings` writes the same lines from the proved functions.
 
 mod given;
 mod lines;
@@ -16,7 +16,7 @@ use testing::build::Fit;
 use testing::commands::Commands;
 use testing::compared::{assert_stated, Compared};
 
-const PROGRAM: Compared = Compared("placings");
+const PROGRAM: Compared = Compared("tests_placings");
 
 /// What the program is asked, and where it comes from. What is stated is
 /// stated by hand or by a vector.

@@ -1,4 +1,4 @@
-//! The commands that ask the program these questions; `readings` says what
+//! The commands that ask the program these questions; `tests_readings` says what
 //! they are.
 
 use crate::{Case, Question};

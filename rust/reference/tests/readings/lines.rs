@@ -1,4 +1,4 @@
-//! The lines, as the program `readings` writes them.
+//! The lines, as the program `tests_readings` writes them.
 
 use std::iter::once;
 

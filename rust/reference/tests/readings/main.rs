@@ -1,6 +1,6 @@
-//! `crates/readings/stdin` and `stdout`, worked out anew: objects and orders,
+//! `crates/tests_readings/stdin` and `stdout`, worked out anew: objects and orders,
 //! right ones and wrong ones, and what this fitter reads in them. The program
-//! `readings` writes the same lines from the proved functions.
+//! `tests_readings` writes the same lines from the proved functions.
 
 mod commands;
 mod given;
@@ -14,7 +14,7 @@ use std::collections::BTreeMap;
 use lines::{answer, line};
 use testing::compared::{assert_stated, Compared};
 
-const PROGRAM: Compared = Compared("readings");
+const PROGRAM: Compared = Compared("tests_readings");
 
 /// What the program is asked.
 pub enum Question {

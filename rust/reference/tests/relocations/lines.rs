@@ -1,4 +1,4 @@
-//! The lines, as the program `relocations` writes them.
+//! The lines, as the program `tests_relocations` writes them.
 
 use reference::object::{Header, Object};
 use reference::order::Order;

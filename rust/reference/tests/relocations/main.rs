@@ -1,6 +1,6 @@
-//! `crates/relocations/stdin` and `stdout`, worked out anew: pairs of an object
+//! `crates/tests_relocations/stdin` and `stdout`, worked out anew: pairs of an object
 //! and an order, right ones and wrong ones, and how this fitter relocates them.
-//! The program `relocations` writes the same lines from the proved functions.
+//! The program `tests_relocations` writes the same lines from the proved functions.
 
 mod data;
 mod distances;
@@ -27,7 +27,7 @@ use testing::build::{journal, Fit};
 use testing::commands::Commands;
 use testing::compared::{assert_stated, Compared};
 
-const PROGRAM: Compared = Compared("relocations");
+const PROGRAM: Compared = Compared("tests_relocations");
 
 /// Number and place.
 pub type Answer = (u32, u32);

@@ -1,0 +1,113 @@
+-- The answer of an exported function can be read: number and place stand where the header says, for all inputs.
+use mathlib.Core.Logic.{_⊎_, inl, inr}
+use mathlib.Core.Path.{_≡_, refl, ap}
+use mathlib.Core.List.{List}
+use Prim.Native.Nat.{ℕ, _^_, _≤_, _<_}
+use native.Mathlib.Omega.{arith}
+use lib.ListN.{length}
+use Rattle.plan_pieces.specs.Answers.{Answer, done, packed}
+use Rattle.elf_read.specs.Headers.{sectionCount}
+use Rattle.elf_read.specs.Entries.{relocationCount}
+use Rattle.elf_check.specs.Requires.{SoundObject}
+use Rattle.elf_check.specs.Sound.{SoundSection}
+use Rattle.elf_check.proofs.Laws.Bounds.{relocations-few}
+use Rattle.journal_history.specs.Calls.{Files}
+use Rattle.calls_demands.specs.Rules.{HeaderWell, TableWell}
+use Rattle.calls_demands.specs.First.{rule, nil, Checks, HoldBelow, FirstBroken, table}
+use Rattle.calls_demands.specs.Demands.{rollbackTable, ourInstall, ourRollback}
+use Rattle.calls_demands.specs.Codes.{Reads, FitGives, TakeBackGives}
+use Rattle.calls_demands.proofs.Laws.First.{Told, PlacesBelow, named-number, named-place}
+use Rattle.calls_demands.proofs.Laws.Rules.{well-header}
+use Rattle.calls_demands.proofs.Laws.Told.{told}
+use Rattle.calls_demands.proofs.Laws.Demands.{OfInstall, OfRollback, numbers-are, rollback-numbers, rollback-told}
+
+-- ---- places are numbers of 32 bits
+
+few-relocations : (object : List ℕ) → HeaderWell object → TableWell object → ((i : ℕ) → i < sectionCount object → SoundSection object i) → relocationCount object ≤ 2 ^ 32
+few-relocations object h t s =
+    let sound : SoundObject object =
+    record {
+      header = well-header object h;
+      table = record { header = h .long; few = t .few; inside = t .inside };
+      entries = t .entry-size;
+      some = t .some;
+      sections = s;
+    } in
+    omega (arith, relocations-few object sound)
+
+places : (object order : List ℕ) (f : Files) → PlacesBelow (2 ^ 32) (table object order f)
+unfolding table
+places object order f = (
+  omega arith,
+  λ h1. (
+    omega arith,
+    λ h2. (
+      omega arith,
+      λ h3. (
+        omega arith,
+        λ h4. (
+          omega arith,
+          λ h5.
+              let t : TableWell object = h5 0 (omega arith) .0 in
+              let few : sectionCount object ≤ 2 ^ 32 = omega (arith, t .few) in (
+                few,
+                λ hs. (
+                  omega arith,
+                  λ h6. (
+                    omega arith,
+                    λ h7. (
+                      few,
+                      λ h8. (few-relocations object (h4 0 (omega arith) .0) t (λ i l. hs i l .0), λ h9. (omega arith, λ h15. tt)),
+                    ),
+                  ),
+                ),
+              ),
+        ),
+      ),
+    ),
+  ),
+)
+
+rollback-places : (f : Files) → PlacesBelow (2 ^ 32) (rollbackTable f)
+unfolding rollbackTable
+rollback-places f = (omega arith, λ h1. (omega arith, λ h3. (omega arith, λ h16. tt)))
+
+-- ---- a small number and a place of 32 bits are read out again
+
+unpacked : (a : Answer) → a .number < 256 → a .place < 2 ^ 32 → Reads (packed a) a
+unpacked a n p = record { number-is = omega arith; place-is = omega arith; rest-is = omega arith; fits = omega arith }
+
+place-of : (c : Checks) (a : Answer) → PlacesBelow (2 ^ 32) c → Told c a → a .place < 2 ^ 32
+place-of c a b (inl t) = omega (arith, ap (λ x. x .place) (t .0))
+place-of c a b (inr w) = named-place (2 ^ 32) c a b w
+
+-- ---- the two calls
+
+module _ (object order : List ℕ) (f : Files) where
+  pub fit-gives : FitGives (ourInstall object order f .answer .number)
+  fit-gives = go (told object order f)
+    where
+      go : Told (table object order f) (ourInstall object order f .answer) → ourInstall object order f .answer .number ≤ 15
+      go (inl t) = omega (arith, ap (λ x. x .number) (t .0))
+      go (inr b) = named-number OfInstall (table object order f) _ (numbers-are object order f) b .1
+
+  pub fit-reads : Reads (packed (ourInstall object order f .answer)) (ourInstall object order f .answer)
+  fit-reads =
+      unpacked (ourInstall object order f .answer) (omega (arith, fit-gives)) (place-of (table object order f) _ (places object order f) (told object order f))
+
+module _ (f : Files) where
+  pub take-back-gives : TakeBackGives (ourRollback f .answer .number)
+  take-back-gives = go (rollback-told f)
+    where
+      go : Told (rollbackTable f) (ourRollback f .answer) → TakeBackGives (ourRollback f .answer .number)
+      go (inl t) = inl (ap (λ x. x .number) (t .0))
+      go (inr b) = inr (named-number OfRollback (rollbackTable f) _ (rollback-numbers f) b)
+
+  small : TakeBackGives (ourRollback f .answer .number) → ourRollback f .answer .number < 256
+  small (inl e) = omega arith
+  small (inr (inl e)) = omega arith
+  small (inr (inr (inl e))) = omega arith
+  small (inr (inr (inr e))) = omega arith
+
+  pub take-back-reads : Reads (packed (ourRollback f .answer)) (ourRollback f .answer)
+  take-back-reads = unpacked (ourRollback f .answer) (small take-back-gives) (place-of (rollbackTable f) _ (rollback-places f) (rollback-told f))

@@ -1,0 +1,278 @@
+-- Each test of checks 9 to 14 is the rule that it is named for.
+use mathlib.Core.Logic.{_⊎_, inl, inr, ⊎-elim}
+use mathlib.Core.Path.{_≡_, refl, sym, ap, _∙_, subst}
+use mathlib.Core.Bool.{Bool, true, false, not, cond, _&&_, _||_}
+use mathlib.Core.List.{List}
+use Prim.Native.Nat.{ℕ, zero, suc, _+_, _/_, _%_, _^_, _≤_}
+use native.Mathlib.Omega.{arith}
+use lib.Dec.{leb, ltb, eqb}
+use lib.IntN.{ℤ, pos, negsuc, natAbs}
+use borrow.Author.Tests.{leb-true, ltb-true, eqb-true, le-leb, lt-ltb, eq-eqb, not-true}
+use Rattle.numbers_definitions.specs.Bytes.{leAt}
+use Rattle.numbers_definitions.specs.Whole.{within, even, minus}
+use Rattle.numbers_definitions.specs.Powers.{ceilPower}
+use Rattle.numbers_definitions.proofs.Laws.Tests.{and-left, and-right, never, both, one-of-two, or-two, given, implied}
+use Rattle.instructions_fields.specs.declared.Field.{Field}
+use Rattle.instructions_riscv.specs.declared.forms.Form.{Form}
+use Rattle.instructions_riscv.specs.Forms.{hasForm}
+use Rattle.instructions_riscv.specs.Ranges.{distance, rangeOf, reaches}
+use Rattle.relocations_types.specs.declared.Calculation.{Calculation}
+use Rattle.relocations_types.specs.declared.Calculation.the-variants.{Absolute, PcRelative, Distance, BothHalves, HighPcRelative, HighAbsolute, LowAbsolute, LowOfPair, Add, Sub, Set}
+use Rattle.relocations_types.specs.declared.Decision.{Decision}
+use Rattle.relocations_types.specs.declared.Decision.the-variants.{Marker, Align, Store, Refused}
+use Rattle.placing_symbols.specs.declared.SymbolValue.{SymbolValue}
+use Rattle.elf_read.specs.Headers.{addressWidth}
+use Rattle.relocations_rela.specs.declared.sites.Site.{Site}
+use Rattle.relocations_rela.specs.declared.shape.Previous.{Previous}
+use Rattle.relocations_rela.specs.declared.shape.Previous.the-variants.{Nothing, Entry}
+use Rattle.relocations_rela.specs.Sites.{entry, decisionAt, offset, A, P, found}
+use Rattle.relocations_decisions.specs.Effects.{isStore, isRefused, takesPair, needsPair}
+use Rattle.relocations_rela.specs.Shape.{neverFalls, end, staysInside, previous, sharesPlace, clears, noOverlap, addendWell, shapeWell}
+use Rattle.relocations_values.specs.Pairs.{pairOf}
+use Rattle.relocations_values.specs.declared.pairs.Pair.the-variants.{At, NotOne}
+use Rattle.relocations_rules.specs.Rules.{isResolved, symbol, inTarget, symbolWell, isData, standsWell, asksWell, formWell, isOne, pairWell, reachesWell, distanceWell, boundaryWell}
+use Rattle.calls_demands.specs.Rules.{Within, Even, SharePlace, PaddingWell, ShapeWell, SymbolWell, FormWell, PairWell, Reachable, ReachWell, BoundaryWell}
+
+-- 24 and 25 are no markers
+needs-store : (d : Decision) → needsPair d ≡ true → isStore d ≡ true
+needs-store (Store c f form n) e = refl
+needs-store Marker e = never e
+needs-store Align e = never e
+needs-store Refused e = never e
+
+-- whole numbers
+
+within-is : (back ahead : ℕ) (z : ℤ) → within back ahead z ≡ true → Within back ahead z
+unfolding within
+within-is back ahead (pos n) e = leb-true _ _ e
+within-is back ahead (negsuc n) e = leb-true _ _ e
+
+is-within : (back ahead : ℕ) (z : ℤ) → Within back ahead z → within back ahead z ≡ true
+unfolding within
+is-within back ahead (pos n) h = le-leb _ _ h
+is-within back ahead (negsuc n) h = le-leb _ _ h
+
+even-is : (z : ℤ) → even z ≡ true → Even z
+unfolding even
+even-is z e = eqb-true _ _ e
+
+is-even : (z : ℤ) → Even z → even z ≡ true
+unfolding even
+is-even z h = eq-eqb _ _ h
+
+module _ (object : List ℕ) (x : Site) where
+  -- ---- 9
+
+  rises : (j : ℕ) → neverFalls object x j ≡ true → (i : ℕ) → suc i ≡ j → offset object x i ≤ offset object x j
+  unfolding neverFalls
+  rises zero e i p = absurd (omega arith)
+  rises (suc m) e i p = let same : m ≡ i = omega arith in subst (λ k. offset object x k ≤ offset object x (suc m)) same (leb-true _ _ e)
+
+  rises-back : (j : ℕ) → ((i : ℕ) → suc i ≡ j → offset object x i ≤ offset object x j) → neverFalls object x j ≡ true
+  unfolding neverFalls
+  rises-back zero h = refl
+  rises-back (suc m) h = le-leb _ _ (h m refl)
+
+  shares : (i j : ℕ) → sharesPlace object x i j ≡ true → SharePlace object x i j
+  unfolding sharesPlace
+  shares i j e =
+      record {
+        same-offset = eqb-true _ _ (search (and-left, and-right));
+        stacked = ltb-true _ _ (search (and-left, and-right));
+        same-width = eqb-true _ _ (search (and-left, and-right));
+      }
+
+  shares-back : (i j : ℕ) → SharePlace object x i j → sharesPlace object x i j ≡ true
+  unfolding sharesPlace
+  shares-back i j s = both _ _ (both _ _ (eq-eqb _ _ (s .same-offset)) (lt-ltb _ _ (s .stacked))) (eq-eqb _ _ (s .same-width))
+
+  cleared : (j : ℕ) → noOverlap object x j ≡ true → isStore (decisionAt object x j) ≡ true → (i : ℕ) → previous object x j ≡ Entry i
+      → (end object x i ≤ offset object x j) ⊎ SharePlace object x i j
+  unfolding noOverlap
+  cleared j e s i p =
+      let clear : clears object x j (Entry i) ≡ true = ap (clears object x j) (sym p) ∙ given (isStore (decisionAt object x j)) (clears object x j (previous object x j)) e s in
+      ⊎-elim (λ a. inl (leb-true _ _ a)) (λ a. inr (shares i j a)) (one-of-two (leb (end object x i) (offset object x j)) (sharesPlace object x i j) clear)
+
+  clear-back : (j : ℕ) → (isStore (decisionAt object x j) ≡ true → (i : ℕ) → previous object x j ≡ Entry i → (end object x i ≤ offset object x j) ⊎ SharePlace object x i j)
+      → noOverlap object x j ≡ true
+  unfolding noOverlap
+  clear-back j h = implied (isStore (decisionAt object x j)) (clears object x j (previous object x j)) (λ s. go s (previous object x j) refl)
+    where
+      go : isStore (decisionAt object x j) ≡ true → (p : Previous) → previous object x j ≡ p → clears object x j p ≡ true
+      go s Nothing e = refl
+      go s (Entry i) e =
+          or-two (leb (end object x i) (offset object x j)) (sharesPlace object x i j)
+          (⊎-elim (λ a. inl (le-leb _ _ a)) (λ a. inr (shares-back i j a)) (h s i e))
+
+  abbrev addendIs : Decision → ℕ → Bool
+  addendIs d j = addendWell d (offset object x j) (x .target .size) (A object x j)
+
+  padded : (j : ℕ) → addendIs Align j ≡ true → PaddingWell object x j
+  padded j e =
+      record {
+        in-range = within-is 0 4094 (A object x j) (search (and-left, and-right));
+        is-even = even-is (A object x j) (search (and-left, and-right));
+        inside = leb-true _ _ (search (and-left, and-right));
+      }
+
+  no-addend-of : (d : Decision) (j : ℕ) → addendIs d j ≡ true → needsPair d ≡ true → natAbs (A object x j) ≡ 0
+  no-addend-of (Store c f form n) j e p = eqb-true _ _ (given (takesPair c) (eqb (natAbs (A object x j)) 0) e p)
+  no-addend-of Marker j e p = never p
+  no-addend-of Align j e p = never p
+  no-addend-of Refused j e p = never p
+
+  addend-back : (d : Decision) (j : ℕ) → (d ≡ Align → PaddingWell object x j) → (needsPair d ≡ true → natAbs (A object x j) ≡ 0) → addendIs d j ≡ true
+  addend-back (Store c f form n) j h g = implied (takesPair c) (eqb (natAbs (A object x j)) 0) (λ p. eq-eqb _ _ (g p))
+  addend-back Align j h g = let w = h refl in both _ _ (both _ _ (is-within 0 4094 (A object x j) (w .in-range)) (is-even (A object x j) (w .is-even))) (le-leb _ _ (w .inside))
+  addend-back Marker j h g = refl
+  addend-back Refused j h g = refl
+
+  pub shape-well : (j : ℕ) → shapeWell object x j ≡ true → ShapeWell object x j
+  unfolding shapeWell staysInside
+  shape-well j e =
+      let known : not (isRefused (decisionAt object x j)) ≡ true = search (and-left, and-right) in
+      let rising : neverFalls object x j ≡ true = search (and-left, and-right) in
+      let inside : staysInside object x j ≡ true = search (and-left, and-right) in
+      let clear : noOverlap object x j ≡ true = search (and-left, and-right) in
+      let addend : addendIs (decisionAt object x j) j ≡ true = search (and-left, and-right) in
+      record {
+        known = not-true _ known;
+        rising = rises j rising;
+        inside = leb-true _ _ inside;
+        clear = cleared j clear;
+        padding = λ a. padded j (ap (λ d. addendIs d j) (sym a) ∙ addend);
+        no-addend = no-addend-of (decisionAt object x j) j addend;
+      }
+
+  pub well-shape : (j : ℕ) → ShapeWell object x j → shapeWell object x j ≡ true
+  unfolding shapeWell staysInside
+  well-shape j s =
+      both _ _ (both _ _ (both _ _ (both _ _ (ap not (s .known)) (rises-back j (s .rising))) (le-leb _ _ (s .inside))) (clear-back j (s .clear)))
+      (addend-back (decisionAt object x j) j (s .padding) (s .no-addend))
+
+  -- ---- 10
+
+  pub symbol-well : (j : ℕ) (value : SymbolValue) → symbolWell object x j value ≡ true → SymbolWell object x j value
+  unfolding symbolWell inTarget
+  symbol-well j value e =
+      let d : Decision = decisionAt object x j in
+      let rest : Bool = not (needsPair d) || inTarget object x j in
+      let all : isStore d ≡ true → (isResolved value && rest) ≡ true = given (isStore d) (isResolved value && rest) e in
+      let there : needsPair d ≡ true → inTarget object x j ≡ true = λ p. given (needsPair d) (inTarget object x j) (and-right (isResolved value) rest (all (needs-store d p))) p in
+      record {
+        resolves = λ s. and-left (isResolved value) rest (all s);
+        above = λ p. ltb-true _ _ (and-left (ltb 0 (entry object x j .symbol)) (eqb (symbol object x j .section) (x .index)) (there p));
+        in-target = λ p. eqb-true _ _ (and-right (ltb 0 (entry object x j .symbol)) (eqb (symbol object x j .section) (x .index)) (there p));
+      }
+
+  pub well-symbol : (j : ℕ) (value : SymbolValue) → SymbolWell object x j value → symbolWell object x j value ≡ true
+  unfolding symbolWell inTarget
+  well-symbol j value w =
+      implied (isStore (decisionAt object x j)) (isResolved value && (not (needsPair (decisionAt object x j)) || inTarget object x j))
+      (λ s.
+      both _ _ (w .resolves s)
+      (implied (needsPair (decisionAt object x j)) (inTarget object x j) (λ p. both _ _ (lt-ltb _ _ (w .above p)) (eq-eqb _ _ (w .in-target p)))))
+
+  -- ---- 11
+
+  pub form-well : (j : ℕ) → formWell object x j ≡ true → FormWell object x j
+  unfolding formWell standsWell
+  form-well j e c f form n is code =
+      let w : ℕ = leAt n (found object x) (offset object x j) in
+      let stands : standsWell form (P object x j) w ≡ true = ap (λ d. asksWell d (P object x j) (found object x) (offset object x j)) (sym is) ∙ e in
+      let kept : (eqb (P object x j % 2) 0 && hasForm form w (w / 2 ^ 32)) ≡ true = rw code at stands in
+      (eqb-true _ _ (and-left (eqb (P object x j % 2) 0) (hasForm form w (w / 2 ^ 32)) kept), and-right (eqb (P object x j % 2) 0) (hasForm form w (w / 2 ^ 32)) kept)
+
+  pub well-form : (j : ℕ) → FormWell object x j → formWell object x j ≡ true
+  unfolding formWell standsWell
+  well-form j h = go (decisionAt object x j) h
+    where
+      go : (d : Decision)
+          → ((c : Calculation) (f : Field) (form : Form) (n : ℕ) → d ≡ Store c f form n → isData form ≡ false
+          → (P object x j % 2 ≡ 0) × (hasForm form (leAt n (found object x) (offset object x j)) (leAt n (found object x) (offset object x j) / 2 ^ 32) ≡ true))
+          → asksWell d (P object x j) (found object x) (offset object x j) ≡ true
+      go (Store c f form n) h = split (isData form) refl
+        where
+          split : (b : Bool) → isData form ≡ b → standsWell form (P object x j) (leAt n (found object x) (offset object x j)) ≡ true
+          split true e = rw e
+          split false e = let k = h c f form n refl e in rw (e, eq-eqb (P object x j % 2) 0 (k .0)) (k .1)
+      go Marker h = refl
+      go Align h = refl
+      go Refused h = refl
+
+  -- ---- 12
+
+  is-one : (b : Bool) (k : ℕ) → isOne (cond b (At k) NotOne) ≡ b
+  is-one true k = refl
+  is-one false k = refl
+
+  pub pair-well : (j : ℕ) → pairWell object x j ≡ true → PairWell object x j
+  unfolding pairWell pairOf
+  pair-well j e p = eqb-true _ _ (sym (is-one _ _) ∙ given (needsPair (decisionAt object x j)) (isOne (pairOf object x (symbol object x j .value))) e p)
+
+  pub well-pair : (j : ℕ) → PairWell object x j → pairWell object x j ≡ true
+  unfolding pairWell pairOf
+  well-pair j h = implied (needsPair (decisionAt object x j)) (isOne (pairOf object x (symbol object x j .value))) (λ p. is-one _ _ ∙ eq-eqb _ _ (h p))
+
+  -- ---- 13
+
+  reached : (w : ℕ) (c : Calculation) (f : Field) (t p : ℕ) → reachesWell w c f t p ≡ true → Reachable w c f t p
+  unfolding reaches
+  reached w Distance f t p e =
+      let z : ℤ = distance t p in
+      record {
+        is-even = even-is z (and-left (even z) (within (rangeOf f .back) (rangeOf f .ahead) z) e);
+        in-range = within-is (rangeOf f .back) (rangeOf f .ahead) z (and-right (even z) (within (rangeOf f .back) (rangeOf f .ahead) z) e);
+      }
+  reached w BothHalves f t p e = even-is (pos (minus w t p)) e
+  reached w Absolute f t p e = tt
+  reached w PcRelative f t p e = tt
+  reached w HighPcRelative f t p e = tt
+  reached w HighAbsolute f t p e = tt
+  reached w LowAbsolute f t p e = tt
+  reached w LowOfPair f t p e = tt
+  reached w Add f t p e = tt
+  reached w Sub f t p e = tt
+  reached w Set f t p e = tt
+
+  reaches-back : (w : ℕ) (c : Calculation) (f : Field) (t p : ℕ) → Reachable w c f t p → reachesWell w c f t p ≡ true
+  unfolding reaches
+  reaches-back w Distance f t p r =
+      both _ _ (is-even (distance t p) (r .is-even)) (is-within (rangeOf f .back) (rangeOf f .ahead) (distance t p) (r .in-range))
+  reaches-back w BothHalves f t p r = is-even (pos (minus w t p)) r
+  reaches-back w Absolute f t p r = refl
+  reaches-back w PcRelative f t p r = refl
+  reaches-back w HighPcRelative f t p r = refl
+  reaches-back w HighAbsolute f t p r = refl
+  reaches-back w LowAbsolute f t p r = refl
+  reaches-back w LowOfPair f t p r = refl
+  reaches-back w Add f t p r = refl
+  reaches-back w Sub f t p r = refl
+  reaches-back w Set f t p r = refl
+
+  pub reach-well : (j t : ℕ) → distanceWell (addressWidth object) (decisionAt object x j) t (P object x j) ≡ true → ReachWell object x j t
+  reach-well j t e c f form n is = reached (addressWidth object) c f t (P object x j) (ap (λ d. distanceWell (addressWidth object) d t (P object x j)) (sym is) ∙ e)
+
+  pub well-reach : (j t : ℕ) → ReachWell object x j t → distanceWell (addressWidth object) (decisionAt object x j) t (P object x j) ≡ true
+  well-reach j t h = go (decisionAt object x j) h
+    where
+      go : (d : Decision) → ((c : Calculation) (f : Field) (form : Form) (n : ℕ) → d ≡ Store c f form n → Reachable (addressWidth object) c f t (P object x j))
+          → distanceWell (addressWidth object) d t (P object x j) ≡ true
+      go (Store c f form n) h = reaches-back (addressWidth object) c f t (P object x j) (h c f form n refl)
+      go Marker h = refl
+      go Align h = refl
+      go Refused h = refl
+
+  -- ---- 14
+
+  pub boundary-well : (j : ℕ) → boundaryWell (decisionAt object x j) (P object x j) (A object x j) ≡ true → BoundaryWell object x j
+  boundary-well j e a = eqb-true _ _ (ap (λ d. boundaryWell d (P object x j) (A object x j)) (sym a) ∙ e)
+
+  pub well-boundary : (j : ℕ) → BoundaryWell object x j → boundaryWell (decisionAt object x j) (P object x j) (A object x j) ≡ true
+  well-boundary j h = go (decisionAt object x j) h
+    where
+      go : (d : Decision) → (d ≡ Align → (P object x j + natAbs (A object x j)) % ceilPower 32 (natAbs (A object x j) + 2) ≡ 0) → boundaryWell d (P object x j) (A object x j) ≡ true
+      go Align h = eq-eqb _ _ (h refl)
+      go (Store c f form n) h = refl
+      go Marker h = refl
+      go Refused h = refl

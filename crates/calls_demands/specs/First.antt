@@ -1,0 +1,82 @@
+-- "Checks run in this order. Rows go upward. Records go by RELA row, then file order, each through 9 to 14 before the next." What the first
+-- broken rule is, over any list of checks, and document 01's table as such a list.
+use mathlib.Core.Logic.{_⊎_}
+use mathlib.Core.Path.{_≡_}
+use mathlib.Core.List.{List}
+use Prim.Native.Nat.{ℕ, _^_, _<_}
+use lib.ListN.{length}
+use Rattle.elf_read.specs.Headers.{addressWidth, sectionCount}
+use Rattle.elf_read.specs.Entries.{relocationCount}
+use Rattle.order_format.specs.Orders.{base}
+use Rattle.elf_check.specs.Sound.{SoundSection}
+use Rattle.journal_format.specs.Journals.{Sound}
+use Rattle.plan_pieces.specs.Answers.{Answer, says}
+use Rattle.journal_history.specs.Calls.{Files}
+use Rattle.calls_demands.specs.Rules.{OrderWell, WindowWell, HeaderWell, TableWell, PlacedAsAllocated, ValuedIfUndefined, PlacedIfAllocated, Shape, SymbolResolves, FormIs, OnePair, Reaches, OnBoundary, Room}
+
+-- rules with their numbers, each a proposition on a place; all of them are looked at for one place before the next
+pub data Line : Type 1 where
+  nil : Line
+  rule : ℕ → (ℕ → Type 0) → Line → Line
+
+-- checks, one after the other: the places of each, and its rules
+pub data Checks : Type 1 where
+  none : Checks
+  check : ℕ → Line → Checks → Checks
+
+-- ---- every rule holds
+
+-- at a place
+abbrev pub HoldAt : Line → ℕ → Type 0
+HoldAt nil p = Unit {0}
+HoldAt (rule n R l) p = R p × HoldAt l p
+
+-- at every place below m
+abbrev pub HoldBelow : Line → ℕ → Type 0
+HoldBelow l m = (p : ℕ) → p < m → HoldAt l p
+
+abbrev pub AllHold : Checks → Type 0
+AllHold none = Unit {0}
+AllHold (check m l c) = HoldBelow l m × AllHold c
+
+-- ---- the first that is broken, which an answer names by its number and its place
+
+-- the rules before it hold at its place
+abbrev pub BrokenAt : Line → Answer → Type 0
+BrokenAt nil a = ⊥
+BrokenAt (rule n R l) a = ((a ≡ says n (a .place)) × (R (a .place) → ⊥)) ⊎ (R (a .place) × BrokenAt l a)
+
+-- the checks before it hold, and its own check at the places below
+abbrev pub FirstBroken : Checks → Answer → Type 0
+FirstBroken none a = ⊥
+FirstBroken (check m l c) a = ((a .place < m) × HoldBelow l (a .place) × BrokenAt l a) ⊎ (HoldBelow l m × FirstBroken c a)
+
+-- ---- document 01's table
+
+-- a check with place 0 alone
+abbrev pub one : ℕ → Type 0 → Checks → Checks
+one n R c = check 1 (rule n (λ _. R) nil) c
+
+-- a check with one rule, at each place below m
+abbrev pub each : ℕ → ℕ → (ℕ → Type 0) → Checks → Checks
+each m n R c = check m (rule n R nil) c
+
+unfoldable pub table : List ℕ → List ℕ → Files → Checks
+table object order f =
+    one 1 (Sound (f .journal) (length (f .image)))
+    (one 2 (OrderWell order)
+    (one 3 (WindowWell (addressWidth object) (base order) (length (f .image)))
+    (one 4 (HeaderWell object)
+    (one 5 (TableWell object)
+    (each (sectionCount object) 5 (SoundSection object)
+    (each (2 ^ 32) 6 (PlacedAsAllocated object order)
+    (each (2 ^ 32) 7 (ValuedIfUndefined object order)
+    (each (sectionCount object) 8 (PlacedIfAllocated object order (length (f .image)))
+    (check (relocationCount object)
+    (rule 9 (Shape object order)
+    (rule 10 (SymbolResolves object order)
+    (rule 11 (FormIs object order)
+    (rule 12 (OnePair object order)
+    (rule 13 (Reaches object order)
+    (rule 14 (OnBoundary object order) nil))))))
+    (one 15 (Room object order (f .journal)) none))))))))))

@@ -1,0 +1,270 @@
+-- Every rule of document 01 as a proposition, in the order of the numbers of "When the fitter says no".
+use mathlib.Core.Logic.{_⊎_}
+use mathlib.Core.Path.{_≡_}
+use mathlib.Core.Bool.{true, false}
+use mathlib.Core.List.{List}
+use Prim.Native.Nat.{ℕ, suc, _+_, _*_, _/_, _%_, _^_, _≤_, _<_}
+use lib.ListN.{length, getD}
+use lib.IntN.{ℤ, pos, negsuc, natAbs}
+use Rattle.numbers_definitions.specs.Bytes.{leAt}
+use Rattle.numbers_definitions.specs.Whole.{minus}
+use Rattle.numbers_definitions.specs.Powers.{ceilPower}
+use Rattle.instructions_fields.specs.declared.Field.{Field}
+use Rattle.instructions_riscv.specs.declared.forms.Form.{Form}
+use Rattle.instructions_riscv.specs.Forms.{hasForm}
+use Rattle.instructions_riscv.specs.declared.ranges.Range.{Range}
+use Rattle.instructions_riscv.specs.Ranges.{distance, rangeOf}
+use Rattle.relocations_types.specs.declared.Calculation.{Calculation}
+use Rattle.relocations_types.specs.declared.Calculation.the-variants.{Absolute, PcRelative, Distance, BothHalves, HighPcRelative, HighAbsolute, LowAbsolute, LowOfPair, Add, Sub, Set}
+use Rattle.relocations_types.specs.declared.Decision.the-variants.{Align, Store}
+use Rattle.elf_read.specs.Headers.{addressWidth, sectionTable, sectionCount, maxSections}
+use Rattle.elf_read.specs.Sections.{sectionAt, allocated, isAllocated, symbolTable}
+use Rattle.elf_read.specs.Entries.{symbolAt, symbolCount, relocationCount, locationOf}
+use Rattle.elf_header.specs.Headers.{maxObject}
+use Rattle.elf_check.specs.Sound.{SoundSection}
+use Rattle.order_format.specs.Orders.{maxPlacements, maxExternals, base, placementCount, placement, externalsStart, externalCount, external}
+use Rattle.order_format.specs.Windows.{maxImage}
+use Rattle.order_lookup.specs.Values.{isGiven, externalValue}
+use Rattle.order_lookup.specs.Addresses.{addresses, placedAt}
+use Rattle.journal_format.specs.Journals.{maxEntries, oldAt, count as countOf, held, Sound}
+use Rattle.plan_pieces.specs.declared.Span.{Span}
+use Rattle.journal_history.specs.Calls.{Files}
+use Rattle.placing_check.specs.Placing.{endOf, unit, hasBytes}
+use Rattle.placing_symbols.specs.declared.SymbolValue.{SymbolValue}
+use Rattle.relocations_rela.specs.declared.sites.Site.{Site}
+use Rattle.relocations_rela.specs.declared.shape.Previous.the-variants.{Entry}
+use Rattle.relocations_rela.specs.Sites.{siteAt, count, entry, decisionAt, offset, A, P, found}
+use Rattle.relocations_decisions.specs.Effects.{isStore, isRefused, stackWidth, needsPair}
+use Rattle.relocations_rela.specs.Shape.{end, previous}
+use Rattle.relocations_values.specs.Values.{valueAt, targetAt}
+use Rattle.relocations_values.specs.Pairs.{isPair, howMany}
+use Rattle.relocations_rules.specs.Rules.{isResolved, symbol, isData}
+use Rattle.calls_demands.specs.Laid.{IsSpan}
+
+-- ---- 1 "ledger unsound": `Sound` of the journal
+
+-- ---- 2 "order bytes malformed": "sections in a fixed order, each after its u32 count"
+
+pub record OrderWell (order : List ℕ) : Type 0 where
+  -- "window base (count 1; one u32)"
+  pub long : 16 ≤ length order
+  pub one-base : leAt 4 order 0 ≡ 1
+  -- "placements (count at most 32; row u32, address u32)"
+  pub few-placements : placementCount order ≤ maxPlacements
+  pub placements-inside : externalsStart order ≤ length order
+  -- "outside values (count at most 1,024; symbol u32, value u32)"
+  pub few-externals : externalCount order ≤ maxExternals
+  -- "no byte left over"
+  pub whole : length order ≡ externalsStart order + 8 * externalCount order
+  -- "Both lists strictly ascending by index"
+  pub placements-ascend : (i : ℕ) → suc i < placementCount order → placement order i .index < placement order (suc i) .index
+  pub externals-ascend : (i : ℕ) → suc i < externalCount order → external order i .index < external order (suc i) .index
+
+-- ---- 3 "window rule broken": "the image covers base up to base + its length; length 0 to 65,536, end at most 2^32", for
+-- addresses of w bits 2^w
+
+pub record WindowWell (w start len : ℕ) : Type 0 where
+  pub short : len ≤ maxImage
+  pub ends : start + len ≤ 2 ^ w
+
+-- ---- 4 "header or file length"
+
+pub record HeaderWell (object : List ℕ) : Type 0 where
+  -- "at most 65,536 bytes", "at least 52 bytes"
+  pub short : length object ≤ maxObject
+  pub long : 52 ≤ length object
+  -- "magic 7F 45 4C 46, class 1, data 1, ident version 1, e_type 1, e_machine 243, e_version 1, e_ehsize 52"
+  pub magic : leAt 4 object 0 ≡ 0x464C457F
+  pub class-32 : leAt 1 object 4 ≡ 1
+  pub little-endian : leAt 1 object 5 ≡ 1
+  pub ident-version : leAt 1 object 6 ≡ 1
+  pub relocatable : leAt 2 object 16 ≡ 1
+  pub risc-v : leAt 2 object 18 ≡ 243
+  pub version : leAt 4 object 20 ≡ 1
+  pub header-size : leAt 2 object 40 ≡ 52
+
+-- ---- 5 "row table (place 0) or row rule"
+
+-- "e_shentsize 40, 1 to 32 rows of 40 bytes, wholly inside the file"
+pub record TableWell (object : List ℕ) : Type 0 where
+  pub entry-size : leAt 2 object 46 ≡ 40
+  pub some : 1 ≤ sectionCount object
+  pub few : sectionCount object ≤ maxSections
+  pub inside : sectionTable object + 40 * sectionCount object ≤ length object
+
+-- of section i: `SoundSection` of `elf_check`, a field for each sentence
+
+-- ---- 6 "placements differ from allocated rows": a number is placed exactly when it is that of an allocated section
+
+abbrev pub PlacedAsAllocated : List ℕ → List ℕ → ℕ → Type 0
+PlacedAsAllocated object order i = isGiven (placedAt order i) ≡ isAllocated object i
+
+-- ---- 7 "outside value for a wrong symbol": "only undefined symbols (section 0, index above 0)"
+
+pub record Undefined (object : List ℕ) (k : ℕ) : Type 0 where
+  pub above : 0 < k
+  pub there : k < symbolCount object
+  pub no-section : symbolAt object (sectionAt object (symbolTable object)) k .section ≡ 0
+
+abbrev pub ValuedIfUndefined : List ℕ → List ℕ → ℕ → Type 0
+ValuedIfUndefined object order k = isGiven (externalValue order k) ≡ true → Undefined object k
+
+-- ---- 8 "placing", of an allocated section i
+
+pub record PlacedWell (object a : List ℕ) (start len i : ℕ) : Type 0 where
+  -- "an address is a multiple of the row's alignment (0 counts as 1)"
+  pub aligned : getD a i 0 % unit (sectionAt object i .alignment) ≡ 0
+  -- "the row ends at or below 2^32"
+  pub ends : endOf object a i ≤ 2 ^ addressWidth object
+  -- "a laid row of size above 0 lies in the window"
+  pub in-window : hasBytes (sectionAt object i) ≡ true → (start ≤ getD a i 0) × (endOf object a i ≤ start + len)
+  -- "two rows of size above 0 share no address, the higher row being at fault"
+  pub apart : (j : ℕ) → j < i → allocated (sectionAt object j) ≡ true → 0 < sectionAt object i .size → 0 < sectionAt object j .size
+      → (endOf object a j ≤ getD a i 0) ⊎ (endOf object a i ≤ getD a j 0)
+
+abbrev pub PlacedIfAllocated : List ℕ → List ℕ → ℕ → ℕ → Type 0
+PlacedIfAllocated object order len i = allocated (sectionAt object i) ≡ true → PlacedWell object (addresses order) (base order) len i
+
+-- ---- of a whole number: -back ≤ z ≤ ahead, and it is even
+
+abbrev pub Within : ℕ → ℕ → ℤ → Type 0
+Within back ahead (pos n) = n ≤ ahead
+Within back ahead (negsuc n) = suc n ≤ back
+
+abbrev pub Even : ℤ → Type 0
+Even z = natAbs z % 2 ≡ 0
+
+-- ---- 9 "type, offset, overlap, addend rule", of relocation j of a site
+
+-- "both are of 33..40, 52..56 with equal offset and width (SUB6 and SET6 have a width of their own)"
+pub record SharePlace (object : List ℕ) (x : Site) (i j : ℕ) : Type 0 where
+  pub same-offset : offset object x i ≡ offset object x j
+  pub stacked : 0 < stackWidth (decisionAt object x i)
+  pub same-width : stackWidth (decisionAt object x i) ≡ stackWidth (decisionAt object x j)
+
+-- ALIGN: "A even, 0 to 4,094, offset + A inside the row"
+pub record PaddingWell (object : List ℕ) (x : Site) (j : ℕ) : Type 0 where
+  pub in-range : Within 0 4094 (A object x j)
+  pub is-even : Even (A object x j)
+  pub inside : offset object x j + natAbs (A object x j) ≤ x .target .size
+
+pub record ShapeWell (object : List ℕ) (x : Site) (j : ℕ) : Type 0 where
+  -- "all others | refused"
+  pub known : isRefused (decisionAt object x j) ≡ false
+  -- "Record offsets never fall."
+  pub rising : (i : ℕ) → suc i ≡ j → offset object x i ≤ offset object x j
+  -- "The bytes touched lie in the row; a marker's offset is at most the row size."
+  pub inside : end object x j ≤ x .target .size
+  -- "A non-marker starts at or after the end of the previous non-marker, or" shares its place
+  pub clear : isStore (decisionAt object x j) ≡ true → (i : ℕ) → previous object x j ≡ Entry i → (end object x i ≤ offset object x j) ⊎ SharePlace object x i j
+  -- the addend rules of 43, and of 24 and 25: "A must be 0"
+  pub padding : decisionAt object x j ≡ Align → PaddingWell object x j
+  pub no-addend : needsPair (decisionAt object x j) ≡ true → natAbs (A object x j) ≡ 0
+
+-- ---- 10 "symbol does not resolve (24, 25: or is not in the target row)", for S
+
+pub record SymbolWell (object : List ℕ) (x : Site) (j : ℕ) (value : SymbolValue) : Type 0 where
+  -- "Markers skip 10."
+  pub resolves : isStore (decisionAt object x j) ≡ true → isResolved value ≡ true
+  -- "A PCREL_LO12 symbol is above 0 and defined in the record's own target row"
+  pub above : needsPair (decisionAt object x j) ≡ true → 0 < entry object x j .symbol
+  pub in-target : needsPair (decisionAt object x j) ≡ true → symbol object x j .section ≡ x .index
+
+-- ---- 11 "instruction form": "at an even address, as found in the object"; data may be anything anywhere
+
+abbrev pub FormWell : List ℕ → Site → ℕ → Type 0
+FormWell object x j =
+    (c : Calculation) (f : Field) (form : Form) (n : ℕ) → decisionAt object x j ≡ Store c f form n → isData form ≡ false
+    → (P object x j % 2 ≡ 0) × (hasForm form (leAt n (found object x) (offset object x j)) (leAt n (found object x) (offset object x j) / 2 ^ 32) ≡ true)
+
+-- ---- 12 "not exactly one partner": "There must be exactly one PCREL_HI20 record whose offset equals that value, among the same RELA row's
+-- records."
+
+abbrev pub PairWell : List ℕ → Site → ℕ → Type 0
+PairWell object x j = needsPair (decisionAt object x j) ≡ true → howMany (isPair object x (symbol object x j .value)) (count x) ≡ 1
+
+-- ---- 13 "distance odd or too far", for addresses of w bits, t, which is T, and p, which is P
+
+-- 16, 17, 44, 45: "the distance is the whole number T - P", "even", and in the field's range
+pub record InReach (r : Range) (z : ℤ) : Type 0 where
+  pub is-even : Even z
+  pub in-range : Within (r .back) (r .ahead) z
+
+-- 18, 19: "T - P modulo 2^32, which is even". No other type has such a rule.
+abbrev pub Reachable : ℕ → Calculation → Field → ℕ → ℕ → Type 0
+Reachable w Distance f t p = InReach (rangeOf f) (distance t p)
+Reachable w BothHalves f t p = Even (pos (minus w t p))
+Reachable w Absolute f t p = Unit {0}
+Reachable w PcRelative f t p = Unit {0}
+Reachable w HighPcRelative f t p = Unit {0}
+Reachable w HighAbsolute f t p = Unit {0}
+Reachable w LowAbsolute f t p = Unit {0}
+Reachable w LowOfPair f t p = Unit {0}
+Reachable w Add f t p = Unit {0}
+Reachable w Sub f t p = Unit {0}
+Reachable w Set f t p = Unit {0}
+
+abbrev pub ReachWell : List ℕ → Site → ℕ → ℕ → Type 0
+ReachWell object x j t = (c : Calculation) (f : Field) (form : Form) (n : ℕ) → decisionAt object x j ≡ Store c f form n → Reachable (addressWidth object) c f t (P object x j)
+
+-- ---- 14 "padding not on its boundary": "P + A a multiple of the smallest power of two at least A + 2"
+
+abbrev pub BoundaryWell : List ℕ → Site → ℕ → Type 0
+BoundaryWell object x j = decisionAt object x j ≡ Align → (P object x j + natAbs (A object x j)) % ceilPower 32 (natAbs (A object x j) + 2) ≡ 0
+
+-- ---- 9 to 14 of relocation k, "counted from 0 over all"
+
+module _ (object order : List ℕ) where
+  -- its site, and its number there
+  abbrev pub site : ℕ → Site
+  site k = siteAt object (addresses order) (locationOf object k .section)
+
+  abbrev pub entryOf : ℕ → ℕ
+  entryOf k = locationOf object k .entry
+
+  abbrev pub valueOf : ℕ → SymbolValue
+  valueOf k = valueAt object order (addresses order) (site k) (entryOf k)
+
+  abbrev pub Shape : ℕ → Type 0
+  Shape k = ShapeWell object (site k) (entryOf k)
+
+  abbrev pub SymbolResolves : ℕ → Type 0
+  SymbolResolves k = SymbolWell object (site k) (entryOf k) (valueOf k)
+
+  abbrev pub FormIs : ℕ → Type 0
+  FormIs k = FormWell object (site k) (entryOf k)
+
+  abbrev pub OnePair : ℕ → Type 0
+  OnePair k = PairWell object (site k) (entryOf k)
+
+  abbrev pub Reaches : ℕ → Type 0
+  Reaches k = ReachWell object (site k) (entryOf k) (targetAt object order (addresses order) (site k) (entryOf k))
+
+  abbrev pub OnBoundary : ℕ → Type 0
+  OnBoundary k = BoundaryWell object (site k) (entryOf k)
+
+-- ---- 15 "n is 16, or 136 + k + span above ledger length"
+
+pub record Room (object order journal : List ℕ) : Type 0 where
+  pub entry-free : countOf journal ≡ maxEntries → ⊥
+  pub bytes-free : (s : Span) → IsSpan object order s → oldAt + held journal + s .size ≤ length journal
+
+-- ---- all of them
+
+pub record Rules (object order : List ℕ) (f : Files) : Type 0 where
+  pub journal-sound : Sound (f .journal) (length (f .image))
+  pub order-well : OrderWell order
+  pub window-well : WindowWell (addressWidth object) (base order) (length (f .image))
+  pub header-well : HeaderWell object
+  pub table-well : TableWell object
+  pub sections-well : (i : ℕ) → i < sectionCount object → SoundSection object i
+  pub placements-match : (i : ℕ) → i < 2 ^ 32 → PlacedAsAllocated object order i
+  pub externals-match : (k : ℕ) → k < 2 ^ 32 → ValuedIfUndefined object order k
+  pub placed-well : (i : ℕ) → i < sectionCount object → PlacedIfAllocated object order (length (f .image)) i
+  pub shapes : (k : ℕ) → k < relocationCount object → Shape object order k
+  pub symbols-resolve : (k : ℕ) → k < relocationCount object → SymbolResolves object order k
+  pub forms-are : (k : ℕ) → k < relocationCount object → FormIs object order k
+  pub one-pair-each : (k : ℕ) → k < relocationCount object → OnePair object order k
+  pub all-reach : (k : ℕ) → k < relocationCount object → Reaches object order k
+  pub on-boundaries : (k : ℕ) → k < relocationCount object → OnBoundary object order k
+  pub room : Room object order (f .journal)

@@ -1,0 +1,68 @@
+// Install and rollback over lent bytes of object, order, image and journal.
+ghost use mathlib.Core.Path.{_≡_};
+ghost use mathlib.Core.Bool.{true};
+ghost use lib.ListN.{length};
+ghost use Rattle.journal_format.specs.Journals.{sound};
+ghost use Rattle.journal_history.specs.Calls.{files};
+ghost use Rattle.calls_judgement.specs.Requires.{Fitting};
+ghost use Rattle.calls_judge.specs.Answers.{answerOf};
+ghost use Rattle.calls_demands.specs.Demands.{ourInstall, ourRollback};
+use calls_judge::Answer;
+use calls_judge::is_done;
+use calls_judge::judge;
+use journal_undo::RolledBack;
+use order_format::OrderHeader;
+use order_format::Reading;
+
+// Check 15, and then the writing: the span's old bytes are recorded, and the sections laid.
+fn fit(
+    object: &[u8],
+    order: &[u8],
+    counts: OrderHeader,
+    image: &mut [u8],
+    journal: &mut [u8],
+) -> Answer
+    requires { ⌜ Fitting (now object) (now order) counts (length (now image)) × (sound (now journal) (length (now image)) ≡ true) ⌝ }
+    ensures { λ r. ⌜ record { answer = answerOf r; after = files (now (image .exit)) (now (journal .exit)) }
+        ≡ ourInstall (now (object .entry)) (now (order .entry)) (files (now (image .entry)) (now (journal .entry))) ⌝ }
+{
+    let addresses = order_lookup::address_array(order, counts);
+    let span = placing_span::span_of(object, addresses, counts.base);
+    if !journal_format::has_room(journal, span.size) {
+        return Answer::JournalFull;
+    }
+    journal_undo::save(image, journal, span);
+    calls_lay::lay(object, order, counts, image);
+    Answer::Done
+}
+
+// Installs an object by an order (document 01: a fit). Nothing is written before the last check has passed.
+pub fn install(object: &[u8], order: &[u8], image: &mut [u8], journal: &mut [u8]) -> Answer
+    ensures { λ r. ⌜ record { answer = answerOf r; after = files (now (image .exit)) (now (journal .exit)) }
+        ≡ ourInstall (now (object .entry)) (now (order .entry)) (files (now (image .entry)) (now (journal .entry))) ⌝ }
+{
+    if !journal_format::is_sound(journal, image.len()) {
+        return Answer::JournalUnsound;
+    }
+    let answer = judge(object, order, image.len());
+    if !is_done(answer) {
+        return answer;
+    }
+    match order_format::read_order(order) {
+        Reading::Malformed => answer,
+        Reading::WellFormed(counts) => fit(object, order, counts, image, journal),
+    }
+}
+
+// Undoes the newest standing install (document 01: a taking-back).
+pub fn rollback(image: &mut [u8], journal: &mut [u8]) -> Answer
+    ensures { λ r. ⌜ record { answer = answerOf r; after = files (now (image .exit)) (now (journal .exit)) }
+        ≡ ourRollback (files (now (image .entry)) (now (journal .entry))) ⌝ }
+{
+    match journal_undo::rollback(image, journal) {
+        RolledBack::Done => Answer::Done,
+        RolledBack::JournalUnsound => Answer::JournalUnsound,
+        RolledBack::ImageTooLong => Answer::WindowBroken,
+        RolledBack::NothingStands => Answer::NothingStands,
+    }
+}

@@ -1,0 +1,197 @@
+-- Laws of the judgement: what each check gives.
+use mathlib.Core.Path.{_≡_, refl, sym, ap, _∙_, subst}
+use mathlib.Core.Bool.{Bool, true, false, cond}
+use mathlib.Core.List.{List}
+use Prim.Native.Nat.{ℕ}
+use native.Mathlib.Omega.{arith}
+use lib.Dec.{ltb, eqb}
+use borrow.Author.Tests.{ltb-true}
+use Rattle.numbers_definitions.proofs.Laws.Tests.{never}
+use Rattle.numbers_definitions.specs.First.{first}
+use Rattle.numbers_definitions.proofs.Laws.First.{first-at}
+use Rattle.order_format.specs.declared.OrderHeader.{OrderHeader}
+use Rattle.order_format.specs.declared.Reading.the-variants.{Malformed, WellFormed}
+use Rattle.order_format.specs.Orders.{base, wellFormed, reading}
+use Rattle.order_format.specs.Windows.{windowAllowed}
+use Rattle.order_lookup.specs.Addresses.{addresses}
+use Rattle.order_format.proofs.Laws.Sound.{Sound, orderHeaderOf, wellFormed-sound, reading-sound, sound-reading, sound-counts, sound-wellFormed}
+use Rattle.elf_check.specs.declared.ObjectCheck.{ObjectCheck}
+use Rattle.elf_check.specs.declared.ObjectCheck.the-variants.{Passed, BadHeader, BadSection}
+use Rattle.elf_check.specs.Rules.{objectCheck}
+use Rattle.elf_read.specs.Headers.{addressWidth}
+use Rattle.elf_read.specs.Entries.{relocationCount}
+use Rattle.plan_pieces.specs.Answers.{Answer, says}
+use Rattle.plan_pieces.specs.Plans.{Piece, refused, plan}
+use Rattle.placing_match.specs.declared.Fault.{Fault}
+use Rattle.placing_match.specs.declared.Fault.the-variants.{Nowhere, At}
+use Rattle.placing_match.specs.Placements.{placementCheck}
+use Rattle.placing_match.specs.Externals.{externalCheck}
+use Rattle.placing_check.specs.Placing.{placingCheck}
+use Rattle.relocations_rules.specs.declared.Finding.{Finding}
+use Rattle.relocations_rules.specs.declared.Finding.the-variants.{Kept, BadShape, BadSymbol, BadForm, NoPair, OutOfReach, OffBoundary}
+use Rattle.relocations_rules.specs.declared.RelocationCheck.{RelocationCheck}
+use Rattle.relocations_rules.specs.declared.RelocationCheck.the-variants.{Passed as AllKept, Broken}
+use Rattle.relocations_rules.specs.Search.{number, findingOf, isBroken, relocationCheck}
+use Rattle.calls_judgement.specs.Judgement.{afterObject, afterFault, afterRelocations, planOf, judgement}
+use Rattle.calls_judgement.specs.Requires.{Readable, Named, Placeable, Fitting}
+
+-- ---- orders
+
+pub formed : (order : List ℕ) (counts : OrderHeader) → reading order ≡ WellFormed counts → wellFormed order ≡ true
+formed order counts e =
+    let s = reading-sound order counts e in
+    sound-wellFormed order (subst (Sound order) (sound-counts order counts s) s)
+
+not-formed : (order : List ℕ) → reading order ≡ Malformed → wellFormed order ≡ false
+unfolding reading
+not-formed order e = go (wellFormed order) refl e
+  where
+    go : (b : Bool) → wellFormed order ≡ b → cond b (WellFormed (orderHeaderOf order)) Malformed ≡ Malformed → wellFormed order ≡ false
+    go true q r =
+        let z : _≡_ {A = ℕ} 0 1 = cc in
+        absurd (omega arith)
+    go false q r = q
+
+-- ---- relocations
+
+-- what is found broken breaks a rule, and has a number
+pub broken-is : (object order a : List ℕ) (f : Finding) (k : ℕ) → relocationCheck object order a ≡ Broken f k → isBroken f ≡ true
+unfolding relocationCheck
+broken-is object order a f k e = go (ltb (first p (relocationCount object)) (relocationCount object)) refl e
+  where
+    p : ℕ → Bool
+    p m = isBroken (findingOf object order a m)
+
+    go : (b : Bool) → ltb (first p (relocationCount object)) (relocationCount object) ≡ b
+        → cond b (Broken (findingOf object order a (first p (relocationCount object))) (first p (relocationCount object))) AllKept ≡ Broken f k → isBroken f ≡ true
+    go true q r =
+        let same : findingOf object order a (first p (relocationCount object)) ≡ f = cc in
+        ap isBroken (sym same) ∙ first-at p (relocationCount object) (ltb-true _ _ q)
+    go false q r =
+        let z : _≡_ {A = ℕ} 0 1 = cc in
+        absurd (omega arith)
+
+pub some-number : (f : Finding) → isBroken f ≡ true → eqb (number f) 0 ≡ false
+some-number Kept e = never e
+some-number BadShape e = refl
+some-number BadSymbol e = refl
+some-number BadForm e = refl
+some-number NoPair e = refl
+some-number OutOfReach e = refl
+some-number OffBoundary e = refl
+
+-- ---- the verdict at each check
+
+module _ (object order : List ℕ) (len : ℕ) where
+  pub gives-2 : reading order ≡ Malformed → judgement object order len ≡ refused (says 2 0)
+  unfolding judgement
+  gives-2 e = rw (not-formed order e)
+
+  module _ (counts : OrderHeader) where
+    pub gives-3 : reading order ≡ WellFormed counts → windowAllowed (addressWidth object) (base order) len ≡ false → judgement object order len ≡ refused (says 3 0)
+    unfolding judgement
+    gives-3 e w = rw (formed order counts e, w)
+
+    pub gives-4 : reading order ≡ WellFormed counts → windowAllowed (addressWidth object) (base order) len ≡ true → objectCheck object ≡ BadHeader → judgement object order len ≡ refused (says 4 0)
+    unfolding judgement
+    gives-4 e w o = rw (formed order counts e, w, o)
+
+    pub gives-5 : (i : ℕ) → reading order ≡ WellFormed counts → windowAllowed (addressWidth object) (base order) len ≡ true → objectCheck object ≡ BadSection i → judgement object order len ≡ refused (says 5 i)
+    unfolding judgement
+    gives-5 i e w o = rw (formed order counts e, w, o)
+
+    pub gives-6 : (i : ℕ) → Readable object order counts len → placementCheck object order ≡ At i → judgement object order len ≡ refused (says 6 i)
+    unfolding judgement
+    gives-6 i r p = rw (formed order counts (r .reading-is), r .window, r .object-is, p)
+
+    pub gives-7 : (k : ℕ) → Readable object order counts len → placementCheck object order ≡ Nowhere → externalCheck object order ≡ At k → judgement object order len ≡ refused (says 7 k)
+    unfolding judgement
+    gives-7 k r p x = rw (formed order counts (r .reading-is), r .window, r .object-is, p, x)
+
+    pub gives-8 : (i : ℕ) → Named object order counts len → placingCheck object (addresses order) (base order) len ≡ At i → judgement object order len ≡ refused (says 8 i)
+    unfolding judgement
+    gives-8 i n p =
+        let r = n .readable in
+        rw (formed order counts (r .reading-is), r .window, r .object-is, n .placements, n .externals, p)
+
+    pub gives-9-to-14 : (f : Finding) (k : ℕ) → Placeable object order counts len → relocationCheck object order (addresses order) ≡ Broken f k
+        → judgement object order len ≡ refused (says (number f) k)
+    unfolding judgement
+    gives-9-to-14 f k p e =
+        let n = p .named in
+        let r = n .readable in
+        rw (formed order counts (r .reading-is), r .window, r .object-is, n .placements, n .externals, p .placing, e)
+
+    pub gives-plan : Fitting object order counts len → judgement object order len ≡ plan (planOf object order)
+    unfolding judgement
+    gives-plan f =
+        let p = f .placeable in
+        let n = p .named in
+        let r = n .readable in
+        rw (formed order counts (r .reading-is), r .window, r .object-is, n .placements, n .externals, p .placing, f .relocations)
+
+-- ---- a plan is given only where every check passes
+
+pub record Fits (object order : List ℕ) (len : ℕ) (ps : List Piece) : Type 0 where
+  pub counts : OrderHeader
+  pub fitting : Fitting object order counts len
+  pub plan-is : planOf object order ≡ ps
+
+wrong : {A : Type 0} (a : Answer) (ps : List Piece) → refused a ≡ plan ps → A
+wrong a ps e =
+    let z : _≡_ {A = ℕ} 0 1 = cc in
+    absurd (omega arith)
+
+pub plan-fits : (object order : List ℕ) (len : ℕ) (ps : List Piece) → judgement object order len ≡ plan ps → Fits object order len ps
+unfolding judgement
+plan-fits object order len ps h =
+    go (wellFormed order) refl (windowAllowed (addressWidth object) (base order) len) refl (objectCheck object) refl (placementCheck object order) refl (externalCheck object order) refl
+    (placingCheck object (addresses order) (base order) len) refl (relocationCheck object order (addresses order)) refl h
+  where
+    go : (a : Bool) → wellFormed order ≡ a → (b : Bool) → windowAllowed (addressWidth object) (base order) len ≡ b → (c : ObjectCheck) → objectCheck object ≡ c
+        → (d : Fault) → placementCheck object order ≡ d → (e : Fault) → externalCheck object order ≡ e
+        → (f : Fault) → placingCheck object (addresses order) (base order) len ≡ f → (g : RelocationCheck) → relocationCheck object order (addresses order) ≡ g
+        → cond a (cond b (afterObject c (afterFault 6 d (afterFault 7 e (afterFault 8 f (afterRelocations g (plan (planOf object order))))))) (refused (says 3 0))) (refused (says 2 0)) ≡ plan ps
+        → Fits object order len ps
+    go false p₁ b p₂ c p₃ d p₄ e p₅ f p₆ g p₇ h = wrong (says 2 0) ps h
+    go true p₁ false p₂ c p₃ d p₄ e p₅ f p₆ g p₇ h = wrong (says 3 0) ps h
+    go true p₁ true p₂ BadHeader p₃ d p₄ e p₅ f p₆ g p₇ h = wrong (says 4 0) ps h
+    go true p₁ true p₂ (BadSection i) p₃ d p₄ e p₅ f p₆ g p₇ h = wrong (says 5 i) ps h
+    go true p₁ true p₂ Passed p₃ (At i) p₄ e p₅ f p₆ g p₇ h = wrong (says 6 i) ps h
+    go true p₁ true p₂ Passed p₃ Nowhere p₄ (At i) p₅ f p₆ g p₇ h = wrong (says 7 i) ps h
+    go true p₁ true p₂ Passed p₃ Nowhere p₄ Nowhere p₅ (At i) p₆ g p₇ h = wrong (says 8 i) ps h
+    go true p₁ true p₂ Passed p₃ Nowhere p₄ Nowhere p₅ Nowhere p₆ (Broken x k) p₇ h = wrong (says (number x) k) ps h
+    go true p₁ true p₂ Passed p₃ Nowhere p₄ Nowhere p₅ Nowhere p₆ AllKept p₇ h =
+        let s = wellFormed-sound order p₁ in
+        record {
+          counts = orderHeaderOf order;
+          fitting = record {
+            placeable = record {
+              named = record {
+                readable = record { reading-is = sound-reading order (orderHeaderOf order) s; window = p₂; object-is = p₃ };
+                placements = p₄;
+                externals = p₅;
+              };
+              placing = p₆;
+            };
+            relocations = p₇;
+          };
+          plan-is = cc;
+        }
+
+-- ---- from a plan back to the checks
+
+module _ (object order : List ℕ) (len : ℕ) where
+  pub done-fits : (counts : OrderHeader) → judgement object order len ≡ plan (planOf object order) → reading order ≡ WellFormed counts → Fitting object order counts len
+  done-fits counts e r =
+      let f = plan-fits object order len (planOf object order) e in
+      let told : WellFormed (f .counts) ≡ WellFormed counts = sym (f .fitting .placeable .named .readable .reading-is) ∙ r in
+      let same : f .counts ≡ counts = cc in
+      subst (λ n. Fitting object order n len) same (f .fitting)
+
+  pub done-formed : judgement object order len ≡ plan (planOf object order) → reading order ≡ Malformed → ⊥
+  done-formed e r =
+      let f = plan-fits object order len (planOf object order) e in
+      let told : WellFormed (f .counts) ≡ Malformed = sym (f .fitting .placeable .named .readable .reading-is) ∙ r in
+      let z : _≡_ {A = ℕ} 0 1 = cc in
+      omega arith

@@ -1,0 +1,68 @@
+// Laying the plan of an install that passed every check into the image. Nothing in it can fail.
+ghost use mathlib.Core.Path.{_≡_};
+ghost use mathlib.Core.Bool.{true};
+ghost use Prim.Native.Nat.{_+_, _≤_, _<_};
+ghost use lib.ListN.{length};
+ghost use lib.Seq.{sets};
+ghost use Rattle.order_lookup.specs.Addresses.{addresses as «the-addresses»};
+ghost use Rattle.elf_read.specs.Headers.{sectionCount};
+ghost use Rattle.elf_read.specs.Sections.{sectionAt, loaded};
+ghost use Rattle.plan_pieces.specs.Plans.{overwritten};
+ghost use Rattle.relocations_bytes.specs.Sections.{relocated};
+ghost use Rattle.calls_judgement.specs.Judgement.{planOf};
+ghost use Rattle.calls_judgement.specs.Requires.{Fitting, withSection};
+use order_format::OrderHeader;
+use order_lookup::Addresses;
+use placing_check::has_bytes;
+
+// Lays section t into the image from `at` on.
+fn lay_at(
+    object: &[u8],
+    order: &[u8],
+    counts: OrderHeader,
+    addresses: Addresses,
+    t: usize,
+    at: usize,
+    image: &mut [u8],
+)
+    requires { ⌜ Fitting (now object) (now order) counts (length (now image)) × (addresses ≡ «the-addresses» (now order)) × (t < sectionCount (now object)) × (loaded (sectionAt (now object) t) ≡ true) × (at + sectionAt (now object) t .size ≤ length (now image)) ⌝ }
+    ensures { λ _. ⌜ now (image .exit) ≡ sets (now (image .entry)) at (relocated (now (object .entry)) (now (order .entry)) («the-addresses» (now (order .entry))) t) ⌝ }
+{
+    let h = elf_read::read_section(object, t);
+    let end = at + h.size as usize;
+    relocations_apply::lay_section(object, order, counts, addresses, t, &mut image[at..end]);
+}
+
+// Lays section t into the image, if it has bytes there.
+fn lay_one(
+    object: &[u8],
+    order: &[u8],
+    counts: OrderHeader,
+    addresses: Addresses,
+    t: usize,
+    image: &mut [u8],
+)
+    requires { ⌜ Fitting (now object) (now order) counts (length (now image)) × (addresses ≡ «the-addresses» (now order)) × (t < sectionCount (now object)) ⌝ }
+    ensures { λ _. ⌜ now (image .exit) ≡ withSection (now (object .entry)) (now (order .entry)) t (now (image .entry)) ⌝ }
+{
+    let h = elf_read::read_section(object, t);
+    if !has_bytes(h) {
+        return;
+    }
+    let at = addresses[t] - counts.base.0;
+    lay_at(object, order, counts, addresses, t, at as usize, image);
+}
+
+// Lays the loaded sections into the image, each after its relocations.
+pub fn lay(object: &[u8], order: &[u8], counts: OrderHeader, image: &mut [u8])
+    requires { ⌜ Fitting (now object) (now order) counts (length (now image)) ⌝ }
+    ensures { λ _. ⌜ now (image .exit) ≡ overwritten (now (image .entry)) (planOf (now (object .entry)) (now (order .entry))) ⌝ }
+{
+    let addresses = order_lookup::address_array(order, counts);
+    let n = elf_read::section_count(object);
+    let mut t: usize = 0;
+    while t < n {
+        lay_one(object, order, counts, addresses, t, image);
+        t += 1;
+    }
+}

@@ -1,4 +1,0 @@
-pub mod Headers
-pub mod Sections
-pub mod Entries
-pub mod Facts

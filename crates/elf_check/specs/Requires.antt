@@ -1,0 +1,25 @@
+-- What functions ask of their callers, and what later crates may take of an object that passes checks 4 and 5.
+use mathlib.Core.Path.{_≡_}
+use mathlib.Core.Bool.{true}
+use mathlib.Core.List.{List}
+use Prim.Native.Nat.{ℕ, _≤_, _<_}
+use Rattle.numbers_definitions.specs.Bytes.{leAt}
+use Rattle.elf_read.specs.Headers.{sectionSize, sectionCount}
+use Rattle.elf_read.specs.Sections.{sectionAt}
+use Rattle.elf_read.specs.Requires.{TableInside}
+use Rattle.elf_header.specs.Headers.{headerAllowed}
+use Rattle.elf_check.specs.Sound.{SoundSection}
+
+-- section i is in the table, and its info names a section of it
+pub record Targeted (s : List ℕ) (i : ℕ) : Type 0 where
+  pub table : TableInside s
+  pub there : i < sectionCount s
+  pub target : sectionAt s i .info < sectionCount s
+
+-- an object that passes checks 4 and 5: facts instead of tests
+pub record SoundObject (s : List ℕ) : Type 0 where
+  pub header : headerAllowed s ≡ true
+  pub table : TableInside s
+  pub entries : leAt 2 s 46 ≡ sectionSize
+  pub some : 1 ≤ sectionCount s
+  pub sections : (i : ℕ) → i < sectionCount s → SoundSection s i

@@ -1,0 +1,34 @@
+-- Document 01, "What the object may hold": the header of an ELF32 file (System V gABI).
+use Prim.Native.Nat.{ℕ, _+_, _*_}
+use mathlib.Core.Bool.{Bool, _&&_}
+use mathlib.Core.List.{List}
+use lib.ListN.{length}
+use lib.Dec.{leb, eqb}
+use Rattle.numbers_definitions.specs.Bytes.{leAt}
+use Rattle.elf_read.specs.Headers.{headerSize, sectionSize, sectionTable, sectionCount, maxSections}
+
+abbrev pub maxObject : ℕ
+maxObject = 65536
+
+-- check 4: "at least 52 bytes, magic 7F 45 4C 46, class 1, data 1, ident version 1, e_type 1, e_machine 243, e_version 1, e_ehsize 52",
+-- and "at most 65,536 bytes". e_flags refuses nothing.
+unfoldable pub headerAllowed : List ℕ → Bool
+headerAllowed s =
+    leb (length s) maxObject
+    && leb headerSize (length s)
+    && eqb (leAt 4 s 0) 0x464C457F
+    && eqb (leAt 1 s 4) 1
+    && eqb (leAt 1 s 5) 1
+    && eqb (leAt 1 s 6) 1
+    && eqb (leAt 2 s 16) 1
+    && eqb (leAt 2 s 18) 243
+    && eqb (leAt 4 s 20) 1
+    && eqb (leAt 2 s 40) headerSize
+
+-- check 5 at place 0: "e_shentsize 40, 1 to 32 rows of 40 bytes, wholly inside the file"
+unfoldable pub tableAllowed : List ℕ → Bool
+tableAllowed s =
+    eqb (leAt 2 s 46) sectionSize
+    && leb 1 (sectionCount s)
+    && leb (sectionCount s) maxSections
+    && leb (sectionTable s + sectionSize * sectionCount s) (length s)

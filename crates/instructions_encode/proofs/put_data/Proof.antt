@@ -1,0 +1,52 @@
+-- `instructions_encode::put_data` meets its contract.
+use mathlib.Core.Path.{sym, ap, _∙_}
+use native.Mathlib.Nat.{mod-eq-of-lt}
+use native.Mathlib.Omega.{arith}
+use Rattle.instructions_fields.specs.Layouts.{put}
+use Rattle.instructions_fields.specs.Fields.{dataLayout}
+use Rattle.instructions_fields.proofs.Laws.Fields.{put-six, put-whole}
+use borrow.Author.Needs.{needs}
+use Rattle.instructions_encode.proofs.put_data.Statement.{statement}
+use Rattle.instructions_encode.proofs.put_data.Tie as tie
+
+returns : tie.Need-returns
+returns c =
+    let a = c .before .before .args in
+    sym (put-six (a .word) (a .value)) ∙ sym (ap (λ n. put (dataLayout n) (a .word) (a .value)) (c .enum-told .given .1))
+
+returns-2 : tie.Need-returns-2
+returns-2 c =
+    let a = c .before .before .args in
+    sym (put-whole 7 (a .word) (a .value)) ∙ sym (ap (λ n. put (dataLayout n) (a .word) (a .value)) (c .enum-told2 .given .1))
+
+returns-3 : tie.Need-returns-3
+returns-3 c =
+    let a = c .before .before .args in
+    sym (put-whole 15 (a .word) (a .value)) ∙ sym (ap (λ n. put (dataLayout n) (a .word) (a .value)) (c .enum-told3 .given .1))
+
+returns-4 : tie.Need-returns-4
+returns-4 c =
+    let a = c .before .before .args in
+    sym (put-whole 31 (a .word) (a .value)) ∙ sym (ap (λ n. put (dataLayout n) (a .word) (a .value)) (c .enum-told4 .given .1))
+
+returns-5 : tie.Need-returns-5
+returns-5 c =
+    let a = c .before .before .args in
+    sym (mod-eq-of-lt (omega arith)) ∙ sym (put-whole 63 (a .word) (a .value)) ∙ sym (ap (λ n. put (dataLayout n) (a .word) (a .value)) (c .enum-told5 .given .1))
+
+pub put-data-spec : {M : Type 1} → statement M
+put-data-spec =
+    tie.close
+    (tie.spec
+    (λ c. search needs)
+    (λ c. search needs)
+    (λ c. search needs)
+    (λ c. search needs)
+    (λ c. search needs)
+    (λ c. search needs)
+    (λ c. search needs)
+    returns
+    returns-2
+    returns-3
+    returns-4
+    returns-5)

@@ -1,0 +1,76 @@
+-- Laws of the ranges of distances.
+use mathlib.Core.Path.{_≡_, refl}
+use Prim.Native.Nat.{ℕ, suc, _-_, _+_, _*_, _%_, _^_, _≤_, _<_}
+use mathlib.Core.Bool.{Bool, true, false}
+use lib.Dec.{ltb}
+use borrow.Author.Tests.{ltb-true, ltb-false, le-leb}
+use native.Mathlib.Omega.{arith}
+use lib.IntN.{ℤ, pos, negℤ}
+use Rattle.numbers_definitions.specs.Whole.{residue, signed, within, even}
+use Rattle.numbers_definitions.proofs.Laws.Tests.{and-left, and-right, and-true}
+use Rattle.numbers_definitions.proofs.Laws.Whole.{even-residue, within-spelt, sub-ahead, sub-back}
+use Rattle.instructions_fields.specs.declared.Field.{Field}
+use Rattle.instructions_fields.specs.declared.Field.the-variants.{B, J, Cb, Cj}
+use Rattle.instructions_fields.specs.Layouts.{read, put}
+use Rattle.instructions_fields.specs.Fields.{layout, valueBits, unit}
+use Rattle.instructions_riscv.specs.declared.ranges.Range.{Range}
+use Rattle.instructions_riscv.specs.Ranges.{distance, branch, jal, rvcBranch, rvcJump, anywhere, reaches}
+use Rattle.instructions_fields.proofs.Laws.Fields.{reads-back-signed}
+use Rattle.instructions_riscv.proofs.Laws.Halves.{at-least}
+
+-- both ends are reached, the next steps are not, and nothing odd is
+pub record Ends (r : Range) (back ahead : ℕ) : Type 0 where
+  pub ahead-in : reaches r (pos ahead) ≡ true
+  pub ahead-odd : reaches r (pos (ahead - 1)) ≡ false
+  pub ahead-out : reaches r (pos (ahead + 2)) ≡ false
+  pub back-in : reaches r (negℤ (pos back)) ≡ true
+  pub back-odd : reaches r (negℤ (pos (back - 1))) ≡ false
+  pub back-out : reaches r (negℤ (pos (back + 2))) ≡ false
+
+pub branch-ends : Ends branch 4096 4094
+unfolding reaches within even
+branch-ends = record { ahead-in = refl; ahead-odd = refl; ahead-out = refl; back-in = refl; back-odd = refl; back-out = refl }
+
+pub jal-ends : Ends jal 1048576 1048574
+unfolding reaches within even
+jal-ends = record { ahead-in = refl; ahead-odd = refl; ahead-out = refl; back-in = refl; back-odd = refl; back-out = refl }
+
+pub rvc-branch-ends : Ends rvcBranch 256 254
+unfolding reaches within even
+rvc-branch-ends = record { ahead-in = refl; ahead-odd = refl; ahead-out = refl; back-in = refl; back-odd = refl; back-out = refl }
+
+pub rvc-jump-ends : Ends rvcJump 2048 2046
+unfolding reaches within even
+rvc-jump-ends = record { ahead-in = refl; ahead-odd = refl; ahead-out = refl; back-in = refl; back-odd = refl; back-out = refl }
+
+-- every distance between two addresses of 32 bits is within the range of the other fields
+pub anywhere-reaches : (t p : ℕ) → t < 2 ^ 32 → p < 2 ^ 32 → reaches anywhere (distance t p) ≡ even (distance t p)
+unfolding reaches within
+anywhere-reaches t p ht hp = go (ltb t p) refl
+  where
+    go : (b : Bool) → ltb t p ≡ b → reaches anywhere (distance t p) ≡ even (distance t p)
+    go true e = rw (sub-back t p (ltb-true t p e), le-leb (suc (p - suc t)) 0xFFFFFFFF (omega arith)) (and-true _)
+    go false e = rw (sub-ahead t p (ltb-false t p e), le-leb (t - p) 0xFFFFFFFF (omega arith)) (and-true _)
+
+-- a distance that is reached, put into its field modulo 2^w, is read back whole
+reached-reads-back : (f : Field) (r : Range) (w b : ℕ) (z : ℤ) → valueBits f ≤ w → 1 ≤ w → unit f ≡ 2 → 2 * r .back ≤ 2 ^ valueBits f → 2 * r .ahead < 2 ^ valueBits f
+    → reaches r z ≡ true → signed (valueBits f) (read (layout f) (put (layout f) b (residue w z))) ≡ z
+unfolding reaches
+reached-reads-back f r w b z wide one two back ahead e =
+    let is-even : residue w z % 2 ≡ 0 = at-least (λ w. residue w z % 2 ≡ 0) 1 w one (λ k. even-residue k z (and-left (even z) _ e)) in
+    at-least (λ w. residue w z % 2 ≡ 0 → signed (valueBits f) (read (layout f) (put (layout f) b (residue w z))) ≡ z) (valueBits f) w wide
+    (λ j low. reads-back-signed f b j z (within-spelt (valueBits f) (r .back) (r .ahead) z back ahead (and-right (even z) _ e)) (rw two low))
+    is-even
+
+-- every jump and branch gives its whole distance, read by the manual
+pub branch-reads-back : (w b : ℕ) (z : ℤ) → 32 ≤ w → reaches branch z ≡ true → signed 13 (read (layout B) (put (layout B) b (residue w z))) ≡ z
+branch-reads-back w b z h e = reached-reads-back B branch w b z (omega arith) (omega arith) refl (omega arith) (omega arith) e
+
+pub jal-reads-back : (w b : ℕ) (z : ℤ) → 32 ≤ w → reaches jal z ≡ true → signed 21 (read (layout J) (put (layout J) b (residue w z))) ≡ z
+jal-reads-back w b z h e = reached-reads-back J jal w b z (omega arith) (omega arith) refl (omega arith) (omega arith) e
+
+pub rvc-branch-reads-back : (w b : ℕ) (z : ℤ) → 32 ≤ w → reaches rvcBranch z ≡ true → signed 9 (read (layout Cb) (put (layout Cb) b (residue w z))) ≡ z
+rvc-branch-reads-back w b z h e = reached-reads-back Cb rvcBranch w b z (omega arith) (omega arith) refl (omega arith) (omega arith) e
+
+pub rvc-jump-reads-back : (w b : ℕ) (z : ℤ) → 32 ≤ w → reaches rvcJump z ≡ true → signed 12 (read (layout Cj) (put (layout Cj) b (residue w z))) ≡ z
+rvc-jump-reads-back w b z h e = reached-reads-back Cj rvcJump w b z (omega arith) (omega arith) refl (omega arith) (omega arith) e

@@ -1,0 +1,52 @@
+// Instruction forms: which words a relocation asks for.
+ghost use mathlib.Core.Path.{_≡_};
+ghost use Rattle.instructions_riscv.specs.Forms.{hasForm, isJalr};
+
+// What is asked of the words at the place of a relocation: Any of data, LowI and LowS of an instruction that takes a low half,
+// CallPair of AUIPC and JALR.
+pub enum Form {
+    Any,
+    Lui,
+    Auipc,
+    Jal,
+    Branch,
+    LowI,
+    LowS,
+    CallPair,
+    CBranch,
+    CJump,
+}
+
+// Whether a word has the form; of a CALL, a word and the next.
+pub fn has_form(form: Form, word: u64, next: u64) -> bool
+    ensures { λ r. ⌜ r ≡ hasForm form word next ⌝ }
+{
+    let opcode = word % 128;
+    let rd = word / 128 % 32;
+    let funct3 = word / 4096 % 8;
+    let quadrant = word % 4;
+    let cfunct3 = word / 8192 % 8;
+    match form {
+        Form::Any => true,
+        Form::Lui => opcode == 0x37,
+        Form::Auipc => opcode == 0x17,
+        Form::Jal => opcode == 0x6f,
+        Form::Branch => opcode == 0x63,
+        Form::LowI => {
+            (opcode == 0x03)
+                | (opcode == 0x07)
+                | (((opcode == 0x13) | (opcode == 0x67)) & (funct3 == 0))
+        }
+        Form::LowS => (opcode == 0x23) | (opcode == 0x27),
+        Form::CallPair => (opcode == 0x17) & (rd != 0) & jalr_of(next, rd),
+        Form::CBranch => (quadrant == 1) & ((cfunct3 == 6) | (cfunct3 == 7)),
+        Form::CJump => (quadrant == 1) & ((cfunct3 == 1) | (cfunct3 == 5)),
+    }
+}
+
+// Whether a word is JALR through a register.
+fn jalr_of(word: u64, register: u64) -> bool
+    ensures { λ r. ⌜ r ≡ isJalr word register ⌝ }
+{
+    (word % 128 == 0x67) & (word / 4096 % 8 == 0) & (word / 32768 % 32 == register)
+}

@@ -1,0 +1,63 @@
+// How far jumps and branches reach.
+ghost use mathlib.Core.Path.{_≡_};
+ghost use Rattle.instructions_riscv.specs.Ranges.{distance, anywhere, rangeOf, reaches};
+use instructions_fields::Field;
+use numbers_definitions::Address;
+
+// Distances from -back to ahead.
+pub struct Range {
+    pub back: u32,
+    pub ahead: u32,
+}
+
+// The range of a field: that of its jump or branch, or every distance.
+pub fn range_of(field: Field) -> Range
+    ensures { λ r. ⌜ r ≡ rangeOf field ⌝ }
+{
+    match field {
+        Field::B => Range {
+            back: 4096,
+            ahead: 4094,
+        },
+        Field::J => Range {
+            back: 1048576,
+            ahead: 1048574,
+        },
+        Field::Cb => Range {
+            back: 256,
+            ahead: 254,
+        },
+        Field::Cj => Range {
+            back: 2048,
+            ahead: 2046,
+        },
+        Field::U => every_distance(),
+        Field::I => every_distance(),
+        Field::S => every_distance(),
+        Field::Call => every_distance(),
+        Field::Data(_) => every_distance(),
+    }
+}
+
+// The range that has every distance between two addresses.
+fn every_distance() -> Range
+    ensures { λ r. ⌜ r ≡ anywhere ⌝ }
+{
+    Range {
+        back: 0xffff_ffff,
+        ahead: 0xffff_ffff,
+    }
+}
+
+// Whether the distance from p to t is even and within a range.
+pub fn in_reach(range: Range, t: Address, p: Address) -> bool
+    ensures { λ r. ⌜ r ≡ reaches range (distance (t .0) (p .0)) ⌝ }
+{
+    if p.0 <= t.0 {
+        let d = t.0 - p.0;
+        (d % 2 == 0) & (d <= range.ahead)
+    } else {
+        let d = p.0 - t.0;
+        (d % 2 == 0) & (d <= range.back)
+    }
+}

@@ -1,0 +1,5 @@
+pub mod Writes
+pub mod Calls
+pub mod Histories
+pub mod Requires
+pub mod Records

@@ -1,0 +1,82 @@
+// Sums and differences that wrap at a width, signed words, and powers of two.
+ghost use mathlib.Core.Path.{_≡_};
+ghost use Rattle.numbers_definitions.specs.Whole.{residue, signed, plus, minus};
+ghost use Rattle.numbers_definitions.specs.Powers.{oneBit, ceilPower};
+
+// v + x, wrapping at the width of the field that holds v.
+pub fn add8(v: u8, x: u64) -> u8
+    ensures { λ r. ⌜ r ≡ plus 8 v x ⌝ }
+{
+    std::num::wrapping_add_u8(v, (x % 256) as u8)
+}
+
+pub fn add16(v: u16, x: u64) -> u16
+    ensures { λ r. ⌜ r ≡ plus 16 v x ⌝ }
+{
+    std::num::wrapping_add_u16(v, (x % 65536) as u16)
+}
+
+pub fn add32(v: u32, x: u64) -> u32
+    ensures { λ r. ⌜ r ≡ plus 32 v x ⌝ }
+{
+    std::num::wrapping_add_u32(v, (x % 4294967296) as u32)
+}
+
+pub fn add64(v: u64, x: u64) -> u64
+    ensures { λ r. ⌜ r ≡ plus 64 v x ⌝ }
+{
+    std::num::wrapping_add_u64(v, x)
+}
+
+// v - x, wrapping at the width of the field that holds v.
+pub fn sub8(v: u8, x: u64) -> u8
+    ensures { λ r. ⌜ r ≡ minus 8 v x ⌝ }
+{
+    std::num::wrapping_sub_u8(v, (x % 256) as u8)
+}
+
+pub fn sub16(v: u16, x: u64) -> u16
+    ensures { λ r. ⌜ r ≡ minus 16 v x ⌝ }
+{
+    std::num::wrapping_sub_u16(v, (x % 65536) as u16)
+}
+
+pub fn sub32(v: u32, x: u64) -> u32
+    ensures { λ r. ⌜ r ≡ minus 32 v x ⌝ }
+{
+    std::num::wrapping_sub_u32(v, (x % 4294967296) as u32)
+}
+
+pub fn sub64(v: u64, x: u64) -> u64
+    ensures { λ r. ⌜ r ≡ minus 64 v x ⌝ }
+{
+    std::num::wrapping_sub_u64(v, x)
+}
+
+// The signed number that a word of 32 bits spells, modulo 2^64.
+pub fn addend(word: u32) -> u64
+    ensures { λ r. ⌜ r ≡ residue 64 (signed 32 word) ⌝ }
+{
+    if word < 0x8000_0000 {
+        word as u64
+    } else {
+        word as u64 + 0xffff_ffff_0000_0000
+    }
+}
+
+// Whether exactly one bit of a number is set.
+pub fn one_bit(x: u32) -> bool
+    ensures { λ r. ⌜ r ≡ oneBit 32 x ⌝ }
+{
+    u32::count_ones(x) == 1
+}
+
+// The smallest power of two that is at least n.
+pub fn ceil_power(n: u32) -> u64
+    ensures { λ r. ⌜ r ≡ ceilPower 32 n ⌝ }
+{
+    if n == 0 {
+        return 1;
+    }
+    1u64 << (32 - u32::leading_zeros(n - 1))
+}

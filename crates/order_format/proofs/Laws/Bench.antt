@@ -1,0 +1,30 @@
+-- Document 01's bench order: "Order, window 0x20000000, row 1 at 0x20000008: 01000000 00000020 01000000 01000000 08000020 00000000, in
+-- file byte order."
+use mathlib.Core.Path.{_≡_, refl}
+use mathlib.Core.List.{List, [], _∷_}
+use Prim.Native.Nat.{ℕ}
+use Rattle.numbers_definitions.specs.Bytes.{le, leAt, bytes}
+use Rattle.numbers_definitions.specs.First.{first, everywhere, tabulate}
+use Rattle.numbers_definitions.specs.Places.{address}
+use Rattle.order_format.specs.declared.Reading.the-variants.{WellFormed}
+use Rattle.order_format.specs.Orders.{Order, encodeEntries, encode, entryAt, ascending, wellFormed, reading, orderOf}
+
+abbrev pub said : List ℕ
+said =
+    0x01 ∷ 0x00 ∷ 0x00 ∷ 0x00 ∷ 0x00 ∷ 0x00 ∷ 0x00 ∷ 0x20 ∷ 0x01 ∷ 0x00 ∷ 0x00 ∷ 0x00
+    ∷ 0x01 ∷ 0x00 ∷ 0x00 ∷ 0x00 ∷ 0x08 ∷ 0x00 ∷ 0x00 ∷ 0x20 ∷ 0x00 ∷ 0x00 ∷ 0x00 ∷ 0x00 ∷ []
+
+abbrev pub meant : Order
+meant = record { base = address 0x20000000; placements = record { index = 1; value = address 0x20000008 } ∷ []; externals = [] }
+
+pub encode-bench : encode meant ≡ said
+unfolding encode encodeEntries bytes
+encode-bench = refl
+
+pub reading-bench : reading said ≡ WellFormed (record { base = address 0x20000000; placements = 1; externals = 0 })
+unfolding reading wellFormed ascending everywhere first entryAt leAt le
+reading-bench = refl
+
+pub orderOf-bench : orderOf said ≡ meant
+unfolding orderOf tabulate entryAt leAt le
+orderOf-bench = refl

@@ -1,0 +1,15 @@
+-- Document 01, "Window": "the image covers base up to base + its length; length 0 to 65,536, end at most 2^32".
+use Prim.Native.Nat.{ℕ, _+_, _^_}
+use mathlib.Core.Bool.{Bool, _&&_}
+use lib.Dec.{leb}
+
+abbrev pub maxImage : ℕ
+maxImage = 65536
+
+-- check 3 of a rollback: the length only
+unfoldable pub lengthAllowed : ℕ → Bool
+lengthAllowed len = leb len maxImage
+
+-- check 3 of an install, where addresses have w bits
+unfoldable pub windowAllowed : ℕ → ℕ → ℕ → Bool
+windowAllowed w base len = lengthAllowed len && leb (base + len) (2 ^ w)

@@ -1,0 +1,14 @@
+-- Document 01's bench order, "row 1 at 0x20000008": the address is found.
+use mathlib.Core.Path.{_≡_, refl}
+use Rattle.numbers_definitions.specs.Bytes.{le, leAt}
+use Rattle.numbers_definitions.specs.First.{first}
+use Rattle.numbers_definitions.specs.Places.{address}
+use Rattle.order_format.specs.Orders.{entryAt}
+use Rattle.order_format.proofs.Laws.Bench.{said}
+use Rattle.order_lookup.specs.declared.Value.the-variants.{Given}
+use Rattle.order_lookup.specs.Values.{valueIn}
+use Rattle.order_lookup.specs.Addresses.{placedAt}
+
+pub placedAt-bench : placedAt said 1 ≡ Given (address 0x20000008)
+unfolding placedAt valueIn first entryAt leAt le
+placedAt-bench = refl

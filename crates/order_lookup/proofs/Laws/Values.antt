@@ -1,0 +1,76 @@
+-- The value that entries give a number.
+use mathlib.Core.Path.{_≡_, refl, sym, ap, _∙_}
+use mathlib.Core.Bool.{Bool, true, false, cond}
+use mathlib.Core.List.{List}
+use Prim.Native.Nat.{ℕ, _+_, _≤_, _<_}
+use native.Mathlib.Omega.{arith}
+use lib.Dec.{ltb, eqb}
+use borrow.Author.Tests.{lt-ltb, le-ltb, ltb-true, ltb-false, eq-eqb, ne-eqb}
+use borrow.Author.Count.{below-more}
+use Rattle.numbers_definitions.specs.First.{first}
+use Rattle.numbers_definitions.proofs.Laws.First.{first-is, first-below, first-at, first-le}
+use Rattle.order_format.specs.declared.Entry.{Entry}
+use Rattle.order_lookup.specs.declared.Value.the-variants.{Given, NotGiven}
+use Rattle.order_format.specs.Orders.{entryAt, ascending}
+use Rattle.order_lookup.specs.Values.{valueIn}
+use Rattle.order_format.proofs.Laws.Ascending.{ascending-lt}
+
+module _ (s : List ℕ) (at n k : ℕ) where
+  -- no entry has the number
+  pub valueIn-none : ((j : ℕ) → j < n → entryAt s at j .index ≡ k → ⊥) → valueIn s at n k ≡ NotGiven
+  unfolding valueIn
+  valueIn-none none =
+      let end : first (λ j. eqb (entryAt s at j .index) k) n ≡ n =
+      first-is (λ j. eqb (entryAt s at j .index) k) n n (omega arith) (λ j h. ne-eqb _ _ (none j h)) (λ h. absurd (omega arith)) in
+      rw (end, le-ltb n n (omega arith))
+
+  -- the numbers up to a place are below it, and from there on above it
+  pub valueIn-between : (m : ℕ) → ((j : ℕ) → j < m → entryAt s at j .index < k) → ((j : ℕ) → m ≤ j → j < n → k < entryAt s at j .index)
+      → valueIn s at n k ≡ NotGiven
+  valueIn-between m below above = valueIn-none (λ j h e. go j h e (ltb j m) refl)
+    where
+      go : (j : ℕ) → j < n → entryAt s at j .index ≡ k → (b : Bool) → ltb j m ≡ b → ⊥
+      go j h e true l = omega (arith, below j (ltb-true j m l))
+      go j h e false l = omega (arith, above j (ltb-false j m l) h)
+
+  -- of entries that ascend, the one that has the number gives it its value
+  pub valueIn-at : ascending (λ i. entryAt s at i .index) n ≡ true → (i : ℕ) → i < n → entryAt s at i .index ≡ k
+      → valueIn s at n k ≡ Given (entryAt s at i .value)
+  unfolding valueIn
+  valueIn-at a i h e =
+      let here : first (λ j. eqb (entryAt s at j .index) k) n ≡ i =
+      first-is (λ j. eqb (entryAt s at j .index) k) n i (omega arith)
+      (λ j l. ne-eqb (entryAt s at j .index) k (λ z. omega (arith, ascending-lt (λ i. entryAt s at i .index) n a j i l h)))
+      (λ l. eq-eqb _ _ e) in
+      rw (here, lt-ltb i n h)
+
+  -- the same of an entry that was read
+  pub valueIn-read : ascending (λ i. entryAt s at i .index) n ≡ true → (i : ℕ) (e : Entry) → e ≡ entryAt s at i → e .index ≡ k → i < n
+      → Given (e .value) ≡ valueIn s at n k
+  valueIn-read a i e here same h =
+      ap (λ (e : Entry). Given (e .value)) here
+      ∙ sym (valueIn-at a i h (sym (ap (λ (e : Entry). e .index) here) ∙ same))
+
+-- one more entry, which has another number, changes nothing
+pub valueIn-more : (s : List ℕ) (at n k : ℕ) → (entryAt s at n .index ≡ k → ⊥) → valueIn s at (n + 1) k ≡ valueIn s at n k
+unfolding valueIn
+valueIn-more s at n k other = go (ltb f n) refl
+  where
+    p : ℕ → Bool
+    p j = eqb (entryAt s at j .index) k
+
+    f : ℕ
+    f = first p n
+
+    go : (b : Bool) → ltb f n ≡ b
+        → cond (ltb (first p (n + 1)) (n + 1)) (Given (entryAt s at (first p (n + 1)) .value)) NotGiven ≡ cond b (Given (entryAt s at f .value)) NotGiven
+    go true e =
+        let l : f < n = ltb-true f n e in
+        let same : first p (n + 1) ≡ f = first-is p (n + 1) f (omega arith) (first-below p n) (λ h. first-at p n l) in
+        rw (same, lt-ltb f (n + 1) (omega arith))
+    go false e =
+        let end : f ≡ n = omega (arith, ltb-false f n e, first-le p n) in
+        let none : (j : ℕ) → j < n + 1 → p j ≡ false =
+        below-more (λ j. p j ≡ false) n (λ j h. first-below p n j (omega arith)) (ne-eqb _ _ other) in
+        let last : first p (n + 1) ≡ n + 1 = first-is p (n + 1) (n + 1) (omega arith) none (λ h. absurd (omega arith)) in
+        rw (last, le-ltb (n + 1) (n + 1) (omega arith))

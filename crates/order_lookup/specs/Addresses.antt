@@ -1,0 +1,22 @@
+-- "The 32 row addresses travel as one array passed by value."
+use Prim.Native.Nat.{ℕ}
+use mathlib.Core.List.{List}
+use Rattle.numbers_definitions.specs.First.{tabulate}
+use Rattle.order_lookup.specs.declared.Value.{Value}
+use Rattle.order_lookup.specs.declared.Value.the-variants.{Given, NotGiven}
+use Rattle.elf_read.specs.Headers.{maxSections}
+use Rattle.order_format.specs.Orders.{placementsStart, placementCount}
+use Rattle.order_lookup.specs.Values.{valueIn}
+
+-- the address of a section, or 0, which means nothing, for one that the order does not place
+abbrev pub orZero : Value → ℕ
+orZero (Given a) = a .0
+orZero NotGiven = 0
+
+-- the address that an order gives a section, if it places it
+unfoldable pub placedAt : List ℕ → ℕ → Value
+placedAt s section = valueIn s placementsStart (placementCount s) section
+
+-- the array: an entry for each section number
+unfoldable pub addresses : List ℕ → List ℕ
+addresses s = tabulate (λ section. orZero (placedAt s section)) maxSections

@@ -1,0 +1,12 @@
+-- What inner functions ask of their callers.
+use mathlib.Core.Path.{_≡_}
+use mathlib.Core.Bool.{true}
+use mathlib.Core.List.{List}
+use Prim.Native.Nat.{ℕ, _+_, _*_, _≤_}
+use lib.ListN.{length}
+use Rattle.order_format.specs.Orders.{entrySize, entryAt, ascending}
+
+-- n entries from a place on lie in the order, and ascend
+pub record Searchable (s : List ℕ) (at n : ℕ) : Type 0 where
+  pub inside : at + entrySize * n ≤ length s
+  pub ascends : ascending (λ i. entryAt s at i .index) n ≡ true

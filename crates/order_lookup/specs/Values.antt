@@ -1,0 +1,24 @@
+-- The value that an order gives a number.
+use Prim.Native.Nat.{ℕ}
+use mathlib.Core.Bool.{Bool, true, false, cond}
+use mathlib.Core.List.{List}
+use lib.Dec.{ltb, eqb}
+use Rattle.numbers_definitions.specs.First.{first}
+use Rattle.order_format.specs.Orders.{entryAt, externalsStart, externalCount}
+use Rattle.order_lookup.specs.declared.Value.{Value}
+use Rattle.order_lookup.specs.declared.Value.the-variants.{Given, NotGiven}
+
+-- of n entries from a place on: the value of the first with the index, if there is one
+unfoldable pub valueIn : List ℕ → ℕ → ℕ → ℕ → Value
+valueIn s at n k =
+    let i = first (λ j. eqb (entryAt s at j .index) k) n in
+    cond (ltb i n) (Given (entryAt s at i .value)) NotGiven
+
+-- an order gives a value
+abbrev pub isGiven : Value → Bool
+isGiven (Given a) = true
+isGiven NotGiven = false
+
+-- the external value of a symbol
+unfoldable pub externalValue : List ℕ → ℕ → Value
+externalValue s symbol = valueIn s (externalsStart s) (externalCount s) symbol

@@ -1,0 +1,79 @@
+// What an order gives sections and symbols.
+ghost use mathlib.Core.Path.{_≡_};
+ghost use Rattle.order_format.specs.Orders.{reading};
+ghost use Rattle.order_lookup.specs.Values.{valueIn, externalValue};
+ghost use Rattle.order_lookup.specs.Requires.{Searchable};
+ghost use Rattle.order_lookup.specs.Addresses.{placedAt, addresses};
+use elf_read::MAX_SECTIONS;
+use numbers_definitions::Address;
+use order_format::OrderHeader;
+use order_format::PLACEMENTS_START;
+use order_format::Reading;
+
+// The address or value that an order gives.
+pub enum Value {
+    Given(Address),
+    NotGiven,
+}
+
+// The value that n entries from `at` on, which ascend strictly, give a number: a binary search.
+fn find(order: &[u8], at: usize, n: usize, k: u32) -> Value
+    requires { ⌜ Searchable (now order) at n ⌝ }
+    ensures { λ r. ⌜ r ≡ valueIn (now (order .entry)) at n k ⌝ }
+{
+    let mut low: usize = 0;
+    let mut high: usize = n;
+    while low < high {
+        let middle = low + (high - low) / 2;
+        let e = order_format::read_entry(order, at, middle);
+        if e.index == k {
+            let value = e.value;
+            return Value::Given(value);
+        }
+        if e.index < k {
+            low = middle + 1;
+        } else {
+            high = middle;
+        }
+    }
+    Value::NotGiven
+}
+
+// The external value of a symbol.
+pub fn external_value(order: &[u8], counts: OrderHeader, symbol: u32) -> Value
+    requires { ⌜ reading (now order) ≡ Reading.WellFormed counts ⌝ }
+    ensures { λ r. ⌜ r ≡ externalValue (now (order .entry)) symbol ⌝ }
+{
+    let start = order_format::externals_start(counts.placements);
+    find(order, start, counts.externals, symbol)
+}
+
+// The address that an order gives a section.
+pub fn placed_at(order: &[u8], counts: OrderHeader, section: u32) -> Value
+    requires { ⌜ reading (now order) ≡ Reading.WellFormed counts ⌝ }
+    ensures { λ r. ⌜ r ≡ placedAt (now (order .entry)) section ⌝ }
+{
+    find(order, PLACEMENTS_START, counts.placements, section)
+}
+
+// "The 32 row addresses travel as one array passed by value."
+pub type Addresses = [u32; MAX_SECTIONS];
+
+// The address of each section; 0, which means nothing, for one that the order does not place.
+pub fn address_array(order: &[u8], counts: OrderHeader) -> Addresses
+    requires { ⌜ reading (now order) ≡ Reading.WellFormed counts ⌝ }
+    ensures { λ r. ⌜ r ≡ addresses (now (order .entry)) ⌝ }
+{
+    let mut array = [0u32; MAX_SECTIONS];
+    let n = counts.placements;
+    let mut i: usize = 0;
+    while i < n {
+        let e = order_format::read_entry(order, PLACEMENTS_START, i);
+        let section = e.index as usize;
+        if section < MAX_SECTIONS {
+            array[section] = e.value.0;
+        }
+        i += 1;
+    }
+    array
+}

@@ -1,0 +1,121 @@
+// Placements and external values against an object: checks 6 and 7.
+ghost use mathlib.Core.Path.{_≡_};
+ghost use mathlib.Core.Bool.{not, _&&_};
+ghost use Rattle.numbers_definitions.specs.First.{first};
+ghost use Rattle.elf_read.specs.Headers.{sectionCount};
+ghost use Rattle.elf_read.specs.Sections.{isAllocated};
+ghost use Rattle.elf_check.specs.Requires.{SoundObject};
+ghost use Rattle.order_format.specs.Orders.{reading, placement, placementCount};
+ghost use Rattle.order_lookup.specs.Addresses.{placedAt};
+ghost use Rattle.placing_match.specs.Placements.{placementCheck};
+ghost use Rattle.order_lookup.specs.Values.{isGiven};
+ghost use Rattle.placing_match.specs.Externals.{isUndefined, externalCheck};
+use elf_read::SHN_UNDEF;
+use order_format::OrderHeader;
+use order_format::PLACEMENTS_START;
+use order_format::Reading;
+use order_lookup::Value;
+
+// The lowest section or symbol that breaks a rule, if one does.
+pub enum Fault {
+    Nowhere,
+    At(u32),
+}
+
+// Whether an order gives a value.
+fn is_given(value: Value) -> bool
+    ensures { λ r. ⌜ r ≡ isGiven value ⌝ }
+{
+    match value {
+        Value::Given(_) => true,
+        Value::NotGiven => false,
+    }
+}
+
+// The lowest allocated section that an order does not place, or the number of sections.
+fn lowest_unplaced(object: &[u8], order: &[u8], counts: OrderHeader) -> usize
+    requires { ⌜ SoundObject (now object) × (reading (now order) ≡ Reading.WellFormed counts) ⌝ }
+    ensures { λ r. ⌜ r ≡ first (λ i. isAllocated (now (object .entry)) i && not (isGiven (placedAt (now (order .entry)) i))) (sectionCount (now (object .entry))) ⌝ }
+{
+    let n = elf_read::section_count(object);
+    let mut i: usize = 0;
+    while i < n {
+        let allocated = elf_read::is_allocated_section(object, i as u32);
+        let placed = is_given(order_lookup::placed_at(order, counts, i as u32));
+        if allocated & !placed {
+            return i;
+        }
+        i += 1;
+    }
+    n
+}
+
+// The first placement of a number that names no allocated section, or the number of placements.
+fn first_extra(object: &[u8], order: &[u8], counts: OrderHeader) -> usize
+    requires { ⌜ SoundObject (now object) × (reading (now order) ≡ Reading.WellFormed counts) ⌝ }
+    ensures { λ r. ⌜ r ≡ first (λ j. not (isAllocated (now (object .entry)) (placement (now (order .entry)) j .index))) (placementCount (now (order .entry))) ⌝ }
+{
+    let n = counts.placements;
+    let mut j: usize = 0;
+    while j < n {
+        let e = order_format::read_entry(order, PLACEMENTS_START, j);
+        if !elf_read::is_allocated_section(object, e.index) {
+            return j;
+        }
+        j += 1;
+    }
+    n
+}
+
+// Check 6: the lowest number that is placed and not allocated, or allocated and not placed.
+pub fn check_placements(object: &[u8], order: &[u8], counts: OrderHeader) -> Fault
+    requires { ⌜ SoundObject (now object) × (reading (now order) ≡ Reading.WellFormed counts) ⌝ }
+    ensures { λ r. ⌜ r ≡ placementCheck (now (object .entry)) (now (order .entry)) ⌝ }
+{
+    let unplaced = lowest_unplaced(object, order, counts);
+    let extra = first_extra(object, order, counts);
+    let missing = unplaced < elf_read::section_count(object);
+    if extra < counts.placements {
+        let e = order_format::read_entry(order, PLACEMENTS_START, extra);
+        if missing & (unplaced < e.index as usize) {
+            return Fault::At(unplaced as u32);
+        }
+        return Fault::At(e.index);
+    }
+    if missing {
+        return Fault::At(unplaced as u32);
+    }
+    Fault::Nowhere
+}
+
+// Whether a number is an undefined symbol's.
+fn is_undefined(object: &[u8], k: u32) -> bool
+    requires { ⌜ SoundObject (now object) ⌝ }
+    ensures { λ r. ⌜ r ≡ isUndefined (now (object .entry)) k ⌝ }
+{
+    let at = k as usize;
+    if elf_read::symbol_count(object) <= at {
+        return false;
+    }
+    let table = elf_read::read_section(object, elf_read::symbol_table(object));
+    let symbol = elf_read::read_symbol(object, table, at);
+    (0 < k) & (symbol.section == SHN_UNDEF)
+}
+
+// Check 7: the lowest symbol that has an external value and is not undefined.
+pub fn check_externals(object: &[u8], order: &[u8], counts: OrderHeader) -> Fault
+    requires { ⌜ SoundObject (now object) × (reading (now order) ≡ Reading.WellFormed counts) ⌝ }
+    ensures { λ r. ⌜ r ≡ externalCheck (now (object .entry)) (now (order .entry)) ⌝ }
+{
+    let start = order_format::externals_start(counts.placements);
+    let n = counts.externals;
+    let mut j: usize = 0;
+    while j < n {
+        let e = order_format::read_entry(order, start, j);
+        if !is_undefined(object, e.index) {
+            return Fault::At(e.index);
+        }
+        j += 1;
+    }
+    Fault::Nowhere
+}

@@ -1,0 +1,76 @@
+// Texts that the program `aktinoph` reads, writes, or names files by.
+ghost use mathlib.Core.Path.{_≡_};
+ghost use mathlib.Core.List.{_++_};
+ghost use Prim.Native.Nat.{_+_, _≤_};
+ghost use lib.ListN.{length, take};
+ghost use Rattle.io.specs.Counts.{Counts};
+ghost use Rattle.program_text.specs.Commands.{Asks};
+ghost use Rattle.program_text.specs.Lines.{Appended, decimal, line};
+
+pub enum Command {
+    Fit,
+    TakeBack,
+    Unknown,
+}
+
+// The command that a first word and a number of arguments ask for, the program's own name among them.
+pub fn asked(word: &[u8], count: usize) -> Command
+    ensures { λ r. ⌜ Asks (now (word .entry)) count r ⌝ }
+{
+    if count == 6 {
+        if check::same(word, b"fit") {
+            return Command::Fit;
+        }
+        return Command::Unknown;
+    }
+    if count == 4 {
+        if check::same(word, b"take-back") {
+            return Command::TakeBack;
+        }
+        return Command::Unknown;
+    }
+    Command::Unknown
+}
+
+// Puts bytes behind the first `at` of out, and answers where they end.
+pub fn append(out: &mut [u8], at: usize, bytes: &[u8]) -> usize
+    requires { ⌜ at + length (now bytes) ≤ length (now out) ⌝ }
+    ensures { λ r. ⌜ Counts r (now (out .exit)) ⌝ }
+    ensures { λ r. ⌜ Appended (now (out .entry)) at (now (bytes .entry)) r (now (out .exit)) ⌝ }
+{
+    let n = bytes.len();
+    numbers_bytes::copy(out, at, bytes, 0, n);
+    at + n
+}
+
+// The same for a number in decimal, of at most 20 digits.
+pub fn append_decimal(out: &mut [u8], at: usize, n: u64) -> usize
+    requires { ⌜ at + 20 ≤ length (now out) ⌝ }
+    ensures { λ r. ⌜ Counts r (now (out .exit)) × (r ≤ at + 20) ⌝ }
+    ensures { λ r. ⌜ Appended (now (out .entry)) at (decimal n) r (now (out .exit)) ⌝ }
+{
+    let mut digits = [0u8; 20];
+    let k = io::decimal(n, &mut digits);
+    append(out, at, &digits[..k])
+}
+
+// "number and place in decimal, a space between, then a line end"
+pub fn answer_line(number: u64, place: u64, out: &mut [u8; 42]) -> usize
+    ensures { λ r. ⌜ Counts r (now (out .exit)) ⌝ }
+    ensures { λ r. ⌜ take r (now (out .exit)) ≡ line (record { number = number; place = place }) ⌝ }
+{
+    let a = append_decimal(out, 0, number);
+    let b = append(out, a, b" ");
+    let c = append_decimal(out, b, place);
+    append(out, c, b"\n")
+}
+
+// The name of a new file beside the one at `path`: the tag stands behind it.
+pub fn beside(path: &[u8], tag: [u8; 7], name: &mut [u8]) -> usize
+    requires { ⌜ length (now path) + 7 ≤ length (now name) ⌝ }
+    ensures { λ r. ⌜ Counts r (now (name .exit)) ⌝ }
+    ensures { λ r. ⌜ take r (now (name .exit)) ≡ now (path .entry) ++ tag ⌝ }
+{
+    let n = append(name, 0, path);
+    append(name, n, &tag)
+}

@@ -1,3 +1,0 @@
-pub mod Sites
-pub mod Shape
-pub mod Facts

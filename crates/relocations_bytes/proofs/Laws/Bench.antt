@@ -1,0 +1,97 @@
+-- Document 01's bench numbers marked K, as one list with one claim. Each number is what the definitions give of a whole object with one
+-- relocation: the bytes of its section afterwards, or the number of the first rule that the relocation breaks.
+use mathlib.Core.Path.{_≡_, refl}
+use mathlib.Core.List.{List, [], _∷_, _++_, map}
+use Prim.Native.Nat.{ℕ}
+use lib.IntN.{ℤ, pos, negℤ}
+use Rattle.numbers_definitions.specs.Bytes.{le, leAt, bytes, part}
+use Rattle.numbers_definitions.specs.First.{first}
+use Rattle.numbers_definitions.specs.Sums.{sum}
+use Rattle.numbers_definitions.specs.Powers.{ceilPower, ceilLog}
+use Rattle.numbers_definitions.specs.Whole.{residue, signed, within, even, minus}
+use Rattle.instructions_fields.specs.Layouts.{read, put}
+use Rattle.instructions_riscv.specs.Halves.{high, low}
+use Rattle.instructions_riscv.specs.Forms.{hasForm}
+use Rattle.instructions_riscv.specs.Ranges.{reaches}
+use Rattle.relocations_types.specs.Types.{table, among, lookup, decision}
+use Rattle.elf_read.specs.Sections.{sectionAt, allocated, countingRela, relocationsIn, isAllocated}
+use Rattle.elf_read.specs.Entries.{bytesOf, relocationAt, locationOf}
+use Rattle.relocations_rela.specs.Sites.{siteAt}
+use Rattle.relocations_rela.specs.Shape.{neverFalls, staysInside, previous, noOverlap, shapeWell}
+use Rattle.placing_symbols.specs.Values.{symbolValue}
+use Rattle.relocations_rules.specs.Rules.{symbolWell, standsWell, formWell, pairWell}
+use Rattle.relocations_rules.specs.Search.{number, finding, findingOf}
+use Rattle.relocations_bytes.specs.Patches.{patched}
+use Rattle.relocations_bytes.specs.Sections.{sumAt, applied, after, relaOf, relocated}
+
+-- what the definitions give, and what document 01 says
+pub record Number : Type 0 where
+  pub given : ℤ
+  pub said : ℤ
+
+abbrev _is_ : ℤ → ℤ → Number
+a is b = record { given = a; said = b }
+
+infixl 20 _is_
+-- ---- an object with one relocation
+
+unfoldable pub words : List ℕ → List ℕ
+words [] = []
+words (w ∷ ws) = bytes 4 w ++ words ws
+
+-- section 1 is the eight bytes w; its relocation is at offset 0, of a type, with symbol 0, so that S is 0, and with an addend
+unfoldable pub object : ℕ → ℕ → ℕ → List ℕ
+object type w addend =
+    -- the header
+    words (0x464C457F ∷ 0x00010101 ∷ 0 ∷ 0 ∷ 0x00F30001 ∷ 1 ∷ 0 ∷ 0 ∷ 72 ∷ 0 ∷ 52 ∷ 0x00280000 ∷ 3 ∷ [])
+    -- the section, the relocation
+    ++ bytes 8 w
+    ++ words (0 ∷ type ∷ addend ∷ [])
+    -- the section header table: NULL, PROGBITS, RELA
+    ++ words (0 ∷ 0 ∷ 0 ∷ 0 ∷ 0 ∷ 0 ∷ 0 ∷ 0 ∷ 0 ∷ 0 ∷ [])
+    ++ words (0 ∷ 1 ∷ 2 ∷ 0 ∷ 52 ∷ 8 ∷ 0 ∷ 0 ∷ 1 ∷ 0 ∷ [])
+    ++ words (0 ∷ 4 ∷ 0 ∷ 0 ∷ 60 ∷ 12 ∷ 0 ∷ 1 ∷ 4 ∷ 12 ∷ [])
+
+-- the bytes w after a relocation of a type with S + A at P, as one number
+abbrev laid : ℕ → ℕ → ℕ → ℕ → ℤ
+laid type w a p = pos (leAt 8 (relocated (object type w a) [] (0 ∷ p ∷ []) 1) 0)
+
+-- the number of the rule that it breaks, 0 where it breaks none
+abbrev gives : ℕ → ℕ → ℕ → ℕ → ℤ
+gives type w a p = pos (number (findingOf (object type w a) [] (0 ∷ p ∷ []) 0))
+
+unfoldable pub numbers : List Number
+numbers =
+    -- "T 0x7FFFF7FF: high 0x7FFFF, low 2,047. 0x7FFFF800: 0x80000, -2,048."
+    (pos (high 32 0x7FFFF7FF) is pos 0x7FFFF)
+    ∷ (low 32 0x7FFFF7FF is pos 2047)
+    ∷ (pos (high 32 0x7FFFF800) is pos 0x80000)
+    ∷ (low 32 0x7FFFF800 is negℤ (pos 2048))
+    -- "T 0x12345FFF: 00000537 becomes 12346537, 00050513 becomes FFF50513."
+    ∷ (laid 26 0x00000537 0x12345FFF 0 is pos 0x12346537)
+    ∷ (laid 27 0x00050513 0x12345FFF 0 is pos 0xFFF50513)
+    -- "CALL at 0x1000 to 0x2800: 00000097 000080E7 becomes 00002097 800080E7."
+    ∷ (laid 18 0x000080E700000097 0x2800 0x1000 is pos 0x800080E700002097)
+    ∷ (laid 19 0x000080E700000097 0x2800 0x1000 is pos 0x800080E700002097)
+    -- "JAL 000000EF, distance 8: 008000EF. Distance 1,048,574 done, 1,048,576 gives 13."
+    ∷ (laid 17 0x000000EF 0x1008 0x1000 is pos 0x008000EF)
+    ∷ (gives 17 0x000000EF 0x200FFE 0x101000 is pos 0)
+    ∷ (gives 17 0x000000EF 0x201000 0x101000 is pos 13)
+    -- "BRANCH 00000063, -4: FE000EE3. 4,094 done, 4,096 gives 13."
+    ∷ (laid 16 0x00000063 0xFFC 0x1000 is pos 0xFE000EE3)
+    ∷ (gives 16 0x00000063 0x1FFE 0x1000 is pos 0)
+    ∷ (gives 16 0x00000063 0x2000 0x1000 is pos 13)
+    -- "RVC_JUMP A001, -2: BFFD. RVC_BRANCH C101, 8: C501."
+    ∷ (laid 45 0xA001 0xFFE 0x1000 is pos 0xBFFD)
+    ∷ (laid 44 0xC101 0x1008 0x1000 is pos 0xC501)
+    -- "ADD8, V F0, S + A 20 hex: 10. SUB6, byte C1, S + A 2: FF."
+    ∷ (laid 33 0xF0 0x20 0 is pos 0x10)
+    ∷ (laid 52 0xC1 2 0 is pos 0xFF)
+    -- "ALIGN A 6: P 0x1002 done, P 0x1000 gives 14."
+    ∷ (gives 43 0 6 0x1002 is pos 0)
+    ∷ (gives 43 0 6 0x1000 is pos 14)
+    ∷ []
+
+pub right : map (λ n. n .given) numbers ≡ map (λ n. n .said) numbers
+unfolding numbers object words bytes le leAt part first sum ceilPower ceilLog residue signed within even minus read put high low hasForm reaches decision table lookup among sectionAt allocated isAllocated countingRela relocationsIn bytesOf relocationAt locationOf siteAt neverFalls staysInside previous noOverlap shapeWell symbolValue symbolWell standsWell formWell pairWell finding findingOf patched sumAt applied after relaOf relocated
+right = refl

@@ -1,0 +1,101 @@
+-- What the final bytes of a section say when they are read by the manual's fields.
+use mathlib.Core.Path.{_≡_}
+use mathlib.Core.Bool.{Bool, cond}
+use mathlib.Core.List.{List}
+use Prim.Native.Nat.{ℕ, zero, suc, _/_, _%_, _^_}
+use lib.Dec.{eqb}
+use lib.IntN.{ℤ, pos, _+ℤ_, _-ℤ_}
+use Rattle.numbers_definitions.specs.Bytes.{leAt}
+use Rattle.numbers_definitions.specs.Whole.{residue, signed, minus}
+use Rattle.instructions_fields.specs.declared.Field.{Field}
+use Rattle.instructions_fields.specs.Layouts.{formatU, formatI, read, outside}
+use Rattle.instructions_fields.specs.Fields.{layout, valueBits}
+use Rattle.relocations_types.specs.declared.Calculation.{Calculation}
+use Rattle.relocations_types.specs.declared.Calculation.the-variants.{Absolute, PcRelative, Distance, BothHalves, HighPcRelative, HighAbsolute, LowAbsolute, LowOfPair, Add, Sub, Set}
+use Rattle.relocations_types.specs.declared.Decision.{Decision}
+use Rattle.relocations_types.specs.declared.Decision.the-variants.{Marker, Align, Store, Refused}
+use Rattle.instructions_riscv.specs.Halves.{low}
+use Rattle.instructions_riscv.specs.Ranges.{distance}
+use Rattle.relocations_rela.specs.declared.sites.Site.{Site}
+use Rattle.elf_read.specs.Headers.{addressWidth}
+use Rattle.relocations_rela.specs.Sites.{count, decisionAt, offset, P, found}
+use Rattle.relocations_values.specs.Values.{targetAt}
+use Rattle.relocations_bytes.specs.Patches.{highPart}
+use Rattle.relocations_bytes.specs.Sections.{sumAt, pairDistance}
+
+-- ---- ADD, SUB and SET at one place
+
+-- one of them, on what those before it left; no other type is there
+abbrev pub stackStep : Calculation → ℤ → ℤ → ℤ
+stackStep Add v x = v +ℤ x
+stackStep Sub v x = v -ℤ x
+stackStep Set v x = x
+stackStep Absolute v x = v
+stackStep PcRelative v x = v
+stackStep Distance v x = v
+stackStep BothHalves v x = v
+stackStep HighPcRelative v x = v
+stackStep HighAbsolute v x = v
+stackStep LowAbsolute v x = v
+stackStep LowOfPair v x = v
+
+abbrev pub stackOn : Decision → Bool → ℤ → ℤ → ℤ
+stackOn (Store c f form n) here v x = cond here (stackStep c v x) v
+stackOn Marker here v x = v
+stackOn Align here v x = v
+stackOn Refused here v x = v
+
+-- "V + S + A, V - S - A", "S + A", in file order: the whole number that the first j relocations make of v at an offset
+unfoldable pub stackAt : List ℕ → List ℕ → List ℕ → Site → ℕ → ℕ → ℕ → ℤ
+stackAt object order addresses x at v zero = pos v
+stackAt object order addresses x at v (suc j) =
+    stackOn (decisionAt object x j) (eqb (offset object x j) at) (stackAt object order addresses x at v j) (sumAt object order addresses x j)
+
+-- ---- what is read out of the bytes b of a relocation, as one number, where addresses have w bits. t is T, p is P, d the paired high half's
+-- T - P, total the stack's number. LUI and AUIPC leave 32 bits that the machine extends to w by their sign.
+
+-- a number of 32 bits, extended by its sign to w bits
+abbrev pub extended : ℕ → ℕ → ℕ
+extended w u = residue w (signed 32 u)
+
+abbrev pub Said : ℕ → Calculation → Field → ℕ → ℕ → ℕ → ℕ → ℤ → Type 0
+-- 1: T, its low 32 bits: as many as the field has
+Said w Absolute f b t p d total = read (layout f) b ≡ t % 2 ^ valueBits f
+-- 57: T - P modulo 2^32, likewise
+Said w PcRelative f b t p d total = read (layout f) b ≡ minus w t p % 2 ^ valueBits f
+-- 16, 17, 44, 45: the signed distance is T - P, whole
+Said w Distance f b t p d total = signed (valueBits f) (read (layout f) b) ≡ distance t p
+-- 18, 19: high half and low half, each read out of its own instruction, add up to T - P modulo 2^32
+Said w BothHalves f b t p d total = residue w (signed 32 (read formatU b) +ℤ signed 12 (read formatI (b / 2 ^ 32))) ≡ minus w t p
+-- 23, 26: the high half of T - P; of T
+Said w HighPcRelative f b t p d total = extended w (read (layout f) b) ≡ highPart w (minus w t p)
+Said w HighAbsolute f b t p d total = extended w (read (layout f) b) ≡ highPart w t
+-- 27, 28: the low half of T, from -2,048 to 2,047
+Said w LowAbsolute f b t p d total = signed 12 (read (layout f) b) ≡ low w t
+-- 24, 25: that of the paired high half's T - P
+Said w LowOfPair f b t p d total = signed 12 (read (layout f) b) ≡ low w d
+-- 33..40, 52..56: what the whole stack says, modulo the width
+Said w Add f b t p d total = read (layout f) b ≡ residue (valueBits f) total
+Said w Sub f b t p d total = read (layout f) b ≡ residue (valueBits f) total
+Said w Set f b t p d total = read (layout f) b ≡ residue (valueBits f) total
+
+-- a store at an offset of a section that was `before` and is `final`: what is read, and that the bits outside the field are the object's
+abbrev pub Stored : ℕ → Decision → List ℕ → List ℕ → ℕ → ℕ → ℕ → ℕ → (ℕ → ℤ) → Type 0
+Stored w (Store c f form n) before final at t p d total =
+    Said w c f (leAt n final at) t p d (total (read (layout f) (leAt n before at)))
+    × (outside (layout f) (leAt n final at) ≡ outside (layout f) (leAt n before at))
+Stored w Marker before final at t p d total = Unit {0}
+Stored w Align before final at t p d total = Unit {0}
+Stored w Refused before final at t p d total = Unit {0}
+
+-- relocation j, read out of the final bytes
+unfoldable pub ReadsBack : List ℕ → List ℕ → List ℕ → Site → List ℕ → ℕ → Type 0
+ReadsBack object order addresses x final j =
+    Stored (addressWidth object) (decisionAt object x j) (found object x) final (offset object x j) (targetAt object order addresses x j) (P object x j)
+    (pairDistance object order addresses x j) (λ v. stackAt object order addresses x (offset object x j) v (count x))
+
+-- ---- two halves of one number
+
+-- a field that holds a high half and one that holds a low half, read out of the bytes b and v, add up to a number "modulo 2^32", which is 2^w
+abbrev pub AddUp : ℕ → Field → ℕ → Field → ℕ → ℕ → Type 0
+AddUp w f b g v number = residue w (signed 32 (read (layout f) b) +ℤ signed 12 (read (layout g) v)) ≡ number

@@ -1,0 +1,42 @@
+-- What else the final bytes of one section say: bytes that no relocation touches, and two halves of one number. `calls_demands` says both of the
+-- image.
+use mathlib.Core.Path.{_≡_}
+use mathlib.Core.Bool.{Bool, not, _&&_}
+use mathlib.Core.List.{List}
+use Prim.Native.Nat.{ℕ, _<_}
+use lib.Dec.{leb, ltb}
+use Rattle.numbers_definitions.specs.Bytes.{leAt}
+use Rattle.numbers_definitions.specs.First.{everywhere}
+use Rattle.instructions_fields.specs.declared.Field.{Field}
+use Rattle.instructions_fields.specs.declared.Field.the-variants.{U}
+use Rattle.instructions_riscv.specs.declared.forms.Form.{Form}
+use Rattle.relocations_types.specs.declared.Calculation.the-variants.{HighAbsolute, LowAbsolute, LowOfPair}
+use Rattle.relocations_types.specs.declared.Decision.the-variants.{Store}
+use Rattle.relocations_rela.specs.declared.sites.Site.{Site}
+use Rattle.relocations_values.specs.declared.pairs.Pair.the-variants.{At}
+use Rattle.elf_read.specs.Headers.{addressWidth}
+use Rattle.relocations_rela.specs.Sites.{count, decisionAt, offset}
+use Rattle.relocations_values.specs.Values.{targetAt}
+use Rattle.relocations_rela.specs.Shape.{end}
+use Rattle.relocations_values.specs.Pairs.{pairOf}
+use Rattle.relocations_rules.specs.Rules.{symbol}
+use Rattle.relocations_bytes.specs.Sections.{distanceAt}
+use Rattle.relocations_bytes.specs.Promises.{AddUp}
+
+-- relocation j touches byte b; none does
+unfoldable pub touches : List ℕ → Site → ℕ → ℕ → Bool
+touches object x j b = leb (offset object x j) b && ltb b (end object x j)
+
+unfoldable pub untouched : List ℕ → Site → ℕ → Bool
+untouched object x b = everywhere (λ j. not (touches object x j b)) (count x)
+
+-- "the high half and the low half laid for one address or distance add up to it modulo 2^32": modulo 2^w, where addresses have w bits
+pub record Halves (object order addresses : List ℕ) (x : Site) (final : List ℕ) : Type 0 where
+  -- 26 with 27 or 28: for one address T, anywhere in the section
+  pub address : (i j : ℕ) → i < count x → j < count x → (f g : Field) (a b : Form) (m n : ℕ) → decisionAt object x i ≡ Store HighAbsolute f a m → decisionAt object x j ≡ Store LowAbsolute g b n
+      → targetAt object order addresses x i ≡ targetAt object order addresses x j
+      → AddUp (addressWidth object) f (leAt m final (offset object x i)) g (leAt n final (offset object x j)) (targetAt object order addresses x i)
+  -- 23 with 24 or 25: there is one pair, and the two add up to its distance
+  pub distance : (j : ℕ) → j < count x → (g : Field) (b : Form) (n : ℕ) → decisionAt object x j ≡ Store LowOfPair g b n
+      → (k : ℕ) × (k < count x) × (pairOf object x (symbol object x j .value) ≡ At k)
+      × AddUp (addressWidth object) U (leAt 4 final (offset object x k)) g (leAt n final (offset object x j)) (distanceAt object order addresses x k)

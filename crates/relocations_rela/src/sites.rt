@@ -1,0 +1,35 @@
+// RELA sections and what they relocate.
+ghost use mathlib.Core.Path.{_≡_};
+ghost use mathlib.Core.Bool.{true};
+ghost use Prim.Native.Nat.{_<_};
+ghost use Rattle.elf_read.specs.Headers.{sectionCount};
+ghost use Rattle.elf_read.specs.Sections.{countingRela};
+ghost use Rattle.elf_check.specs.Requires.{SoundObject};
+ghost use Rattle.relocations_rela.specs.Sites.{siteAt};
+use elf_read::Section;
+use numbers_definitions::Address;
+use order_lookup::Addresses;
+
+// A RELA section, the section that it relocates (document 01: the target row), and that one's number and address.
+pub struct Site {
+    pub rela: Section,
+    pub target: Section,
+    pub index: u32,
+    pub address: Address,
+}
+
+// The site of RELA section i.
+pub fn site_at(object: &[u8], addresses: Addresses, i: usize) -> Site
+    requires { ⌜ SoundObject (now object) × (i < sectionCount (now object)) × (countingRela (now object) i ≡ true) ⌝ }
+    ensures { λ r. ⌜ r ≡ siteAt (now (object .entry)) addresses i ⌝ }
+{
+    let rela = elf_read::read_section(object, i);
+    let index = rela.info as usize;
+    let target = elf_read::read_section(object, index);
+    Site {
+        rela,
+        target,
+        index: rela.info,
+        address: Address(addresses[index]),
+    }
+}

@@ -1,0 +1,115 @@
+-- Laws of checks 10 to 14.
+use mathlib.Core.Path.{_≡_, refl, sym, ap, _∙_}
+use mathlib.Core.Bool.{Bool, true, false, not, cond, _&&_, _||_}
+use mathlib.Core.List.{List}
+use Prim.Native.Nat.{ℕ, _+_, _*_, _%_, _^_, _≤_, _<_}
+use native.Mathlib.Nat.{mod-eq-of-lt}
+use native.Mathlib.Omega.{arith}
+use lib.Dec.{ltb, eqb}
+use borrow.Author.Tests.{ne-eqb, ltb-true}
+use Rattle.numbers_definitions.specs.Bytes.{leAt}
+use Rattle.numbers_definitions.specs.Whole.{signed, plus}
+use Rattle.numbers_definitions.specs.Powers.{ceilPower}
+use Rattle.numbers_definitions.proofs.Laws.Tests.{and-left, never}
+use Rattle.elf_read.specs.declared.Relocation.{Relocation}
+use Rattle.elf_read.specs.Headers.{addressWidth}
+use Rattle.elf_read.specs.Entries.{symbolCount}
+use Rattle.placing_symbols.specs.declared.SymbolValue.{SymbolValue}
+use Rattle.placing_symbols.specs.declared.SymbolValue.the-variants.{Unresolved}
+use Rattle.placing_symbols.specs.Values.{symbolValue}
+use Rattle.instructions_fields.specs.declared.Field.{Field}
+use Rattle.instructions_riscv.specs.declared.forms.Form.{Form}
+use Rattle.relocations_types.specs.declared.Calculation.{Calculation}
+use Rattle.relocations_types.specs.declared.Decision.{Decision}
+use Rattle.relocations_types.specs.declared.Decision.the-variants.{Marker, Align, Store, Refused}
+use Rattle.relocations_types.specs.Types.{decision}
+use Rattle.relocations_rela.specs.declared.sites.Site.{Site}
+use Rattle.relocations_rela.specs.Sites.{entry, offset, decisionAt, A, P, found}
+use Rattle.relocations_values.specs.Values.{S, T}
+use Rattle.relocations_decisions.specs.Effects.{isStore, touched, needsPair}
+use Rattle.relocations_rela.specs.Shape.{end}
+use Rattle.relocations_rules.specs.Rules.{isResolved, inTarget, symbolWell, standsWell, asksWell, formWell, distanceWell, boundaryWell}
+use Rattle.relocations_rela.specs.Requires.{SoundSite}
+use Rattle.relocations_decisions.proofs.Laws.Decisions.{store-width, width-some}
+use Rattle.relocations_rela.proofs.Laws.Addends.{signed-low}
+
+-- ---- check 10
+
+-- a symbol that resolves is 0 or in the table
+pub resolved-there : (object order addresses : List ℕ) (k : ℕ) → isResolved (symbolValue object order addresses k) ≡ true → 0 < k → k < symbolCount object
+unfolding symbolValue
+resolved-there object order addresses k e h =
+    let some : eqb k 0 ≡ false = ne-eqb k 0 (λ z. omega arith) in
+    go (ltb k (symbolCount object)) _ refl (rw some at e)
+  where
+    go : (b : Bool) (v : SymbolValue) → ltb k (symbolCount object) ≡ b → isResolved (cond b v Unresolved) ≡ true → k < symbolCount object
+    go true v q r = ltb-true _ _ q
+    go false v q r = never r
+
+-- a PCREL_LO12 that keeps check 10 has a symbol above 0, which resolves
+pub pair-symbol : (object : List ℕ) (x : Site) (j : ℕ) (v : SymbolValue) → symbolWell object x j v ≡ true → needsPair (decisionAt object x j) ≡ true
+    → (isResolved v ≡ true) × (0 < entry object x j .symbol)
+unfolding symbolWell inTarget
+pair-symbol object x j v e n = go (decisionAt object x j) refl (isResolved v) e n
+  where
+    go : (d : Decision) → decisionAt object x j ≡ d → (b : Bool) → not (isStore d) || (b && (not (needsPair d) || inTarget object x j)) ≡ true → needsPair d ≡ true
+        → (b ≡ true) × (0 < entry object x j .symbol)
+    go (Store c f form w) q true e n =
+        let in-target : inTarget object x j ≡ true = rw n at e in
+        (refl, ltb-true _ _ (and-left (ltb 0 (entry object x j .symbol)) _ in-target))
+    go (Store c f form w) q false e n = never e
+    go Marker q b e n = never n
+    go Align q b e n = never n
+    go Refused q b e n = never n
+
+-- ---- check 11
+
+-- of a store, by the bytes l and the relocation r that were read
+pub form-read : (object : List ℕ) (x : Site) (j : ℕ) (c : Calculation) (f : Field) (form : Form) (n : ℕ) (l : List ℕ) (r : Relocation) → decisionAt object x j ≡ Store c f form n
+    → l ≡ found object x → r ≡ entry object x j → standsWell form (x .address .0 + r .offset .0) (leAt n l (r .offset .0)) ≡ formWell object x j
+unfolding formWell
+form-read object x j c f form n l r e p q =
+    ap (λ l. standsWell form (x .address .0 + r .offset .0) (leAt n l (r .offset .0))) p
+    ∙ ap (λ r. standsWell form (x .address .0 + r .offset .0) (leAt n (found object x) (r .offset .0))) q
+    ∙ sym (ap (λ d. asksWell d (P object x j) (found object x) (offset object x j)) e)
+
+-- ---- check 13
+
+-- of a store, P is in memory, so that adding modulo 2^w gives it
+pub place-below : (object : List ℕ) (x : Site) (j : ℕ) → SoundSite object x → end object x j ≤ x .target .size → isStore (decisionAt object x j) ≡ true → P object x j < 2 ^ addressWidth object
+place-below object x j f inside s = go (decisionAt object x j) refl s inside
+  where
+    go : (d : Decision) → decisionAt object x j ≡ d → isStore d ≡ true → offset object x j + touched d ≤ x .target .size → P object x j < 2 ^ addressWidth object
+    go (Store c g form n) q s i = omega (arith, width-some n (store-width _ c g form n q), f .placed)
+    go Marker q s i = never s
+    go Align q s i = never s
+    go Refused q s i = never s
+
+pub in-reach-is : (object : List ℕ) (x : Site) (j t : ℕ) → SoundSite object x → end object x j ≤ x .target .size
+    → distanceWell (addressWidth object) (decisionAt object x j) t (plus (addressWidth object) (x .address .0) (offset object x j))
+    ≡ distanceWell (addressWidth object) (decisionAt object x j) t (P object x j)
+unfolding plus
+in-reach-is object x j t f inside = go (decisionAt object x j) refl
+  where
+    go : (d : Decision) → decisionAt object x j ≡ d → distanceWell (addressWidth object) d t ((x .address .0 + offset object x j) % 2 ^ addressWidth object) ≡ distanceWell (addressWidth object) d t (P object x j)
+    go (Store c g form n) q = ap (distanceWell (addressWidth object) (Store c g form n) t) (mod-eq-of-lt (place-below object x j f inside (ap isStore q)))
+    go Marker q = refl
+    go Align q = refl
+    go Refused q = refl
+
+-- by the relocation r that was read, and what was worked out from it
+pub reach-read : (object : List ℕ) (x : Site) (j : ℕ) (r : Relocation) (d : Decision) (v w : SymbolValue) (t p : ℕ) → SoundSite object x → end object x j ≤ x .target .size
+    → r ≡ entry object x j → d ≡ decision (r .kind) → v ≡ w → t ≡ T (addressWidth object) (S v) (signed 64 (r .addend)) → p ≡ plus (addressWidth object) (x .address .0) (r .offset .0)
+    → distanceWell (addressWidth object) d t p ≡ distanceWell (addressWidth object) (decisionAt object x j) (T (addressWidth object) (S w) (A object x j)) (P object x j)
+reach-read object x j r d v w t p f inside re de ve te pe = rw (pe, te, de, ve, re) (in-reach-is object x j (T (addressWidth object) (S w) (A object x j)) f inside)
+
+-- ---- check 14
+
+pub boundary-read : (object : List ℕ) (x : Site) (j : ℕ) (r : Relocation) (d : Decision) → r ≡ entry object x j → d ≡ decision (r .kind)
+    → boundaryWell d (x .address .0 + r .offset .0) (signed 64 (r .addend)) ≡ boundaryWell (decisionAt object x j) (P object x j) (A object x j)
+boundary-read object x j r d re de = rw (de, re)
+
+pub boundary-is : (p a : ℕ) → a ≤ 4094 → boundaryWell Align p (signed 64 a) ≡ eqb ((p + a) % ceilPower 32 (a + 2)) 0
+boundary-is p a h =
+    let low : 2 * a < 2 ^ 64 = omega arith in
+    rw (signed-low 64 a low)

@@ -1,0 +1,117 @@
+-- Checks 10 to 14 of one relocation.
+use Prim.Native.Nat.{ℕ, _+_, _/_, _%_, _^_}
+use mathlib.Core.Bool.{Bool, true, false, not, _&&_, _||_}
+use mathlib.Core.List.{List}
+use lib.Dec.{ltb, eqb}
+use lib.IntN.{ℤ, pos, natAbs}
+use Rattle.numbers_definitions.specs.Bytes.{leAt}
+use Rattle.numbers_definitions.specs.Whole.{even, minus}
+use Rattle.numbers_definitions.specs.Powers.{ceilPower}
+use Rattle.elf_read.specs.declared.Symbol.{Symbol}
+use Rattle.elf_read.specs.Sections.{sectionAt, symbolTable}
+use Rattle.elf_read.specs.Entries.{symbolAt}
+use Rattle.placing_symbols.specs.declared.SymbolValue.{SymbolValue}
+use Rattle.placing_symbols.specs.declared.SymbolValue.the-variants.{Resolved, Unresolved}
+use Rattle.instructions_fields.specs.declared.Field.{Field}
+use Rattle.instructions_riscv.specs.declared.forms.Form.{Form}
+use Rattle.instructions_riscv.specs.declared.forms.Form.the-variants.{Any, Lui, Auipc, Jal, Branch, LowI, LowS, CallPair, CBranch, CJump}
+use Rattle.relocations_types.specs.declared.Calculation.{Calculation}
+use Rattle.relocations_types.specs.declared.Calculation.the-variants.{Absolute, PcRelative, Distance, BothHalves, HighPcRelative, HighAbsolute, LowAbsolute, LowOfPair, Add, Sub, Set}
+use Rattle.relocations_types.specs.declared.Decision.{Decision}
+use Rattle.relocations_types.specs.declared.Decision.the-variants.{Marker, Align, Store, Refused}
+use Rattle.instructions_riscv.specs.Forms.{hasForm}
+use Rattle.instructions_riscv.specs.Ranges.{distance, rangeOf, reaches}
+use Rattle.relocations_rela.specs.declared.sites.Site.{Site}
+use Rattle.relocations_values.specs.declared.pairs.Pair.{Pair}
+use Rattle.relocations_values.specs.declared.pairs.Pair.the-variants.{At, NotOne}
+use Rattle.relocations_rela.specs.Sites.{entry, offset, decisionAt, P, found}
+use Rattle.relocations_decisions.specs.Effects.{isStore, needsPair}
+use Rattle.relocations_values.specs.Pairs.{pairOf}
+
+-- ---- check 10
+
+abbrev pub isResolved : SymbolValue → Bool
+isResolved (Resolved v) = true
+isResolved Unresolved = false
+
+-- the symbol's entry in the table
+abbrev pub symbol : List ℕ → Site → ℕ → Symbol
+symbol object x j = symbolAt object (sectionAt object (symbolTable object)) (entry object x j .symbol)
+
+-- "A PCREL_LO12 symbol is above 0 and defined in the record's own target row"
+unfoldable pub inTarget : List ℕ → Site → ℕ → Bool
+inTarget object x j = ltb 0 (entry object x j .symbol) && eqb (symbol object x j .section) (x .index)
+
+-- "symbol does not resolve (24, 25: or is not in the target row)"; "Markers skip 10"
+unfoldable pub symbolWell : List ℕ → Site → ℕ → SymbolValue → Bool
+symbolWell object x j value =
+    not (isStore (decisionAt object x j))
+    || (isResolved value && (not (needsPair (decisionAt object x j)) || inTarget object x j))
+
+-- ---- check 11
+
+-- data, which may be any and anywhere
+abbrev pub isData : Form → Bool
+isData Any = true
+isData Lui = false
+isData Auipc = false
+isData Jal = false
+isData Branch = false
+isData LowI = false
+isData LowS = false
+isData CallPair = false
+isData CBranch = false
+isData CJump = false
+
+-- "Instruction at an even address": p is the address, w the number that the bytes touched spell
+unfoldable pub standsWell : Form → ℕ → ℕ → Bool
+standsWell form p w = isData form || (eqb (p % 2) 0 && hasForm form w (w / 2 ^ 32))
+
+abbrev pub asksWell : Decision → ℕ → List ℕ → ℕ → Bool
+asksWell (Store c f form n) p s at = standsWell form p (leAt n s at)
+asksWell Marker p s at = true
+asksWell Align p s at = true
+asksWell Refused p s at = true
+
+-- "as found in the object"
+unfoldable pub formWell : List ℕ → Site → ℕ → Bool
+formWell object x j = asksWell (decisionAt object x j) (P object x j) (found object x) (offset object x j)
+
+-- ---- check 12
+
+abbrev pub isOne : Pair → Bool
+isOne (At k) = true
+isOne NotOne = false
+
+unfoldable pub pairWell : List ℕ → Site → ℕ → Bool
+pairWell object x j = not (needsPair (decisionAt object x j)) || isOne (pairOf object x (symbol object x j .value))
+
+-- ---- check 13, for addresses of w bits, t, which is T, and p, which is P
+
+-- 16, 17, 44, 45: "the distance is the whole number T - P", "even", and in the field's range; 18, 19: "T - P modulo 2^32, which is even"
+abbrev pub reachesWell : ℕ → Calculation → Field → ℕ → ℕ → Bool
+reachesWell w Distance f t p = reaches (rangeOf f) (distance t p)
+reachesWell w BothHalves f t p = even (pos (minus w t p))
+reachesWell w Absolute f t p = true
+reachesWell w PcRelative f t p = true
+reachesWell w HighPcRelative f t p = true
+reachesWell w HighAbsolute f t p = true
+reachesWell w LowAbsolute f t p = true
+reachesWell w LowOfPair f t p = true
+reachesWell w Add f t p = true
+reachesWell w Sub f t p = true
+reachesWell w Set f t p = true
+
+abbrev pub distanceWell : ℕ → Decision → ℕ → ℕ → Bool
+distanceWell w (Store c f form n) t p = reachesWell w c f t p
+distanceWell w Marker t p = true
+distanceWell w Align t p = true
+distanceWell w Refused t p = true
+
+-- ---- check 14: "P + A a multiple of the smallest power of two at least A + 2"
+
+abbrev pub boundaryWell : Decision → ℕ → ℤ → Bool
+boundaryWell Align p a = eqb ((p + natAbs a) % ceilPower 32 (natAbs a + 2)) 0
+boundaryWell (Store c f form n) p a = true
+boundaryWell Marker p a = true
+boundaryWell Refused p a = true

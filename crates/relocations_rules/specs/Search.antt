@@ -1,0 +1,60 @@
+-- "Records go by RELA row, then file order, each through 9 to 14 before the next."
+use Prim.Native.Nat.{ℕ}
+use mathlib.Core.Bool.{Bool, true, false, cond}
+use mathlib.Core.List.{List}
+use lib.Dec.{ltb}
+use Rattle.numbers_definitions.specs.First.{first}
+use Rattle.elf_read.specs.Headers.{addressWidth}
+use Rattle.elf_read.specs.Entries.{relocationCount, locationOf}
+use Rattle.relocations_rela.specs.declared.sites.Site.{Site}
+use Rattle.relocations_rules.specs.declared.Finding.{Finding}
+use Rattle.relocations_rules.specs.declared.Finding.the-variants.{Kept, BadShape, BadSymbol, BadForm, NoPair, OutOfReach, OffBoundary}
+use Rattle.relocations_rules.specs.declared.RelocationCheck.{RelocationCheck}
+use Rattle.relocations_rules.specs.declared.RelocationCheck.the-variants.{Passed, Broken}
+use Rattle.relocations_rela.specs.Sites.{siteAt, entry, decisionAt, A, P}
+use Rattle.relocations_values.specs.Values.{valueAt, targetAt}
+use Rattle.relocations_rela.specs.Shape.{shapeWell}
+use Rattle.relocations_rules.specs.Rules.{symbolWell, formWell, pairWell, distanceWell, boundaryWell}
+
+-- document 01's number of what is found; 0 where all rules are kept
+abbrev pub number : Finding → ℕ
+number Kept = 0
+number BadShape = 9
+number BadSymbol = 10
+number BadForm = 11
+number NoPair = 12
+number OutOfReach = 13
+number OffBoundary = 14
+
+-- the first of 9 to 14 that relocation j of a site breaks
+unfoldable pub finding : List ℕ → List ℕ → List ℕ → Site → ℕ → Finding
+finding object order addresses x j =
+    let value = valueAt object order addresses x j in
+    cond (shapeWell object x j)
+    (cond (symbolWell object x j value)
+    (cond (formWell object x j)
+    (cond (pairWell object x j)
+    (cond (distanceWell (addressWidth object) (decisionAt object x j) (targetAt object order addresses x j) (P object x j))
+    (cond (boundaryWell (decisionAt object x j) (P object x j) (A object x j)) Kept OffBoundary)
+    OutOfReach) NoPair) BadForm) BadSymbol) BadShape
+
+-- what relocation number k breaks, "counted from 0 over all"
+unfoldable pub findingOf : List ℕ → List ℕ → List ℕ → ℕ → Finding
+findingOf object order addresses k =
+    let at = locationOf object k in
+    finding object order addresses (siteAt object addresses (at .section)) (at .entry)
+
+abbrev pub isBroken : Finding → Bool
+isBroken Kept = false
+isBroken BadShape = true
+isBroken BadSymbol = true
+isBroken BadForm = true
+isBroken NoPair = true
+isBroken OutOfReach = true
+isBroken OffBoundary = true
+
+-- checks 9 to 14: the first broken rule of the first relocation that breaks one
+unfoldable pub relocationCheck : List ℕ → List ℕ → List ℕ → RelocationCheck
+relocationCheck object order addresses =
+    let k = first (λ k. isBroken (findingOf object order addresses k)) (relocationCount object) in
+    cond (ltb k (relocationCount object)) (Broken (findingOf object order addresses k) k) Passed

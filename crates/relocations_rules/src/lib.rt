@@ -1,0 +1,19 @@
+// The rules of relocations: checks 10 to 14 of one relocation, and the first that is broken of all. Definitions and theorems, no code:
+// `relocations_check_one` and `relocations_check_all` look.
+
+// Which of checks 9 to 14 a relocation breaks, if it breaks one.
+pub enum Finding {
+    Kept,
+    BadShape,
+    BadSymbol,
+    BadForm,
+    NoPair,
+    OutOfReach,
+    OffBoundary,
+}
+
+// What checks 9 to 14 find: nothing, or the first broken rule of the first relocation that breaks one, and its number.
+pub enum RelocationCheck {
+    Passed,
+    Broken(Finding, u32),
+}

@@ -1,0 +1,145 @@
+-- Laws of the search for the paired high half.
+use mathlib.Core.Path.{_≡_, refl, sym, ap, _∙_}
+use mathlib.Core.Bool.{Bool, true, false, cond, _&&_}
+use mathlib.Core.List.{List}
+use Prim.Native.Nat.{ℕ, zero, suc, _+_, _≤_, _<_}
+use native.Mathlib.Omega.{arith}
+use native.Mathlib.Decide.{decLt}
+use lib.Dec.{ltb, eqb}
+use borrow.Author.Tests.{ltb-false, eqb-true, ne-eqb}
+use borrow.Author.Count.{below-more}
+use Rattle.numbers_definitions.specs.First.{first}
+use Rattle.numbers_definitions.specs.Sums.{sum}
+use Rattle.numbers_definitions.specs.declared.SectionOffset.{SectionOffset}
+use Rattle.numbers_definitions.proofs.Laws.First.{first-is, first-at, first-below}
+use Rattle.numbers_definitions.proofs.Laws.Sums.{sum-mono}
+use Rattle.relocations_rela.specs.declared.sites.Site.{Site}
+use Rattle.relocations_values.specs.declared.pairs.Pair.the-variants.{At, NotOne}
+use Rattle.relocations_rela.specs.Sites.{count}
+use Rattle.relocations_values.specs.Pairs.{isPair, howMany, pairOf}
+
+-- ---- at how many numbers a test holds
+
+module _ (p : ℕ → Bool) where
+  -- one more number
+  more : (n : ℕ) → howMany p (suc n) ≡ howMany p n + cond (p n) 1 0
+  unfolding howMany sum
+  more n = refl
+
+  pub none-holds : (n : ℕ) → ((k : ℕ) → k < n → p k ≡ false) → howMany p n ≡ 0
+  unfolding howMany sum
+  none-holds zero h = refl
+  none-holds (suc n) h = rw (more n, none-holds n (λ k l. h k (omega arith)), h n (omega arith))
+
+  pub one-holds : (n at : ℕ) → at < n → p at ≡ true → ((k : ℕ) → k < n → (k ≡ at → ⊥) → p k ≡ false) → howMany p n ≡ 1
+  one-holds zero at l e h = absurd (omega arith)
+  one-holds (suc n) at l e h = go (decLt at n) (one-holds n at)
+    where
+      go : Dec (at < n) → (at < n → p at ≡ true → ((k : ℕ) → k < n → (k ≡ at → ⊥) → p k ≡ false) → howMany p n ≡ 1) → howMany p (suc n) ≡ 1
+      go (yes q) rest = rw (more n, rest q e (λ k m z. h k (omega arith) z), h n (omega arith) (λ z. omega arith))
+      go (no q) rest =
+          let same : at ≡ n = omega arith in
+          rw (more n, none-holds n (λ k m. h k (omega arith) (λ z. omega arith)), ap p (sym same) ∙ e)
+
+  some-holds : (n at : ℕ) → at < n → p at ≡ true → 1 ≤ howMany p n
+  unfolding howMany
+  some-holds n at l e =
+      let here : howMany p (suc at) ≡ howMany p at + 1 = more at ∙ ap (λ b. howMany p at + cond b 1 0) e in
+      omega (arith, here, sum-mono (λ k. cond (p k) 1 0) (suc at) n l)
+
+  pub two-hold : (n a b : ℕ) → a < b → b < n → p a ≡ true → p b ≡ true → 2 ≤ howMany p n
+  unfolding howMany
+  two-hold n a b l m e f =
+      let here : howMany p (suc b) ≡ howMany p b + 1 = more b ∙ ap (λ t. howMany p b + cond t 1 0) f in
+      omega (arith, here, some-holds b a l e, sum-mono (λ k. cond (p k) 1 0) (suc b) n m)
+
+-- ---- what the search gives
+
+-- of the first k relocations: none where at is n, else at alone
+pub record Searched (p : ℕ → Bool) (n at k : ℕ) : Type 0 where
+  pub fits : at ≤ n
+  pub none : n ≤ at → (i : ℕ) → i < k → p i ≡ false
+  pub here : at < n → p at ≡ true
+  pub before : at < n → at < k
+  pub alone : at < n → (i : ℕ) → i < k → (i ≡ at → ⊥) → p i ≡ false
+
+module _ (object : List ℕ) (x : Site) (value : SectionOffset) where
+  pub pair-found : (at : ℕ) → at < count x → Searched (isPair object x value) (count x) at (count x) → pairOf object x value ≡ At at
+  unfolding pairOf
+  pair-found at l s =
+      let one : howMany (isPair object x value) (count x) ≡ 1 = one-holds _ (count x) at l (s .here l) (s .alone l) in
+      let is : first (isPair object x value) (count x) ≡ at =
+      first-is _ (count x) at (omega arith) (λ k m. s .alone l k (omega arith) (λ z. omega arith)) (λ _. s .here l) in
+      rw (one, is)
+
+  pub pair-missing : ((i : ℕ) → i < count x → isPair object x value i ≡ false) → pairOf object x value ≡ NotOne
+  unfolding pairOf
+  pair-missing h = rw (none-holds (isPair object x value) (count x) h)
+
+  pub pair-twice : (a b : ℕ) → a < b → b < count x → isPair object x value a ≡ true → isPair object x value b ≡ true → pairOf object x value ≡ NotOne
+  unfolding pairOf
+  pair-twice a b l m e f =
+      let many : eqb (howMany (isPair object x value) (count x)) 1 ≡ false =
+      ne-eqb (howMany (isPair object x value) (count x)) 1 (λ z. omega (arith, two-hold (isPair object x value) (count x) a b l m e f)) in
+      rw many
+
+-- one relocation more, where it is not a second one
+pub searched-more : (p : ℕ → Bool) (n at k : ℕ) → k < n → Searched p n at k → (p k && ltb at n) ≡ false → Searched p n (cond (p k) k at) (k + 1)
+searched-more p n at k h s e = go (p k) refl e
+  where
+    go : (b : Bool) → p k ≡ b → (b && ltb at n) ≡ false → Searched p n (cond b k at) (k + 1)
+    go true q r =
+        let none : n ≤ at = ltb-false at n r in
+        record {
+          fits = omega arith;
+          none = λ l i m. absurd (omega arith);
+          here = λ _. q;
+          before = λ _. omega arith;
+          alone = λ _ i m z. s .none none i (lower i k m z);
+        }
+      where
+        lower : (i k : ℕ) → i < k + 1 → (i ≡ k → ⊥) → i < k
+        lower i k m z = omega arith
+    go false q r =
+        record {
+          fits = s .fits;
+          none = λ l i m. extended (λ i m. s .none l i m) i m;
+          here = s .here;
+          before = λ l. omega (arith, s .before l);
+          alone = λ l i m z. apart (s .alone l) i m z;
+        }
+      where
+        extended : ((i : ℕ) → i < k → p i ≡ false) → (i : ℕ) → i < k + 1 → p i ≡ false
+        extended below i m = below-more (λ i. p i ≡ false) k below q i m
+
+        apart : ((i : ℕ) → i < k → (i ≡ at → ⊥) → p i ≡ false) → (i : ℕ) → i < k + 1 → (i ≡ at → ⊥) → p i ≡ false
+        apart below i m z = choose (decLt i k)
+          where
+            choose : Dec (i < k) → p i ≡ false
+            choose (yes l) = below i l z
+            choose (no l) =
+                let same : i ≡ k = omega arith in
+                ap p same ∙ q
+
+-- a pair that was found is one of the relocations, and a PCREL_HI20 at the offset
+pub pair-there : (object : List ℕ) (x : Site) (value : SectionOffset) (k : ℕ) → pairOf object x value ≡ At k → (k < count x) × (isPair object x value k ≡ true)
+unfolding pairOf
+pair-there object x value k e = go (eqb (howMany p (count x)) 1) refl e
+  where
+    p : ℕ → Bool
+    p = isPair object x value
+
+    some : howMany p (count x) ≡ 1 → Dec (first p (count x) < count x) → first p (count x) < count x
+    some one (yes l) = l
+    some one (no l) =
+        let none : howMany p (count x) ≡ 0 = none-holds p (count x) (λ i m. first-below p (count x) i (omega arith)) in
+        absurd (omega arith)
+
+    go : (b : Bool) → eqb (howMany p (count x)) 1 ≡ b → cond b (At (first p (count x))) NotOne ≡ At k → (k < count x) × (p k ≡ true)
+    go true q r =
+        let same : first p (count x) ≡ k = cc in
+        let there : first p (count x) < count x = some (eqb-true (howMany p (count x)) 1 q) (decLt (first p (count x)) (count x)) in
+        (omega arith, ap p (sym same) ∙ first-at p (count x) there)
+    go false q r =
+        let z : _≡_ {A = ℕ} 0 1 = cc in
+        absurd (omega arith)

@@ -1,3 +1,0 @@
-pub mod Spans
-pub mod Pieces
-pub mod Facts

@@ -1,5 +1,0 @@
-pub mod Patches
-pub mod Sections
-pub mod Promises
-pub mod Wholes
-pub mod Facts

@@ -1,0 +1,161 @@
+// The lines: numbers in hexadecimal, with a space before each but the first.
+use super::choices;
+use instructions_fields::Field;
+use instructions_fields::Width;
+use instructions_riscv::forms::Form;
+use relocations_types::Calculation;
+use relocations_types::Decision;
+
+fn first(kind: u8, n: u64) {
+    let text = [kind, b' '];
+    io::write_all(1, &text);
+    io::print_hex(1, n, 1);
+}
+
+fn then(n: u64) {
+    io::write_all(1, b" ");
+    io::print_hex(1, n, 1);
+}
+
+fn end() {
+    io::write_all(1, b"\n");
+}
+
+fn flag(b: bool) {
+    if b {
+        io::write_all(1, b" 1");
+    } else {
+        io::write_all(1, b" 0");
+    }
+}
+
+// f: a field, a word, a value, the word with the value put in, and what the word holds.
+pub fn field(number: u64, word: u64, value: u64) {
+    let field = choices::field(number);
+    first(b'f', number);
+    then(word);
+    then(value);
+    then(instructions_encode::put_field(field, word, value));
+    then(instructions_decode::read_field(field, word));
+    end();
+}
+
+// h: a number and its halves.
+pub fn half(x: u32) {
+    first(b'h', x as u64);
+    then(instructions_riscv::halves::hi20(x) as u64);
+    then(instructions_riscv::halves::lo12(x) as u64);
+    end();
+}
+
+// t: a type, and 0 for a marker, 1 for ALIGN, 3 for a refusal, or 2 with calculation, field, form and bytes.
+pub fn decision(number: u8) {
+    first(b't', number as u64);
+    match relocations_types::decide(number) {
+        Decision::Marker => then(0),
+        Decision::Align => then(1),
+        Decision::Store(calculation, field, form, bytes) => {
+            then(2);
+            then(calculation_number(calculation));
+            then(field_number(field));
+            then(form_number(form));
+            then(bytes as u64);
+        }
+        Decision::Refused => then(3),
+    }
+    end();
+}
+
+// d: a width, the field's word, S + A, and the word after ADD, SUB and SET.
+pub fn data(number: u64, v: u64, x: u64) {
+    first(b'd', number);
+    then(v);
+    then(x);
+    then(instructions_riscv::data::add(choices::width(number), v, x));
+    then(instructions_riscv::data::sub(choices::width(number), v, x));
+    then(instructions_riscv::data::set(choices::width(number), v, x));
+    end();
+}
+
+// r: a range, a target, an address, and whether the one is reached from the other.
+pub fn reach(number: u64, place: u64) {
+    let ends = choices::range(number);
+    let jump = choices::case(ends, place);
+    first(b'r', number);
+    then(jump.t.0 as u64);
+    then(jump.p.0 as u64);
+    flag(instructions_riscv::ranges::in_reach(ends, jump.t, jump.p));
+    end();
+}
+
+// i: a word, the next one, and which forms they have.
+pub fn forms(word: u64, next: u64) {
+    first(b'i', word);
+    then(next);
+    flag(instructions_riscv::forms::has_form(Form::Any, word, next));
+    flag(instructions_riscv::forms::has_form(Form::Lui, word, next));
+    flag(instructions_riscv::forms::has_form(Form::Auipc, word, next));
+    flag(instructions_riscv::forms::has_form(Form::Jal, word, next));
+    flag(instructions_riscv::forms::has_form(Form::Branch, word, next));
+    flag(instructions_riscv::forms::has_form(Form::LowI, word, next));
+    flag(instructions_riscv::forms::has_form(Form::LowS, word, next));
+    flag(instructions_riscv::forms::has_form(Form::CallPair, word, next));
+    flag(instructions_riscv::forms::has_form(Form::CBranch, word, next));
+    flag(instructions_riscv::forms::has_form(Form::CJump, word, next));
+    end();
+}
+
+fn calculation_number(calculation: Calculation) -> u64 {
+    match calculation {
+        Calculation::Absolute => 0,
+        Calculation::PcRelative => 1,
+        Calculation::Distance => 2,
+        Calculation::BothHalves => 3,
+        Calculation::HighPcRelative => 4,
+        Calculation::HighAbsolute => 5,
+        Calculation::LowAbsolute => 6,
+        Calculation::LowOfPair => 7,
+        Calculation::Add => 8,
+        Calculation::Sub => 9,
+        Calculation::Set => 10,
+    }
+}
+
+fn width_number(width: Width) -> u64 {
+    match width {
+        Width::W6 => 8,
+        Width::W8 => 9,
+        Width::W16 => 10,
+        Width::W32 => 11,
+        Width::W64 => 12,
+    }
+}
+
+fn field_number(field: Field) -> u64 {
+    match field {
+        Field::U => 0,
+        Field::I => 1,
+        Field::S => 2,
+        Field::B => 3,
+        Field::J => 4,
+        Field::Cb => 5,
+        Field::Cj => 6,
+        Field::Call => 7,
+        Field::Data(width) => width_number(width),
+    }
+}
+
+fn form_number(form: Form) -> u64 {
+    match form {
+        Form::Any => 0,
+        Form::Lui => 1,
+        Form::Auipc => 2,
+        Form::Jal => 3,
+        Form::Branch => 4,
+        Form::LowI => 5,
+        Form::LowS => 6,
+        Form::CallPair => 7,
+        Form::CBranch => 8,
+        Form::CJump => 9,
+    }
+}

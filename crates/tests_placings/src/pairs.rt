@@ -1,0 +1,121 @@
+// p: the first of checks 2 to 8 that an object and an order break; where they break none, the addresses and the values of the symbols.
+ghost use mathlib.Core.Path.{_≡_};
+ghost use Prim.Native.Nat.{_≤_};
+ghost use Rattle.elf_check.specs.Requires.{SoundObject};
+ghost use Rattle.order_format.specs.Orders.{reading};
+ghost use Rattle.order_format.specs.Windows.{maxImage};
+use elf_check::MAX_SYMBOLS;
+use elf_check::ObjectCheck;
+use numbers_definitions::Address;
+use order_format::OrderHeader;
+use order_format::Reading;
+use order_lookup::Addresses;
+use placing_match::Fault;
+use placing_symbols::SymbolValue;
+
+pub fn line(object: &[u8], order: &[u8], len: usize) {
+    match order_format::read_order(order) {
+        Reading::Malformed => tests_harness::answer(2, 0),
+        Reading::WellFormed(counts) => read(object, order, counts, len),
+    }
+    tests_harness::end();
+}
+
+// Checks 3 to 5.
+fn read(object: &[u8], order: &[u8], counts: OrderHeader, len: usize)
+    requires { ⌜ reading (now order) ≡ Reading.WellFormed counts ⌝ }
+{
+    if !order_format::window_allowed(counts.base, len) {
+        tests_harness::answer(3, 0);
+        return;
+    }
+    match elf_check::check_object(object) {
+        ObjectCheck::BadHeader => tests_harness::answer(4, 0),
+        ObjectCheck::BadSection(i) => tests_harness::answer(5, i as u64),
+        ObjectCheck::Passed => placements(object, order, counts, len),
+    }
+}
+
+// Check 6.
+fn placements(object: &[u8], order: &[u8], counts: OrderHeader, len: usize)
+    requires { ⌜ SoundObject (now object) × (reading (now order) ≡ Reading.WellFormed counts) × (len ≤ maxImage) ⌝ }
+{
+    match placing_match::check_placements(object, order, counts) {
+        Fault::At(i) => tests_harness::answer(6, i as u64),
+        Fault::Nowhere => externals(object, order, counts, len),
+    }
+}
+
+// Check 7.
+fn externals(object: &[u8], order: &[u8], counts: OrderHeader, len: usize)
+    requires { ⌜ SoundObject (now object) × (reading (now order) ≡ Reading.WellFormed counts) × (len ≤ maxImage) ⌝ }
+{
+    match placing_match::check_externals(object, order, counts) {
+        Fault::At(k) => tests_harness::answer(7, k as u64),
+        Fault::Nowhere => placing(object, order, counts, len),
+    }
+}
+
+// Check 8.
+fn placing(object: &[u8], order: &[u8], counts: OrderHeader, len: usize)
+    requires { ⌜ SoundObject (now object) × (reading (now order) ≡ Reading.WellFormed counts) × (len ≤ maxImage) ⌝ }
+{
+    let given = order_lookup::address_array(order, counts);
+    let placed = placing_check::check_placing(object, given, counts.base, len);
+    let fault = placed.fault;
+    let array = placed.addresses;
+    match fault {
+        Fault::At(i) => tests_harness::answer(8, i as u64),
+        Fault::Nowhere => passed(object, order, counts, array),
+    }
+}
+
+fn passed(object: &[u8], order: &[u8], counts: OrderHeader, array: Addresses)
+    requires { ⌜ SoundObject (now object) × (reading (now order) ≡ Reading.WellFormed counts) ⌝ }
+{
+    tests_harness::answer(0, 0);
+    addresses(array);
+    values(object, order, counts, array);
+}
+
+fn addresses(array: Addresses) {
+    let mut i: usize = 0;
+    while i < 32 {
+        then(Address(array[i]));
+        i += 1;
+    }
+}
+
+// The value of each symbol, and of three numbers past the table. There are at most 1,024 symbols: the `return` is never taken.
+fn values(object: &[u8], order: &[u8], counts: OrderHeader, array: Addresses)
+    requires { ⌜ SoundObject (now object) × (reading (now order) ≡ Reading.WellFormed counts) ⌝ }
+{
+    let symbols = placing_symbols::symbols_of(object);
+    let n = symbols.count;
+    if MAX_SYMBOLS < n {
+        return;
+    }
+    let end = n as u32 + 3;
+    let mut known = array;
+    let mut k: u32 = 0;
+    while k < end {
+        let found = placing_symbols::symbol_value(object, order, counts, symbols, known, k);
+        let value = found.value;
+        print(value);
+        known = found.addresses;
+        k += 1;
+    }
+}
+
+fn print(value: SymbolValue) {
+    match value {
+        SymbolValue::Resolved(s) => then(s),
+        SymbolValue::Unresolved => {
+            io::write_all(1, b" -");
+        }
+    }
+}
+
+fn then(address: Address) {
+    tests_harness::then(address.0 as u64);
+}

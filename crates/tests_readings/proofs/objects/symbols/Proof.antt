@@ -1,0 +1,29 @@
+-- `tests_readings::objects::symbols` is safe and ends. The loop's invariant: `k` is at most `n`. The measure is what is left of it.
+use Prim.Native.Nat.{_≤_, _-_}
+use borrow.Author.Needs.{needs}
+use Rattle.tests_readings.proofs.objects.symbols.Statement.{statement}
+use Rattle.tests_readings.proofs.objects.symbols.Tie as tie
+
+abbrev Inv-loop : tie.InvT-loop
+Inv-loop s table n h d₀ k₀ d k = k ≤ n
+
+abbrev μ-loop : tie.MeasureT-loop
+μ-loop s table n h d₀ k₀ d k = n - k
+
+pub symbols-spec : {M : Type 1} → statement M
+symbols-spec =
+    tie.close
+    (tie.spec
+    Inv-loop
+    μ-loop
+    (λ c κs. search needs)
+    (λ c κs. search needs)
+    (λ c. search needs)
+    (λ c κs. search needs)
+    (λ c κs. search needs)
+    (λ c. search needs)
+    (λ c κs. search needs)
+    (λ c. search needs)
+    (λ c. search needs)
+    (λ c. search needs)
+    (λ c. search needs))

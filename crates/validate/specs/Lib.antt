@@ -1,3 +1,0 @@
-pub mod Rules
-pub mod Sound
-pub mod Facts
