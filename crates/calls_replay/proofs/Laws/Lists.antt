@@ -83,3 +83,9 @@ module _ (s : List ℕ) where
   list-call e =
       everywhere-at (λ i. isCall s (callStart s i)) (callCount s)
       (and-left (everywhere (λ i. isCall s (callStart s i)) (callCount s)) (eqb (callStart s (callCount s)) (length s)) e)
+
+  pub list-end : isList s ≡ true → callStart s (callCount s) ≡ length s
+  unfolding isList
+  list-end e =
+      eqb-true (callStart s (callCount s)) (length s)
+      (and-right (everywhere (λ i. isCall s (callStart s i)) (callCount s)) (eqb (callStart s (callCount s)) (length s)) e)
