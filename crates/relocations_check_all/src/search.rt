@@ -12,13 +12,13 @@ use order_format::OrderHeader;
 use order_format::Reading;
 use order_lookup::Addresses;
 use placing_symbols::Symbols;
-use relocations_check_one::is_form_kept;
+use relocations_check_one::is_form_well;
 use relocations_check_one::is_in_reach;
 use relocations_check_one::is_on_boundary;
 use relocations_check_one::is_paired;
-use relocations_check_one::is_symbol_kept;
+use relocations_check_one::is_symbol_well;
 use relocations_rela::shape::Previous;
-use relocations_rela::shape::is_shape_kept;
+use relocations_rela::shape::is_shape_well;
 use relocations_rela::shape::step;
 use relocations_rela::sites::Site;
 use relocations_rela::sites::site_at;
@@ -44,7 +44,7 @@ fn find_broken(
 {
     let here = elf_read::read_relocation(object, site.rela, j);
     let decision = decide(here.kind);
-    if !is_shape_kept(object, site, previous, j) {
+    if !is_shape_well(object, site, previous, j) {
         return Finding::BadShape;
     }
     let lookup = placing_symbols::symbol_value(
@@ -56,10 +56,10 @@ fn find_broken(
         here.symbol,
     );
     let value = lookup.value;
-    if !is_symbol_kept(object, symbols, site, j, value) {
+    if !is_symbol_well(object, symbols, site, j, value) {
         return Finding::BadSymbol;
     }
-    if !is_form_kept(object, site, j) {
+    if !is_form_well(object, site, j) {
         return Finding::BadForm;
     }
     if !is_paired(object, symbols, site, j) {

@@ -55,7 +55,7 @@ fn is_in_target(object: &[u8], symbols: Symbols, site: Site, j: usize) -> bool
 }
 
 // Check 10.
-pub fn is_symbol_kept(
+pub fn is_symbol_well(
     object: &[u8],
     symbols: Symbols,
     site: Site,
@@ -107,7 +107,7 @@ fn has_form_at(s: &[u8], start: Address, at: SectionOffset, n: usize, form: Form
 }
 
 // Check 11.
-pub fn is_form_kept(object: &[u8], site: Site, j: usize) -> bool
+pub fn is_form_well(object: &[u8], site: Site, j: usize) -> bool
     requires { ⌜ There (now object) site j × (offset (now object) site j + touched (decisionAt (now object) site j) ≤ site .target .size) ⌝ }
     ensures { λ r. ⌜ r ≡ formWell (now (object .entry)) site j ⌝ }
 {

@@ -92,7 +92,7 @@ fn is_padding(at: SectionOffset, size: u32, addend: u64) -> bool
 }
 
 // Check 9.
-pub fn is_shape_kept(object: &[u8], site: Site, previous: Previous, j: usize) -> bool
+pub fn is_shape_well(object: &[u8], site: Site, previous: Previous, j: usize) -> bool
     requires { ⌜ There (now object) site j × (previous ≡ «the-previous» (now object) site j) ⌝ }
     ensures { λ r. ⌜ r ≡ shapeWell (now (object .entry)) site j ⌝ }
 {

@@ -26,11 +26,11 @@ returns c =
     let o = a .order .now in
     let x = a .site in
     let r = c .before .before .before .read-relocation .ensures in
-    let broken : shapeWell s x (a .j) ≡ false = sym (c .before .is-shape-kept .ensures) ∙ not-true _ (c .if1 .taken) in
+    let broken : shapeWell s x (a .j) ≡ false = sym (c .before .is-shape-well .ensures) ∙ not-true _ (c .if1 .taken) in
     rw broken
 
-is-symbol-kept-requires : tie.Need-is-symbol-kept-requires
-is-symbol-kept-requires c κs =
+is-symbol-well-requires : tie.Need-is-symbol-well-requires
+is-symbol-well-requires c κs =
     let a = c .before .before .before .before .before .before .before .args in
     let s = a .object .now in
     let o = a .order .now in
@@ -48,19 +48,19 @@ returns-2 c =
     let o = a .order .now in
     let x = a .site in
     let r = c .before .before .before .before .before .before .read-relocation .ensures in
-    let shape : shapeWell s x (a .j) ≡ true = sym (c .before .before .before .before .is-shape-kept .ensures) ∙ not-false _ (c .before .before .before .if1 .left) in
+    let shape : shapeWell s x (a .j) ≡ true = sym (c .before .before .before .before .is-shape-well .ensures) ∙ not-false _ (c .before .before .before .if1 .left) in
     let value : c .before .before .symbol-value .result .value ≡ valueAt s o (a .addresses) x (a .j) = c .before .before .symbol-value .ensures .0 ∙ ap (λ e. symbolValue s o (a .addresses) (e .symbol)) r in
-    let broken : symbolWell s x (a .j) (valueAt s o (a .addresses) x (a .j)) ≡ false = ap (symbolWell s x (a .j)) (sym value) ∙ sym (c .before .is-symbol-kept .ensures) ∙ not-true _ (c .if2 .taken) in
+    let broken : symbolWell s x (a .j) (valueAt s o (a .addresses) x (a .j)) ≡ false = ap (symbolWell s x (a .j)) (sym value) ∙ sym (c .before .is-symbol-well .ensures) ∙ not-true _ (c .if2 .taken) in
     rw (shape, broken)
 
-is-form-kept-requires : tie.Need-is-form-kept-requires
-is-form-kept-requires c κs =
+is-form-well-requires : tie.Need-is-form-well-requires
+is-form-well-requires c κs =
     let a = c .before .before .before .before .before .before .before .before .before .args in
     let s = a .object .now in
     let o = a .order .now in
     let x = a .site in
     let r = c .before .before .before .before .before .before .read-relocation .ensures in
-    let shape : shapeWell s x (a .j) ≡ true = sym (c .before .before .before .before .is-shape-kept .ensures) ∙ not-false _ (c .before .before .before .if1 .left) in
+    let shape : shapeWell s x (a .j) ≡ true = sym (c .before .before .before .before .is-shape-well .ensures) ∙ not-false _ (c .before .before .before .if1 .left) in
     (c .before .before .before .before .before .before .before .before .before .pre .3, shape-inside s x (a .j) shape)
 
 returns-3 : tie.Need-returns-3
@@ -71,10 +71,10 @@ returns-3 c =
     let o = a .order .now in
     let x = a .site in
     let r = c .before .before .before .before .before .before .before .before .read-relocation .ensures in
-    let shape : shapeWell s x (a .j) ≡ true = sym (c .before .before .before .before .before .before .is-shape-kept .ensures) ∙ not-false _ (c .before .before .before .before .before .if1 .left) in
+    let shape : shapeWell s x (a .j) ≡ true = sym (c .before .before .before .before .before .before .is-shape-well .ensures) ∙ not-false _ (c .before .before .before .before .before .if1 .left) in
     let value : c .before .before .before .before .symbol-value .result .value ≡ valueAt s o (a .addresses) x (a .j) = c .before .before .before .before .symbol-value .ensures .0 ∙ ap (λ e. symbolValue s o (a .addresses) (e .symbol)) r in
-    let symbol : symbolWell s x (a .j) (valueAt s o (a .addresses) x (a .j)) ≡ true = ap (symbolWell s x (a .j)) (sym value) ∙ sym (c .before .before .before .is-symbol-kept .ensures) ∙ not-false _ (c .before .before .if2 .left) in
-    let broken : formWell s x (a .j) ≡ false = sym (c .before .is-form-kept .ensures) ∙ not-true _ (c .if3 .taken) in
+    let symbol : symbolWell s x (a .j) (valueAt s o (a .addresses) x (a .j)) ≡ true = ap (symbolWell s x (a .j)) (sym value) ∙ sym (c .before .before .before .is-symbol-well .ensures) ∙ not-false _ (c .before .before .if2 .left) in
+    let broken : formWell s x (a .j) ≡ false = sym (c .before .is-form-well .ensures) ∙ not-true _ (c .if3 .taken) in
     rw (shape, symbol, broken)
 
 is-paired-requires : tie.Need-is-paired-requires
@@ -84,9 +84,9 @@ is-paired-requires c κs =
     let o = a .order .now in
     let x = a .site in
     let r = c .before .before .before .before .before .before .before .before .read-relocation .ensures in
-    let shape : shapeWell s x (a .j) ≡ true = sym (c .before .before .before .before .before .before .is-shape-kept .ensures) ∙ not-false _ (c .before .before .before .before .before .if1 .left) in
+    let shape : shapeWell s x (a .j) ≡ true = sym (c .before .before .before .before .before .before .is-shape-well .ensures) ∙ not-false _ (c .before .before .before .before .before .if1 .left) in
     let value : c .before .before .before .before .symbol-value .result .value ≡ valueAt s o (a .addresses) x (a .j) = c .before .before .before .before .symbol-value .ensures .0 ∙ ap (λ e. symbolValue s o (a .addresses) (e .symbol)) r in
-    let symbol : symbolWell s x (a .j) (valueAt s o (a .addresses) x (a .j)) ≡ true = ap (symbolWell s x (a .j)) (sym value) ∙ sym (c .before .before .before .is-symbol-kept .ensures) ∙ not-false _ (c .before .before .if2 .left) in
+    let symbol : symbolWell s x (a .j) (valueAt s o (a .addresses) x (a .j)) ≡ true = ap (symbolWell s x (a .j)) (sym value) ∙ sym (c .before .before .before .is-symbol-well .ensures) ∙ not-false _ (c .before .before .if2 .left) in
     let f = c .before .before .before .before .before .before .before .before .before .before .before .pre in (
       f .0,
       f .2,
@@ -104,10 +104,10 @@ returns-4 c =
     let o = a .order .now in
     let x = a .site in
     let r = c .before .before .before .before .before .before .before .before .before .before .read-relocation .ensures in
-    let shape : shapeWell s x (a .j) ≡ true = sym (c .before .before .before .before .before .before .before .before .is-shape-kept .ensures) ∙ not-false _ (c .before .before .before .before .before .before .before .if1 .left) in
+    let shape : shapeWell s x (a .j) ≡ true = sym (c .before .before .before .before .before .before .before .before .is-shape-well .ensures) ∙ not-false _ (c .before .before .before .before .before .before .before .if1 .left) in
     let value : c .before .before .before .before .before .before .symbol-value .result .value ≡ valueAt s o (a .addresses) x (a .j) = c .before .before .before .before .before .before .symbol-value .ensures .0 ∙ ap (λ e. symbolValue s o (a .addresses) (e .symbol)) r in
-    let symbol : symbolWell s x (a .j) (valueAt s o (a .addresses) x (a .j)) ≡ true = ap (symbolWell s x (a .j)) (sym value) ∙ sym (c .before .before .before .before .before .is-symbol-kept .ensures) ∙ not-false _ (c .before .before .before .before .if2 .left) in
-    let form : formWell s x (a .j) ≡ true = sym (c .before .before .before .is-form-kept .ensures) ∙ not-false _ (c .before .before .if3 .left) in
+    let symbol : symbolWell s x (a .j) (valueAt s o (a .addresses) x (a .j)) ≡ true = ap (symbolWell s x (a .j)) (sym value) ∙ sym (c .before .before .before .before .before .is-symbol-well .ensures) ∙ not-false _ (c .before .before .before .before .if2 .left) in
+    let form : formWell s x (a .j) ≡ true = sym (c .before .before .before .is-form-well .ensures) ∙ not-false _ (c .before .before .if3 .left) in
     let broken : pairWell s x (a .j) ≡ false = sym (c .before .is-paired .ensures) ∙ not-true _ (c .if4 .taken) in
     rw (shape, symbol, form, broken)
 
@@ -119,10 +119,10 @@ returns-5 c =
     let o = a .order .now in
     let x = a .site in
     let r = c .before .before .before .before .before .before .before .before .before .before .before .before .before .before .read-relocation .ensures in
-    let shape : shapeWell s x (a .j) ≡ true = sym (c .before .before .before .before .before .before .before .before .before .before .before .before .is-shape-kept .ensures) ∙ not-false _ (c .before .before .before .before .before .before .before .before .before .before .before .if1 .left) in
+    let shape : shapeWell s x (a .j) ≡ true = sym (c .before .before .before .before .before .before .before .before .before .before .before .before .is-shape-well .ensures) ∙ not-false _ (c .before .before .before .before .before .before .before .before .before .before .before .if1 .left) in
     let value : c .before .before .before .before .before .before .before .before .before .before .symbol-value .result .value ≡ valueAt s o (a .addresses) x (a .j) = c .before .before .before .before .before .before .before .before .before .before .symbol-value .ensures .0 ∙ ap (λ e. symbolValue s o (a .addresses) (e .symbol)) r in
-    let symbol : symbolWell s x (a .j) (valueAt s o (a .addresses) x (a .j)) ≡ true = ap (symbolWell s x (a .j)) (sym value) ∙ sym (c .before .before .before .before .before .before .before .before .before .is-symbol-kept .ensures) ∙ not-false _ (c .before .before .before .before .before .before .before .before .if2 .left) in
-    let form : formWell s x (a .j) ≡ true = sym (c .before .before .before .before .before .before .before .is-form-kept .ensures) ∙ not-false _ (c .before .before .before .before .before .before .if3 .left) in
+    let symbol : symbolWell s x (a .j) (valueAt s o (a .addresses) x (a .j)) ≡ true = ap (symbolWell s x (a .j)) (sym value) ∙ sym (c .before .before .before .before .before .before .before .before .before .is-symbol-well .ensures) ∙ not-false _ (c .before .before .before .before .before .before .before .before .if2 .left) in
+    let form : formWell s x (a .j) ≡ true = sym (c .before .before .before .before .before .before .before .is-form-well .ensures) ∙ not-false _ (c .before .before .before .before .before .before .if3 .left) in
     let pair : pairWell s x (a .j) ≡ true = sym (c .before .before .before .before .before .is-paired .ensures) ∙ not-false _ (c .before .before .before .before .if4 .left) in
     let same : c .before .is-in-reach .result ≡ distanceWell (addressWidth s) (decisionAt s x (a .j)) (targetAt s o (a .addresses) x (a .j)) (P s x (a .j)) = c .before .is-in-reach .ensures ∙ reach-read s x (a .j) _ _ _ _ _ _ (c .before .before .before .before .before .before .before .before .before .before .before .before .before .before .before .before .before .pre .3 .site) (shape-inside s x (a .j) shape) r (c .before .before .before .before .before .before .before .before .before .before .before .before .before .decide .ensures) value (c .before .before .before .target-of .ensures) (c .before .before .place-of .ensures) in
     let broken : distanceWell (addressWidth s) (decisionAt s x (a .j)) (targetAt s o (a .addresses) x (a .j)) (P s x (a .j)) ≡ false = sym same ∙ not-true _ (c .if5 .taken) in
@@ -135,7 +135,7 @@ is-on-boundary-requires c κs =
     let o = a .order .now in
     let x = a .site in
     let r = c .before .before .before .before .before .before .before .before .before .before .before .before .before .before .read-relocation .ensures in
-    let shape : shapeWell s x (a .j) ≡ true = sym (c .before .before .before .before .before .before .before .before .before .before .before .before .is-shape-kept .ensures) ∙ not-false _ (c .before .before .before .before .before .before .before .before .before .before .before .if1 .left) in
+    let shape : shapeWell s x (a .j) ≡ true = sym (c .before .before .before .before .before .before .before .before .before .before .before .before .is-shape-well .ensures) ∙ not-false _ (c .before .before .before .before .before .before .before .before .before .before .before .if1 .left) in
     λ align.
     let kind : decisionAt s x (a .j) ≡ Align = ap (λ e. decision (e .kind)) (sym r) ∙ sym (c .before .before .before .before .before .before .before .before .before .before .before .before .before .decide .ensures) ∙ align in
     let few = padded s x (a .j) shape kind (rw (← r) (omega (arith, c .before .before .before .before .before .before .before .before .before .before .before .before .before .before .read-relocation .ok))) in
@@ -149,10 +149,10 @@ returns-6 c =
     let o = a .order .now in
     let x = a .site in
     let r = c .before .before .before .before .before .before .before .before .before .before .before .before .before .before .before .before .read-relocation .ensures in
-    let shape : shapeWell s x (a .j) ≡ true = sym (c .before .before .before .before .before .before .before .before .before .before .before .before .before .before .is-shape-kept .ensures) ∙ not-false _ (c .before .before .before .before .before .before .before .before .before .before .before .before .before .if1 .left) in
+    let shape : shapeWell s x (a .j) ≡ true = sym (c .before .before .before .before .before .before .before .before .before .before .before .before .before .before .is-shape-well .ensures) ∙ not-false _ (c .before .before .before .before .before .before .before .before .before .before .before .before .before .if1 .left) in
     let value : c .before .before .before .before .before .before .before .before .before .before .before .before .symbol-value .result .value ≡ valueAt s o (a .addresses) x (a .j) = c .before .before .before .before .before .before .before .before .before .before .before .before .symbol-value .ensures .0 ∙ ap (λ e. symbolValue s o (a .addresses) (e .symbol)) r in
-    let symbol : symbolWell s x (a .j) (valueAt s o (a .addresses) x (a .j)) ≡ true = ap (symbolWell s x (a .j)) (sym value) ∙ sym (c .before .before .before .before .before .before .before .before .before .before .before .is-symbol-kept .ensures) ∙ not-false _ (c .before .before .before .before .before .before .before .before .before .before .if2 .left) in
-    let form : formWell s x (a .j) ≡ true = sym (c .before .before .before .before .before .before .before .before .before .is-form-kept .ensures) ∙ not-false _ (c .before .before .before .before .before .before .before .before .if3 .left) in
+    let symbol : symbolWell s x (a .j) (valueAt s o (a .addresses) x (a .j)) ≡ true = ap (symbolWell s x (a .j)) (sym value) ∙ sym (c .before .before .before .before .before .before .before .before .before .before .before .is-symbol-well .ensures) ∙ not-false _ (c .before .before .before .before .before .before .before .before .before .before .if2 .left) in
+    let form : formWell s x (a .j) ≡ true = sym (c .before .before .before .before .before .before .before .before .before .is-form-well .ensures) ∙ not-false _ (c .before .before .before .before .before .before .before .before .if3 .left) in
     let pair : pairWell s x (a .j) ≡ true = sym (c .before .before .before .before .before .before .before .is-paired .ensures) ∙ not-false _ (c .before .before .before .before .before .before .if4 .left) in
     let same : c .before .before .before .is-in-reach .result ≡ distanceWell (addressWidth s) (decisionAt s x (a .j)) (targetAt s o (a .addresses) x (a .j)) (P s x (a .j)) = c .before .before .before .is-in-reach .ensures ∙ reach-read s x (a .j) _ _ _ _ _ _ (c .before .before .before .before .before .before .before .before .before .before .before .before .before .before .before .before .before .before .before .pre .3 .site) (shape-inside s x (a .j) shape) r (c .before .before .before .before .before .before .before .before .before .before .before .before .before .before .before .decide .ensures) value (c .before .before .before .before .before .target-of .ensures) (c .before .before .before .before .place-of .ensures) in
     let reach : distanceWell (addressWidth s) (decisionAt s x (a .j)) (targetAt s o (a .addresses) x (a .j)) (P s x (a .j)) ≡ true = sym same ∙ not-false _ (c .before .before .if5 .left) in
@@ -168,10 +168,10 @@ returns-7 c =
     let o = a .order .now in
     let x = a .site in
     let r = c .before .before .before .before .before .before .before .before .before .before .before .before .before .before .before .before .read-relocation .ensures in
-    let shape : shapeWell s x (a .j) ≡ true = sym (c .before .before .before .before .before .before .before .before .before .before .before .before .before .before .is-shape-kept .ensures) ∙ not-false _ (c .before .before .before .before .before .before .before .before .before .before .before .before .before .if1 .left) in
+    let shape : shapeWell s x (a .j) ≡ true = sym (c .before .before .before .before .before .before .before .before .before .before .before .before .before .before .is-shape-well .ensures) ∙ not-false _ (c .before .before .before .before .before .before .before .before .before .before .before .before .before .if1 .left) in
     let value : c .before .before .before .before .before .before .before .before .before .before .before .before .symbol-value .result .value ≡ valueAt s o (a .addresses) x (a .j) = c .before .before .before .before .before .before .before .before .before .before .before .before .symbol-value .ensures .0 ∙ ap (λ e. symbolValue s o (a .addresses) (e .symbol)) r in
-    let symbol : symbolWell s x (a .j) (valueAt s o (a .addresses) x (a .j)) ≡ true = ap (symbolWell s x (a .j)) (sym value) ∙ sym (c .before .before .before .before .before .before .before .before .before .before .before .is-symbol-kept .ensures) ∙ not-false _ (c .before .before .before .before .before .before .before .before .before .before .if2 .left) in
-    let form : formWell s x (a .j) ≡ true = sym (c .before .before .before .before .before .before .before .before .before .is-form-kept .ensures) ∙ not-false _ (c .before .before .before .before .before .before .before .before .if3 .left) in
+    let symbol : symbolWell s x (a .j) (valueAt s o (a .addresses) x (a .j)) ≡ true = ap (symbolWell s x (a .j)) (sym value) ∙ sym (c .before .before .before .before .before .before .before .before .before .before .before .is-symbol-well .ensures) ∙ not-false _ (c .before .before .before .before .before .before .before .before .before .before .if2 .left) in
+    let form : formWell s x (a .j) ≡ true = sym (c .before .before .before .before .before .before .before .before .before .is-form-well .ensures) ∙ not-false _ (c .before .before .before .before .before .before .before .before .if3 .left) in
     let pair : pairWell s x (a .j) ≡ true = sym (c .before .before .before .before .before .before .before .is-paired .ensures) ∙ not-false _ (c .before .before .before .before .before .before .if4 .left) in
     let same : c .before .before .before .is-in-reach .result ≡ distanceWell (addressWidth s) (decisionAt s x (a .j)) (targetAt s o (a .addresses) x (a .j)) (P s x (a .j)) = c .before .before .before .is-in-reach .ensures ∙ reach-read s x (a .j) _ _ _ _ _ _ (c .before .before .before .before .before .before .before .before .before .before .before .before .before .before .before .before .before .before .before .pre .3 .site) (shape-inside s x (a .j) shape) r (c .before .before .before .before .before .before .before .before .before .before .before .before .before .before .before .decide .ensures) value (c .before .before .before .before .before .target-of .ensures) (c .before .before .before .before .place-of .ensures) in
     let reach : distanceWell (addressWidth s) (decisionAt s x (a .j)) (targetAt s o (a .addresses) x (a .j)) (P s x (a .j)) ≡ true = sym same ∙ not-false _ (c .before .before .if5 .left) in
@@ -188,9 +188,9 @@ find-broken-spec =
     (λ c κs. search needs)
     returns
     (λ c κs. search needs)
-    is-symbol-kept-requires
+    is-symbol-well-requires
     returns-2
-    is-form-kept-requires
+    is-form-well-requires
     returns-3
     is-paired-requires
     returns-4

@@ -1,11 +1,11 @@
--- `relocations_check_one::is_symbol_kept` meets its contract.
+-- `relocations_check_one::is_symbol_well` meets its contract.
 use mathlib.Core.Path.{_≡_, sym, _∙_}
 use mathlib.Core.Bool.{true, false}
 use borrow.Author.Tests.{not-true, not-false}
 use Rattle.relocations_rules.specs.Rules.{isResolved, symbolWell}
 use borrow.Author.Needs.{needs}
-use Rattle.relocations_check_one.proofs.is_symbol_kept.Statement.{statement}
-use Rattle.relocations_check_one.proofs.is_symbol_kept.Tie as tie
+use Rattle.relocations_check_one.proofs.is_symbol_well.Statement.{statement}
+use Rattle.relocations_check_one.proofs.is_symbol_well.Tie as tie
 
 returns : tie.Need-returns
 unfolding symbolWell
@@ -42,8 +42,8 @@ returns-4 c =
     let needspair : c .before .before .needs-pair .result ≡ true = not-false _ (c .before .if3 .left) in
     rw (← (c .before .before .before .before .before .before .before .before .read-relocation .ensures), ← (c .before .before .before .before .before .before .before .decide .ensures), ← (c .before .before .before .before .before .before .is-store .ensures), isstore, ← (c .before .before .before .before .is-resolved .ensures), isresolved, ← (c .before .before .needs-pair .ensures), needspair) (c .is-in-target .ensures)
 
-pub is-symbol-kept-spec : {M : Type 1} → statement M
-is-symbol-kept-spec =
+pub is-symbol-well-spec : {M : Type 1} → statement M
+is-symbol-well-spec =
     tie.close
     (tie.spec
     (λ c κs. search needs)

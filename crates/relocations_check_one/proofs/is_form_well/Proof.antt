@@ -1,4 +1,4 @@
--- `relocations_check_one::is_form_kept` meets its contract.
+-- `relocations_check_one::is_form_well` meets its contract.
 use mathlib.Core.Path.{sym, ap, _∙_}
 use Rattle.relocations_types.specs.Types.{decision}
 use Rattle.relocations_decisions.specs.Effects.{touched}
@@ -7,8 +7,8 @@ use Rattle.relocations_decisions.proofs.Laws.Decisions.{store-width}
 use Rattle.relocations_rela.proofs.Laws.Sites.{store-inside}
 use Rattle.relocations_rules.proofs.Laws.Rules.{form-read}
 use borrow.Author.Needs.{needs}
-use Rattle.relocations_check_one.proofs.is_form_kept.Statement.{statement}
-use Rattle.relocations_check_one.proofs.is_form_kept.Tie as tie
+use Rattle.relocations_check_one.proofs.is_form_well.Statement.{statement}
+use Rattle.relocations_check_one.proofs.is_form_well.Tie as tie
 
 -- ---- the places on the way: an inserted line moves one of them
 
@@ -57,8 +57,8 @@ returns-4 : tie.Need-returns-4
 unfolding formWell
 returns-4 c = rw (← (c .before .before .before .read-relocation .ensures), ← (c .before .before .decide .ensures), c .enum-told3 .given .1)
 
-pub is-form-kept-spec : {M : Type 1} → statement M
-is-form-kept-spec =
+pub is-form-well-spec : {M : Type 1} → statement M
+is-form-well-spec =
     tie.close
     (tie.spec
     (λ c κs. search needs)
