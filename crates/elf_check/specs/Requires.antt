@@ -1,4 +1,4 @@
--- What functions ask of their callers, and what later crates may take of an object that passes checks 4 and 5.
+-- What functions require of their callers, and what later crates may assume of an object that passes checks 4 and 5.
 use mathlib.Core.Path.{_≡_}
 use mathlib.Core.Bool.{true}
 use mathlib.Core.List.{List}
@@ -10,13 +10,13 @@ use Rattle.elf_read.specs.Requires.{TableInside}
 use Rattle.elf_header.specs.Headers.{headerAllowed}
 use Rattle.elf_check.specs.Sound.{SoundSection}
 
--- section i is in the table, and its info names a section of it
+-- section i is in the table, and its info names a section of the table
 pub record Targeted (s : List ℕ) (i : ℕ) : Type 0 where
   pub table : TableInside s
   pub there : i < sectionCount s
   pub target : sectionAt s i .info < sectionCount s
 
--- an object that passes checks 4 and 5: facts instead of tests
+-- an object that passes checks 4 and 5: propositions instead of tests
 pub record SoundObject (s : List ℕ) : Type 0 where
   pub header : headerAllowed s ≡ true
   pub table : TableInside s

@@ -1,4 +1,4 @@
--- "Row rules": each sentence as a test that section i keeps it.
+-- "Row rules": each sentence as a test of section i. `Sound` has the same sentences as propositions.
 use Prim.Native.Nat.{ℕ, suc, _+_, _%_}
 use mathlib.Core.Bool.{Bool, not, cond, _&&_, _||_}
 use mathlib.Core.List.{List}
@@ -81,7 +81,7 @@ sectionWell s i =
     && relaWell s i
     && relocationsWell s i
 
--- check 5: place 0 for the table itself, else the first section that breaks a rule
+-- check 5: place 0 if the table itself is at fault, else the first section that breaks a rule
 unfoldable pub sectionCheck : List ℕ → SectionCheck
 sectionCheck s =
     let i = first (λ j. not (sectionWell s j)) (sectionCount s) in

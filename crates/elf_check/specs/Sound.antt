@@ -1,4 +1,4 @@
--- "Row rules": each sentence as a proposition of section i; `Rules` has the same sentences as tests.
+-- "Row rules": each sentence as a proposition about section i. `Rules` has the same sentences as tests.
 use mathlib.Core.Logic.{_⊎_}
 use mathlib.Core.Path.{_≡_}
 use mathlib.Core.Bool.{true, false}
@@ -11,7 +11,7 @@ use Rattle.elf_read.specs.Sections.{NULL, SYMTAB, RELA, NOBITS, REL, sectionAt,
 use Rattle.elf_read.specs.Entries.{symbolEntries}
 use Rattle.elf_check.specs.Rules.{maxSymbols, maxRelocations}
 
--- section i is a SYMTAB
+-- the rules of section i if it is a SYMTAB
 pub record SoundSymbols (s : List ℕ) (i : ℕ) : Type 0 where
   -- "At most one SYMTAB", "The higher row of two is at fault."
   pub lowest : i ≡ symbolTable s
@@ -20,7 +20,7 @@ pub record SoundSymbols (s : List ℕ) (i : ℕ) : Type 0 where
   pub whole : sectionAt s i .size % symbolSize ≡ 0
   pub few : symbolEntries (sectionAt s i) ≤ maxSymbols
 
--- section i is a RELA that counts
+-- the rules of section i if it is a counting RELA
 pub record SoundRela (s : List ℕ) (i : ℕ) : Type 0 where
   -- "entry size 12, whole entries"
   pub entries : sectionAt s i .entsize ≡ relocationSize

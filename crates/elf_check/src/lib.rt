@@ -23,7 +23,7 @@ pub const MAX_SYMBOLS: usize = 1024;
 
 pub const MAX_RELOCATIONS: usize = 4096;
 
-// What check 5 finds: nothing, or the first section that breaks a rule, 0 for the table itself.
+// What check 5 finds: nothing, or the first section that breaks a rule. A fault of the table itself has place 0.
 pub enum SectionCheck {
     Sound,
     Broken(u32),
@@ -36,7 +36,7 @@ pub enum ObjectCheck {
     BadSection(u32),
 }
 
-// Whether no counting RELA below section i has the target.
+// Whether no counting RELA below section i has this target.
 fn is_first_for(object: &[u8], i: usize, target: u32) -> bool
     requires { ⌜ TableInside (now object) × (i < sectionCount (now object)) ⌝ }
     ensures { λ r. ⌜ r ≡ everywhere (λ j. not (countingRela (now (object .entry)) j && eqb (sectionAt (now (object .entry)) j .info) target)) i ⌝ }

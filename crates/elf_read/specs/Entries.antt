@@ -1,4 +1,4 @@
--- Symbols and relocations, a section's bytes, and the relocations' numbers over all counting RELA sections.
+-- Symbols, relocations, the bytes of a section, and the numbering of relocations through all counting RELA sections.
 use Prim.Native.Nat.{ℕ, suc, _+_, _-_, _*_, _/_, _%_}
 use mathlib.Core.Bool.{cond}
 use mathlib.Core.List.{List}
@@ -18,7 +18,7 @@ use Rattle.elf_read.specs.Sections.{sectionAt, symbolTable, relocationsB
 unfoldable pub bytesOf : List ℕ → Section → List ℕ
 bytesOf s h = part s (h .offset .0) (h .size)
 
--- the sections of a symbol that is undefined and of one that is absolute, the binding of a weak one, and two types
+-- the section numbers of undefined and of absolute symbols, the binding of weak symbols, and two symbol types
 abbrev pub SHN_UNDEF : ℕ
 SHN_UNDEF = 0
 
@@ -64,11 +64,12 @@ relocationAt s h k =
       addend = residue 64 (signed 32 (leAt 4 s (at + 8)));
     }
 
--- "record, counted from 0 over all": how many there are
+-- how many relocations there are; document 01 counts each as "record, counted from 0 over all"
 abbrev pub relocationCount : List ℕ → ℕ
 relocationCount s = relocationsBelow s (sectionCount s)
 
--- relocation number k is in the first section up to which there are more than k, at the entry that the sections below leave
+-- where relocation number k is: in the first section i for which sections 0 to i together hold more than k relocations.
+-- Its entry there is k less the number of relocations in the sections below i.
 unfoldable pub locationOf : List ℕ → ℕ → Location
 locationOf s k =
     let i = first (λ j. ltb k (relocationsBelow s (suc j))) (sectionCount s) in

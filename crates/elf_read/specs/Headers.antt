@@ -3,7 +3,7 @@ use Prim.Native.Nat.{ℕ}
 use mathlib.Core.List.{List}
 use Rattle.numbers_definitions.specs.Bytes.{leAt}
 
--- the bytes of the file's header, of a section's header, of a symbol and of a relocation
+-- the sizes in bytes of the file header, a section header, a symbol and a relocation
 abbrev pub headerSize : ℕ
 headerSize = 52
 

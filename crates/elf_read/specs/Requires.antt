@@ -1,4 +1,4 @@
--- What functions ask of their callers.
+-- What functions require of their callers.
 use mathlib.Core.List.{List}
 use Prim.Native.Nat.{ℕ, _+_, _*_, _≤_}
 use lib.ListN.{length}
@@ -9,12 +9,12 @@ pub record HeaderInside (s : List ℕ) (i : ℕ) : Type 0 where
   pub header : headerSize ≤ length s
   pub inside : sectionTable s + sectionSize * i + sectionSize ≤ length s
 
--- all headers do, and they are few
+-- all section headers lie in the file, and there are at most `maxSections`
 pub record TableInside (s : List ℕ) : Type 0 where
   pub header : headerSize ≤ length s
   pub few : sectionCount s ≤ maxSections
   pub inside : sectionTable s + sectionSize * sectionCount s ≤ length s
 
--- a part of the file of so many bytes
+-- the `size` bytes from `at` on lie in the file
 pub record Inside (s : List ℕ) (at size : ℕ) : Type 0 where
   pub inside : at + size ≤ length s

@@ -75,6 +75,6 @@ relocationEntries h = h .size / relocationSize
 unfoldable pub relocationsIn : List ℕ → ℕ → ℕ
 relocationsIn s i = cond (countingRela s i) (relocationEntries (sectionAt s i)) 0
 
--- and all sections below i
+-- how many relocations the sections below i hold together
 abbrev pub relocationsBelow : List ℕ → ℕ → ℕ
 relocationsBelow s i = sum (relocationsIn s) i

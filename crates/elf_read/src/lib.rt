@@ -12,7 +12,7 @@ use numbers_definitions::SectionOffset;
 // "1 to 32 rows"
 pub const MAX_SECTIONS: usize = 32;
 
-// The bytes of the file's header, of a section's header, of a symbol and of a relocation.
+// The sizes in bytes of the file header, a section header, a symbol and a relocation.
 pub const HEADER_SIZE: usize = 52;
 
 pub const SECTION_SIZE: usize = 40;
@@ -32,7 +32,7 @@ pub const NOBITS: u32 = 8;
 
 pub const REL: u32 = 9;
 
-// The sections of a symbol that is undefined and of one that is absolute, the binding of a weak one, and two types.
+// The section numbers of undefined and of absolute symbols, the binding of weak symbols, and two symbol types.
 pub const SHN_UNDEF: u16 = 0;
 
 pub const SHN_ABS: u16 = 0xfff1;
@@ -63,7 +63,7 @@ pub struct Symbol {
     pub section: u16,
 }
 
-// A relocation (document 01: record). The addend is a signed number in two's complement of 64 bits.
+// A relocation (document 01: record). The addend is a signed number in 64-bit two's complement.
 pub struct Relocation {
     pub offset: SectionOffset,
     pub kind: u8,
@@ -71,7 +71,7 @@ pub struct Relocation {
     pub addend: u64,
 }
 
-// Where a relocation is: its RELA section, and which entry of that it is.
+// Where a relocation is: its RELA section, and its entry in that section.
 pub struct Location {
     pub section: usize,
     pub entry: usize,
@@ -119,7 +119,7 @@ pub fn is_allocated(h: Section) -> bool
     (h.flags / 2 % 2 == 1) & (h.kind != NULL)
 }
 
-// Whether it has bytes in the file as well (document 01: laid).
+// Whether a section is allocated and has bytes in the file (document 01: laid).
 pub fn is_loaded(h: Section) -> bool
     ensures { λ r. ⌜ r ≡ loaded h ⌝ }
 {
@@ -190,7 +190,7 @@ fn relocations_in(object: &[u8], i: usize) -> usize
     0
 }
 
-// How many the sections below i hold.
+// How many relocations the sections below i hold together.
 pub fn relocations_below(object: &[u8], i: usize) -> usize
     requires { ⌜ TableInside (now object) × (i ≤ sectionCount (now object)) ⌝ }
     ensures { λ r. ⌜ r ≡ relocationsBelow (now (object .entry)) i ⌝ }
@@ -263,7 +263,7 @@ pub fn read_relocation(object: &[u8], h: Section, k: usize) -> Relocation
     }
 }
 
-// Where relocation number k is, counted over all counting RELA sections.
+// Where relocation number k is. Relocations are numbered through all counting RELA sections.
 pub fn locate(object: &[u8], k: usize) -> Location
     requires { ⌜ TableInside (now object) ⌝ }
     ensures { λ r. ⌜ r ≡ locationOf (now (object .entry)) k ⌝ }

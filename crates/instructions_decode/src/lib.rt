@@ -1,4 +1,5 @@
-// Reading a value out of a field. Instructions and data are numbers of up to 64 bits, as `numbers_bytes` reads them from bytes.
+// Reading a value out of a field.
+// Instructions and data are numbers of up to 64 bits, as `numbers_bytes` reads them from bytes.
 ghost use mathlib.Core.Path.{_≡_};
 ghost use Rattle.instructions_fields.specs.Layouts.{read, formatU, formatI, formatS, formatB, formatJ, formatCB, formatCJ};
 ghost use Rattle.instructions_fields.specs.Fields.{layout, dataLayout};

@@ -1,4 +1,5 @@
-// Putting a value into a field. Instructions and data are numbers of up to 64 bits, as `numbers_bytes` reads them from bytes.
+// Putting a value into a field.
+// Instructions and data are numbers of up to 64 bits, as `numbers_bytes` reads them from bytes.
 ghost use mathlib.Core.Path.{_≡_};
 ghost use Rattle.instructions_fields.specs.Layouts.{put, formatU, formatI, formatS, formatB, formatJ, formatCB, formatCJ};
 ghost use Rattle.instructions_fields.specs.Fields.{layout, dataLayout};

@@ -15,7 +15,7 @@ bits W16 = 16
 bits W32 = 32
 bits W64 = 64
 
--- where they lie: six bits are the low ones of a byte
+-- where these bits lie; a field of six bits is the low six bits of a byte
 abbrev pub dataLayout : Width → List Bits
 dataLayout W6 = imm 5 0 ∷ keep 2 ∷ []
 dataLayout W8 = imm 7 0 ∷ []
@@ -23,7 +23,7 @@ dataLayout W16 = imm 15 0 ∷ []
 dataLayout W32 = imm 31 0 ∷ []
 dataLayout W64 = imm 63 0 ∷ []
 
--- where a field's value lies in the bytes that it is stored in, as one number.
+-- where the value of a field lies in the bytes that hold it, which are read as one number.
 -- CALL is a pair of instructions, AUIPC and JALR: the upper twenty bits go into the first, the lower twelve into the second.
 abbrev pub layout : Field → List Bits
 layout U = formatU
@@ -36,7 +36,7 @@ layout Cj = formatCJ
 layout Call = formatU ++ formatI
 layout (Data width) = dataLayout width
 
--- how many bits the value of a field has, and what it is a multiple of: an instruction's format leaves low bits out that are always 0
+-- how many bits the value of a field has, and what it is a multiple of: an instruction format leaves out low bits that are always 0
 abbrev pub valueBits : Field → ℕ
 valueBits U = 32
 valueBits I = 12

@@ -4,7 +4,7 @@ use mathlib.Core.List.{List, [], _∷_}
 
 -- a run of an instruction's bits
 pub data Bits : Type 0 where
-  -- n bits that are not the immediate's: opcode, registers, functs
+  -- n bits that do not belong to the immediate: opcode, registers, funct fields
   keep : ℕ → Bits
   -- the manual's imm[high:low]: the immediate's bits high down to low
   imm : ℕ → ℕ → Bits
@@ -47,13 +47,13 @@ formatCJ =
     ∷ keep 3
     ∷ []
 
--- the value that is read out of an instruction w: each run of the immediate at its own place
+-- the value that is read out of the instruction w, with each run of the immediate at its own place
 unfoldable pub read : List Bits → ℕ → ℕ
 read [] w = 0
 read (keep n ∷ runs) w = read runs (w / 2 ^ n)
 read (imm high low ∷ runs) w = w % 2 ^ size (imm high low) * 2 ^ low + read runs (w / 2 ^ size (imm high low))
 
--- the instruction w with the value v put in: its kept bits are w's, its immediate's bits are v's
+-- the instruction w with the value v put in: the kept bits come from w, the bits of the immediate from v
 unfoldable pub put : List Bits → ℕ → ℕ → ℕ
 put [] w v = 0
 put (keep n ∷ runs) w v = w % 2 ^ n + 2 ^ n * put runs (w / 2 ^ n) v

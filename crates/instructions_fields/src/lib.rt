@@ -1,5 +1,5 @@
-// The fields that relocations write, of instructions and of data: definitions and theorems, no code. `instructions_encode` puts a value into a
-// field, `instructions_decode` reads it out.
+// The fields of instructions and of data that relocations write: definitions and theorems, no code.
+// `instructions_encode` puts a value into a field, and `instructions_decode` reads it out.
 
 // The width of a data field in bits.
 pub enum Width {
@@ -10,7 +10,7 @@ pub enum Width {
     W64,
 }
 
-// An instruction format of the manual, the pair of a CALL, or data.
+// An instruction format of the RISC-V manual, the pair of instructions of a CALL, or data.
 pub enum Field {
     U,
     I,

@@ -1,4 +1,4 @@
--- What ADD, SUB and SET leave in a data field that holds v, for a whole number x, which is S + A, not reduced first.
+-- What ADD, SUB and SET leave in the bytes of a data field that were v before. x is S + A as a whole number, not reduced first.
 -- Bits outside the field stay.
 use Prim.Native.Nat.{ℕ}
 use lib.IntN.{ℤ, pos, _+ℤ_, _-ℤ_}

@@ -1,4 +1,4 @@
--- "Instruction at an even address, as found in the object": which words a relocation asks for. Data may be any.
+-- "Instruction at an even address, as found in the object": which words a relocation asks for. Data may be anything.
 use Prim.Native.Nat.{ℕ, _/_, _%_}
 use mathlib.Core.Bool.{Bool, true, not, _&&_, _||_}
 use lib.Dec.{eqb}
@@ -18,18 +18,18 @@ funct3 w = w / 4096 % 8
 abbrev pub rs1 : ℕ → ℕ
 rs1 w = w / 32768 % 32
 
--- and of a 16-bit one
+-- the manual's fields of a 16-bit instruction
 abbrev pub quadrant : ℕ → ℕ
 quadrant w = w % 4
 
 abbrev pub cfunct3 : ℕ → ℕ
 cfunct3 w = w / 8192 % 8
 
--- JALR with funct3 0, through a register
+-- JALR with funct3 0, through the given register
 abbrev pub isJalr : ℕ → ℕ → Bool
 isJalr w register = eqb (opcode w) 0x67 && eqb (funct3 w) 0 && eqb (rs1 w) register
 
--- the word w has the form; of a CALL, w is followed by the word next
+-- the word w has the form; `next` is the word after it, which only CallPair looks at
 unfoldable pub hasForm : Form → ℕ → ℕ → Bool
 hasForm Any w next = true
 hasForm Lui w next = eqb (opcode w) 0x37

@@ -1,9 +1,9 @@
--- The high and the low half of a number, over the width w of an address.
+-- The high and the low half of a number, for addresses of w bits. Document 01 has w = 32.
 use Prim.Native.Nat.{ℕ, _+_, _-_, _*_, _/_, _%_, _^_}
 use lib.IntN.{ℤ, pos, _-ℤ_}
 use Rattle.numbers_definitions.specs.Whole.{residue, signed}
 
--- "High half of x: (x + 2,048) / 4,096 rounded down, modulo 2^20": at 32 bits the upper twenty, and over the width all but twelve
+-- "High half of x: (x + 2,048) / 4,096 rounded down, modulo 2^20": twenty bits for w = 32, and w - 12 bits for any w
 unfoldable pub high : ℕ → ℕ → ℕ
 high w x = (x + 2048) / 4096 % 2 ^ (w - 12)
 

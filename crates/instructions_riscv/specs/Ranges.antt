@@ -25,7 +25,7 @@ rvcBranch = record { back = 256; ahead = 254 }
 abbrev pub rvcJump : Range
 rvcJump = record { back = 2048; ahead = 2046 }
 
--- no jump or branch has another field, and no rule asks for its range: every distance between two addresses
+-- No rule asks for the range of any other field. Here it is all distances between two addresses.
 abbrev pub anywhere : Range
 anywhere = record { back = 0xFFFFFFFF; ahead = 0xFFFFFFFF }
 

@@ -1,4 +1,4 @@
-// ADD, SUB and SET on data fields. `x` is S + A in two's complement of 64 bits.
+// ADD, SUB and SET on data fields. `x` is S + A in 64-bit two's complement.
 ghost use mathlib.Core.Path.{_≡_};
 ghost use Rattle.numbers_definitions.specs.Whole.{signed};
 ghost use Rattle.instructions_riscv.specs.Data.{added, subtracted, replaced};
@@ -22,7 +22,7 @@ pub fn add(width: Width, v: u64, x: u64) -> u64
     }
 }
 
-// The present value less x.
+// The present value with x subtracted.
 pub fn sub(width: Width, v: u64, x: u64) -> u64
     ensures { λ r. ⌜ r ≡ subtracted width v (signed 64 x) ⌝ }
 {
@@ -39,7 +39,7 @@ pub fn sub(width: Width, v: u64, x: u64) -> u64
     }
 }
 
-// x in the place of the present value.
+// x instead of the present value.
 pub fn set(width: Width, v: u64, x: u64) -> u64
     ensures { λ r. ⌜ r ≡ replaced width v (signed 64 x) ⌝ }
 {

@@ -2,8 +2,8 @@
 ghost use mathlib.Core.Path.{_≡_};
 ghost use Rattle.instructions_riscv.specs.Forms.{hasForm, isJalr};
 
-// What is asked of the words at the place of a relocation: Any of data, LowI and LowS of an instruction that takes a low half,
-// CallPair of AUIPC and JALR.
+// What a relocation asks of the words at its place. Any is for data, which may be anything. LowI and LowS are for an
+// instruction that takes a low half, in format I or S. CallPair is AUIPC followed by JALR.
 pub enum Form {
     Any,
     Lui,
@@ -17,7 +17,7 @@ pub enum Form {
     CJump,
 }
 
-// Whether a word has the form; of a CALL, a word and the next.
+// Whether a word has the form. `next` is the word after it, which only CallPair looks at.
 pub fn has_form(form: Form, word: u64, next: u64) -> bool
     ensures { λ r. ⌜ r ≡ hasForm form word next ⌝ }
 {
@@ -44,7 +44,7 @@ pub fn has_form(form: Form, word: u64, next: u64) -> bool
     }
 }
 
-// Whether a word is JALR through a register.
+// Whether a word is JALR through the given register.
 fn jalr_of(word: u64, register: u64) -> bool
     ensures { λ r. ⌜ r ≡ isJalr word register ⌝ }
 {

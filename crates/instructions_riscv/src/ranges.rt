@@ -10,7 +10,7 @@ pub struct Range {
     pub ahead: u32,
 }
 
-// The range of a field: that of its jump or branch, or every distance.
+// The range of the jump or branch that has this field. For every other field it is all distances.
 pub fn range_of(field: Field) -> Range
     ensures { λ r. ⌜ r ≡ rangeOf field ⌝ }
 {
@@ -39,7 +39,7 @@ pub fn range_of(field: Field) -> Range
     }
 }
 
-// The range that has every distance between two addresses.
+// The range of all distances between two addresses.
 fn every_distance() -> Range
     ensures { λ r. ⌜ r ≡ anywhere ⌝ }
 {

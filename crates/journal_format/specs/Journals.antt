@@ -22,7 +22,7 @@ use Rattle.plan_pieces.specs.declared.Span.{Span}
 abbrev pub maxEntries : ℕ
 maxEntries = 16
 
--- the bytes of a number, and of an entry, which is two numbers
+-- the sizes in bytes of a number, and of an entry, which is two numbers
 abbrev pub numberSize : ℕ
 numberSize = 4
 
@@ -58,7 +58,7 @@ entries j = tabulate (entry j) maxEntries
 abbrev pub held : List ℕ → ℕ
 held j = leAt numberSize j heldAt
 
--- an entry with nothing in it, and the bytes of an entry
+-- an entry of zeros, and the bytes of an entry
 abbrev pub blank : Span
 blank = record { start = 0; size = 0 }
 
@@ -72,7 +72,7 @@ total (s ∷ ss) = s .size + total ss
 
 -- ---- check 1
 
--- "A ledger of which all this holds is sound": a journal, for an image of the length
+-- "A ledger of which all this holds is sound": a journal j, for an image of `len` bytes
 pub record Sound (j : List ℕ) (len : ℕ) : Type 0 where
   -- "count n (0 to 16)"
   pub few : count j ≤ maxEntries
@@ -85,7 +85,7 @@ pub record Sound (j : List ℕ) (len : ℕ) : Type 0 where
   -- "each span lies inside the image"
   pub inside : (i : ℕ) → i < maxEntries → entry j i .start + entry j i .size ≤ len
 
--- the test that is computed, clause by clause the same
+-- the same clauses as a test, which the code computes
 unfoldable pub isBlank : Span → Bool
 isBlank s = eqb (s .start) 0 && eqb (s .size) 0
 
@@ -102,6 +102,6 @@ sound j len =
 
 -- ---- check 15
 
--- of n and k, a span's length and the journal's length: "n is 16, or 136 + k + span above ledger length"
+-- "n is 16, or 136 + k + span above ledger length": `size` is the length of the span, `len` the length of the journal
 unfoldable pub noRoom : ℕ → ℕ → ℕ → ℕ → Bool
 noRoom n k size len = eqb n maxEntries || ltb len (oldAt + k + size)

@@ -1,4 +1,5 @@
-// An undo journal (document 01: the ledger): the old bytes of each span that an install writes, the newest last. Its format, and checks 1 and 15.
+// An undo journal (document 01: the ledger) holds the old bytes of each span that an install writes, the newest last.
+// This crate has its format, and checks 1 and 15.
 ghost use mathlib.Core.Path.{_≡_};
 ghost use Prim.Native.Nat.{_+_, _≤_, _<_};
 ghost use mathlib.Core.Bool.{not, _&&_, _||_};
@@ -8,7 +9,7 @@ use plan_pieces::Span;
 
 const MAX_ENTRIES: usize = 16;
 
-// The bytes of a number, and of an entry, which is two numbers.
+// The sizes in bytes of a number, and of an entry, which is two numbers.
 pub const NUMBER_SIZE: usize = 4;
 
 const ENTRY_SIZE: usize = 2 * NUMBER_SIZE;
@@ -42,7 +43,7 @@ pub fn read_entry(journal: &[u8], i: usize) -> Span
     }
 }
 
-// Whether an entry is of a standing install or zero, and lies inside an image of the length.
+// Whether an entry belongs to a standing install or is zero, and lies inside an image of `len` bytes.
 fn entry_allowed(stands: bool, span: Span, len: usize) -> bool
     ensures { λ r. ⌜ r ≡ (stands || isBlank span) && endsWithin len span ⌝ }
 {
@@ -50,7 +51,7 @@ fn entry_allowed(stands: bool, span: Span, len: usize) -> bool
     (stands | blank) & (span.start as usize + span.size as usize <= len)
 }
 
-// Check 1: whether a journal is sound for an image of the length.
+// Check 1: whether a journal is sound for an image of `len` bytes.
 pub fn is_sound(journal: &[u8], len: usize) -> bool
     ensures { λ r. ⌜ r ≡ sound (now (journal .entry)) len ⌝ }
 {
@@ -78,7 +79,7 @@ pub fn is_sound(journal: &[u8], len: usize) -> bool
     k == sum
 }
 
-// Check 15: whether a journal has an entry free, and room for the old bytes of a span of the size.
+// Check 15: whether a journal has a free entry, and room for the old bytes of a span of this size.
 pub fn has_room(journal: &[u8], size: u32) -> bool
     ensures { λ r. ⌜ r ≡ not (noRoom (count (now (journal .entry))) (held (now (journal .entry))) size (length (now (journal .entry)))) ⌝ }
 {

@@ -37,7 +37,7 @@ pub record Files : Type 0 where
 abbrev pub files : List ℕ → List ℕ → Files
 files image journal = record { image = image; journal = journal }
 
--- an answer, and what is there after it
+-- an answer, and what is there after the call
 pub record Outcome (S : Type 0) : Type 0 where
   pub answer : Answer
   pub after : S
@@ -56,7 +56,7 @@ unfoldable pub installed : List Piece → Files → Files
 installed ps f =
     record { image = overwritten (f .image) ps; journal = saved (f .image) (f .journal) (spanOf ps) }
 
--- by the verdict
+-- an install whose journal is sound, by the verdict of the judgement
 unfoldable pub settle : Files → Verdict → Outcome Files
 settle f (refused a) = refuse a f
 settle f (plan ps) =
@@ -98,12 +98,12 @@ InstallCall = List ℕ → List ℕ → Files → Outcome Files
 abbrev pub RollbackCall : Type 0
 RollbackCall = Files → Outcome Files
 
--- a call, made by these
+-- a call, made by a given install and a given rollback
 unfoldable pub calling : InstallCall → RollbackCall → Files → Call → Outcome Files
 calling installs rollsBack f (Install object order) = installs object order f
 calling installs rollsBack f Rollback = rollsBack f
 
--- made by those above
+-- a call, made by the install and the rollback defined above
 abbrev pub call : Judge → Files → Call → Outcome Files
 call judge = calling (install judge) rollback
 

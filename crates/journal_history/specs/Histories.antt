@@ -15,7 +15,7 @@ use Rattle.journal_history.specs.Calls.{journalFull, noneStands, Files, 
 
 -- ---- the history
 
--- an install that stands: what was asked for, and "its laid bytes"; "its span" is that of these
+-- an install that stands: what was asked for, and "its laid bytes"; "its span" is the span of these bytes
 pub record Standing : Type 0 where
   pub object : List ℕ
   pub order : List ℕ
@@ -51,7 +51,7 @@ laid start (x ∷ older) = overwritten (laid start older) (x .pieces)
 abbrev pub imageOf : History → List ℕ
 imageOf h = laid (h .start) (h .standing)
 
--- the old bytes of their spans, the oldest first: of each, what the image held before it
+-- the old bytes of the standing installs, the oldest first: for each one, what the image held in its span before it
 unfoldable pub olds : List ℕ → List Standing → List ℕ
 olds start [] = []
 olds start (x ∷ older) = olds start older ++ part (laid start older) (spanOf (x .pieces) .start) (spanOf (x .pieces) .size)
@@ -78,8 +78,8 @@ told judge h Rollback = fall h (h .standing)
 
 -- ---- demand 3
 
--- "Start with any image of allowed length and any sound ledger in which no fit stands." Nothing else is assumed of the two lists, of their
--- elements or of the journal's length, so slices of bytes meet it as they are.
+-- "Start with any image of allowed length and any sound ledger in which no fit stands." Nothing else is assumed about the two lists, their
+-- elements or the journal's length, so any two slices of bytes for which this holds will do.
 pub record Start (f : Files) : Type 0 where
   -- "An image length is allowed if it passes check 3 of a taking-back."
   pub allowed : length (f .image) ≤ maxImage
@@ -102,12 +102,12 @@ pub record AsTold (h : History) (f : Files) : Type 0 where
   pub held-is : held (f .journal) ≡ heldOf h
   -- "its first n entries, which are the spans of the standing fits, oldest first"
   pub entries-are : take (count (f .journal)) (entries (f .journal)) ≡ spans (h .standing)
-  -- the k old bytes, and the journal's length, so that every byte of it that is ever read is the history's
+  -- also the k old bytes and the journal's length, so that the history gives every byte of the journal that is ever read
   pub old-are : part (f .journal) oldAt (heldOf h) ≡ olds (h .start) (h .standing)
   pub room-is : length (f .journal) ≡ h .room
   pub still-sound : Sound (f .journal) (length (f .image))
 
--- two files with "the same image, n, k and first n entries"; the same old bytes and length of the journal too
+-- two pairs of image and journal with "the same image, n, k and first n entries"; the old bytes and the journal's length are the same too
 pub record Alike (f g : Files) : Type 0 where
   pub image-same : f .image ≡ g .image
   pub count-same : count (f .journal) ≡ count (g .journal)
@@ -124,7 +124,7 @@ alone (x ∷ older) = alone older ++ Install (x .object) (x .order) ∷ []
 abbrev pub standingAlone : Judge → Files → List Call → List Call
 standingAlone judge start calls = alone (historyOf judge start calls .standing)
 
--- lists of numbers of some kind: all of them, or those that are bytes
+-- a kind of lists of numbers, for example all lists, or all lists of bytes
 abbrev pub Kind : Type 1
 Kind = List ℕ → Type 0
 
@@ -140,7 +140,8 @@ abbrev pub CallsAre : Kind → List Call → Type 0
 CallsAre K [] = Unit {0}
 CallsAre K (c ∷ cs) = CallIs K c × CallsAre K cs
 
--- Demand 3, of a list of calls: each is made by `step`; these were the answers, and this is left. What may be asked for next is of a kind.
+-- Demand 3, for a list of calls that are made by `step`: `got` are their answers, and `left` is what they leave. The calls that may come
+-- next are of the kind K.
 pub record Holds (step : Files → Call → Outcome Files) (judge : Judge) (K : Kind) (start : Files) (calls : List Call) (got : List Answer) (left : Files) : Type 0 where
   -- "Every call in the list had the answer that document 01's history gives it."
   pub answered : got ≡ answers (told judge) (begin start) calls
@@ -153,6 +154,6 @@ pub record Holds (step : Files → Call → Outcome Files) (judge : Judge) (K : 
   pub alone-done : answers step start (standingAlone judge start calls) ≡ replicate (countOf (historyOf judge start calls)) done
   -- "and lead to the same image, n, k and first n entries,"
   pub alone-alike : Alike (filesAfter step start (standingAlone judge start calls)) left
-  -- "and any next call gets the same answer after either list"; any further list of calls the same answers
+  -- "and any next call gets the same answer after either list"; any further list of calls gets the same answers
   pub next : (c : Call) → CallIs K c → step left c .answer ≡ step (filesAfter step start (standingAlone judge start calls)) c .answer
   pub further : (more : List Call) → CallsAre K more → answers step left more ≡ answers step (filesAfter step start (standingAlone judge start calls)) more

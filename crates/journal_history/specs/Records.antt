@@ -1,5 +1,5 @@
--- What a done call leaves in the journal, and a done rollback in the image, byte for byte: document 01, "Ledger", of what stood there before
--- and after the call.
+-- What a call that is done leaves in the journal, and a rollback that is done in the image, byte for byte: document 01, "Ledger", as a
+-- relation between the files before and after the call.
 use mathlib.Core.Path.{_≡_}
 use Prim.Native.Nat.{ℕ, _+_, _-_, _≤_, _<_}
 use lib.ListN.{length, getD, drop, replicate}
@@ -18,7 +18,7 @@ pub record Appended (before after : Files) (s : Span) : Type 0 where
   -- the next entry is the span; the others are as they were
   pub entry-is : entry (after .journal) (count (before .journal)) ≡ s
   pub entries-same : (i : ℕ) → i < maxEntries → (i ≡ count (before .journal) → ⊥) → entry (after .journal) i ≡ entry (before .journal) i
-  -- the span's old bytes stand behind those that were there
+  -- the span's old bytes come after those that were there
   pub old-are : part (after .journal) (oldAt + held (before .journal)) (s .size) ≡ part (before .image) (s .start) (s .size)
   pub old-same : part (after .journal) oldAt (held (before .journal)) ≡ part (before .journal) oldAt (held (before .journal))
   -- "Bytes past 136 + k are .. not written otherwise."

@@ -8,7 +8,7 @@ use Rattle.plan_pieces.specs.declared.Span.{Span}
 use Rattle.plan_pieces.specs.Plans.{Piece, piece, overwritten}
 use Rattle.journal_format.specs.Journals.{countAt, entryAt, heldAt, oldAt, count, entry, held, blank, entryBytes}
 
--- "A fit appends the span's old bytes": these, the entry, k, n
+-- "A fit appends the span's old bytes": first these, then the entry, then k, then n
 unfoldable pub saving : List ℕ → List ℕ → Span → List Piece
 saving image j s =
     piece (oldAt + held j) (part image (s .start) (s .size))
@@ -21,7 +21,7 @@ saving image j s =
 unfoldable pub saved : List ℕ → List ℕ → Span → List ℕ
 saved image j s = overwritten j (saving image j s)
 
--- the newest entry, and what k is without it
+-- the newest entry, and the k that is left without it
 abbrev pub newest : List ℕ → Span
 newest j = entry j (count j - 1)
 
@@ -32,7 +32,7 @@ heldBelow j = held j - newest j .size
 unfoldable pub restoring : List ℕ → List Piece
 restoring j = piece (newest j .start) (part j (oldAt + heldBelow j) (newest j .size)) ∷ []
 
--- ", zeroes the entry and the released bytes, and lowers n and k": n, k, then the zeroing
+-- ", zeroes the entry and the released bytes, and lowers n and k": first n, then k, then the zeros
 unfoldable pub releasing : List ℕ → List Piece
 releasing j =
     piece countAt (bytes 4 (count j - 1))

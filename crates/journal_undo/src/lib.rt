@@ -23,7 +23,7 @@ pub enum RolledBack {
     NothingStands,
 }
 
-// Writes n zero bytes from `at` on, upwards.
+// Writes n zero bytes from `at` on, the lowest place first.
 fn clear(dst: &mut [u8], at: usize, n: usize)
     requires { ⌜ at + n ≤ length (now dst) ⌝ }
     ensures { λ _. ⌜ now (dst .exit) ≡ sets (now (dst .entry)) at (replicate n 0) ⌝ }
@@ -64,7 +64,8 @@ pub fn save(image: &[u8], journal: &mut [u8], span: Span)
     numbers_bytes::write32(journal, COUNT_AT, n + 1);
 }
 
-// Undoes the newest install: its old bytes into the image, then n, then k, then zeros over its entry and the released bytes.
+// Undoes the newest install. Writes its old bytes back into the image, then n, then k, then zeros over its entry and
+// over the released bytes.
 fn undo(image: &mut [u8], journal: &mut [u8])
     requires { ⌜ Undoable (now image) (now journal) ⌝ }
     ensures { λ _. ⌜ record { image = now (image .exit); journal = now (journal .exit) }

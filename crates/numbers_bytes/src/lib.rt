@@ -122,7 +122,7 @@ pub fn write_bytes(s: &mut [u8], at: usize, n: usize, x: u64)
     write64(s, at, x);
 }
 
-// Copies n bytes of `src` from `from` on to `dst` from `at` on, upwards.
+// Copies n bytes of `src`, from `from` on, to `dst`, from `at` on, the lowest place first.
 pub fn copy(dst: &mut [u8], at: usize, src: &[u8], from: usize, n: usize)
     requires { ⌜ (at + n ≤ length (now dst)) × (from + n ≤ length (now src)) ⌝ }
     ensures { λ _. ⌜ now (dst .exit) ≡ sets (now (dst .entry)) at (part (now (src .entry)) from n) ⌝ }

@@ -13,7 +13,7 @@ le (suc n) s = getD s 0 0 + 256 * le n (drop 1 s)
 unfoldable pub leAt : ℕ → List ℕ → ℕ → ℕ
 leAt n s i = le n (drop i s)
 
--- a number as n bytes; what does not fit them is dropped
+-- a number as n bytes; the part that does not fit is dropped
 unfoldable pub bytes : ℕ → ℕ → List ℕ
 bytes zero x = []
 bytes (suc n) x = x % 256 ∷ bytes n (x / 256)

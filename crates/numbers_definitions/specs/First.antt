@@ -1,4 +1,4 @@
--- The first broken place, what holds at each place, and lists by their places.
+-- The first index at which a test holds, tests that hold at every index, and lists that are given by a function of the index.
 use Prim.Native.Nat.{ℕ, zero, suc}
 use mathlib.Core.Bool.{Bool, cond, not}
 use mathlib.Core.List.{List, [], _∷_}
@@ -13,7 +13,7 @@ first p (suc n) = cond (p zero) zero (suc (first (λ j. p (suc j)) n))
 unfoldable pub everywhere : (ℕ → Bool) → ℕ → Bool
 everywhere p n = eqb (first (λ j. not (p j)) n) n
 
--- the list of f's values at 0 up to n
+-- the list of the values of f at 0, 1, .., n - 1
 unfoldable pub tabulate : {A : Type 0} → (ℕ → A) → ℕ → List A
 tabulate f zero = []
 tabulate f (suc n) = f zero ∷ tabulate (λ j. f (suc j)) n

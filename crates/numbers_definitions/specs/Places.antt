@@ -1,4 +1,5 @@
--- "a file offset, a row offset and a run-time address are three types that can't be mixed": a number as one of them. The number of x is `x .0`.
+-- "a file offset, a row offset and a run-time address are three types that can't be mixed"
+-- Each function here makes a number one of them. The number of x is `x .0`.
 use Prim.Native.Nat.{ℕ}
 use Rattle.numbers_definitions.specs.declared.FileOffset.{FileOffset}
 use Rattle.numbers_definitions.specs.declared.SectionOffset.{SectionOffset}

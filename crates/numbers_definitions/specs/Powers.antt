@@ -8,7 +8,7 @@ use Rattle.numbers_definitions.specs.First.{first}
 unfoldable pub oneBit : ℕ → ℕ → Bool
 oneBit w x = ltb (first (λ k. eqb x (2 ^ k)) w) w
 
--- the least k, up to w, with n at most 2^k
+-- the least k below w with n at most 2^k, or w where there is none
 unfoldable pub ceilLog : ℕ → ℕ → ℕ
 ceilLog w n = first (λ k. leb n (2 ^ k)) w
 

@@ -1,6 +1,8 @@
-// Numbers in bytes, wrapping at a width, powers of two: definitions and theorems, no code. `numbers_bytes` reads and writes, `numbers_arithmetic` computes.
+// Numbers in bytes, arithmetic that wraps at a width, and powers of two: definitions and theorems, no code.
+// The code that reads and writes bytes is in `numbers_bytes`, the code that computes is in `numbers_arithmetic`.
 
-// Three kinds of place that cannot be mixed: in the object, in a section (document 01: a row offset), and at run time.
+// Three types that cannot be mixed: a place in the object, a place in a section (document 01: a row offset), and a
+// run-time address.
 pub struct FileOffset(pub u32);
 
 pub struct SectionOffset(pub u32);

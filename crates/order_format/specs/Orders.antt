@@ -1,4 +1,4 @@
--- Document 01, "Order": the bytes that say where sections go and what undefined symbols are worth.
+-- Document 01, "Order": the bytes that say where sections go and which values undefined symbols have.
 --
 --     base          count 1; one u32
 --     placements    count at most 32; section u32, address u32
@@ -32,14 +32,14 @@ maxPlacements = 32
 abbrev pub maxExternals : ℕ
 maxExternals = 1024
 
--- the bytes of an entry, and of an order without entries, which is three counts and the base
+-- the sizes in bytes of an entry, and of an order without entries, which is three counts and the base
 abbrev pub entrySize : ℕ
 entrySize = 8
 
 abbrev pub emptySize : ℕ
 emptySize = 16
 
--- placements start behind the base and their count; behind p placements stand the count of the external values and these
+-- placements start after the base and their count; after p placements come the count of the external values and the values themselves
 abbrev pub placementsStart : ℕ
 placementsStart = 12
 
@@ -49,7 +49,7 @@ externalCountAt p = placementsStart + entrySize * p
 abbrev pub externalsAt : ℕ → ℕ
 externalsAt p = emptySize + entrySize * p
 
--- an entry: a number of a section or a symbol, and its address or value
+-- the bytes of entries: each is the number of a section or a symbol, and its address or value
 unfoldable pub encodeEntries : List Entry → List ℕ
 encodeEntries [] = []
 encodeEntries (e ∷ es) = bytes 4 (e .index) ++ bytes 4 (e .value .0) ++ encodeEntries es
@@ -66,7 +66,7 @@ encode o =
 
 -- ---- reading one
 
--- entry i of a list that starts at a place
+-- entry i of the list that starts at place `at`
 unfoldable pub entryAt : List ℕ → ℕ → ℕ → Entry
 entryAt s at i = record { index = leAt 4 s (at + entrySize * i); value = address (leAt 4 s (at + entrySize * i + 4)) }
 
@@ -94,7 +94,7 @@ external s i = entryAt s (externalsStart s) i
 unfoldable pub ascending : (ℕ → ℕ) → ℕ → Bool
 ascending f n = everywhere (λ i. ltb (f i) (f (suc i))) (n - 1)
 
--- check 2: the bytes are an order's
+-- check 2: the bytes are an order
 unfoldable pub wellFormed : List ℕ → Bool
 wellFormed s =
     leb emptySize (length s)
@@ -106,7 +106,7 @@ wellFormed s =
     && ascending (λ i. placement s i .index) (placementCount s)
     && ascending (λ i. external s i .index) (externalCount s)
 
--- what is read
+-- the order that the bytes spell
 unfoldable pub orderOf : List ℕ → Order
 orderOf s =
     record {

@@ -12,12 +12,12 @@ pub const MAX_EXTERNALS: usize = 1024;
 
 pub const MAX_IMAGE: usize = 65536;
 
-// The bytes of an entry, and of an order without entries, which is three counts and the base.
+// The sizes in bytes of an entry, and of an order without entries, which is three counts and the base.
 pub const ENTRY_SIZE: usize = 8;
 
 pub const EMPTY_SIZE: usize = 16;
 
-// Placements start behind the base and their count.
+// Placements start after the base and their count.
 pub const PLACEMENTS_START: usize = 12;
 
 // A section and its address, or a symbol and its value, which is a run-time address too.
@@ -38,7 +38,7 @@ pub enum Reading {
     WellFormed(OrderHeader),
 }
 
-// Where external values start, behind so many placements and their own count.
+// Where the external values start: after the placements and the count of the external values.
 pub fn externals_start(placements: usize) -> usize
     requires { ⌜ placements ≤ maxPlacements ⌝ }
     ensures { λ r. ⌜ r ≡ externalsAt placements ⌝ }
@@ -75,7 +75,7 @@ fn ascends(order: &[u8], at: usize, n: usize) -> bool
     true
 }
 
-// Check 2: the base and the counts of an order, or that the bytes are none.
+// Check 2: the base and the counts of an order, or that the bytes are not an order.
 pub fn read_order(order: &[u8]) -> Reading
     ensures { λ r. ⌜ r ≡ reading (now (order .entry)) ⌝ }
 {

@@ -8,7 +8,7 @@ use Rattle.elf_read.specs.Headers.{maxSections}
 use Rattle.order_format.specs.Orders.{placementsStart, placementCount}
 use Rattle.order_lookup.specs.Values.{valueIn}
 
--- the address of a section, or 0, which means nothing, for one that the order does not place
+-- A section that the order does not place has the entry 0. Once check 6 has passed, no result depends on it.
 abbrev pub orZero : Value → ℕ
 orZero (Given a) = a .0
 orZero NotGiven = 0

@@ -1,4 +1,4 @@
--- The value that an order gives a number.
+-- The values that an order gives to numbers of sections and of symbols.
 use Prim.Native.Nat.{ℕ}
 use mathlib.Core.Bool.{Bool, true, false, cond}
 use mathlib.Core.List.{List}
@@ -8,7 +8,7 @@ use Rattle.order_format.specs.Orders.{entryAt, externalsStart, externalCount}
 use Rattle.order_lookup.specs.declared.Value.{Value}
 use Rattle.order_lookup.specs.declared.Value.the-variants.{Given, NotGiven}
 
--- of n entries from a place on: the value of the first with the index, if there is one
+-- among the n entries from place `at` on, the value of the first with the index k, if there is one
 unfoldable pub valueIn : List ℕ → ℕ → ℕ → ℕ → Value
 valueIn s at n k =
     let i = first (λ j. eqb (entryAt s at j .index) k) n in

@@ -1,4 +1,4 @@
-// What an order gives sections and symbols.
+// The addresses that an order gives to sections, and the values that it gives to symbols.
 ghost use mathlib.Core.Path.{_≡_};
 ghost use Rattle.order_format.specs.Orders.{reading};
 ghost use Rattle.order_lookup.specs.Values.{valueIn, externalValue};
@@ -16,7 +16,7 @@ pub enum Value {
     NotGiven,
 }
 
-// The value that n entries from `at` on, which ascend strictly, give a number: a binary search.
+// The value that the n entries from `at` on give to number k. They ascend strictly, so this is a binary search.
 fn find(order: &[u8], at: usize, n: usize, k: u32) -> Value
     requires { ⌜ Searchable (now order) at n ⌝ }
     ensures { λ r. ⌜ r ≡ valueIn (now (order .entry)) at n k ⌝ }
@@ -59,7 +59,8 @@ pub fn placed_at(order: &[u8], counts: OrderHeader, section: u32) -> Value
 // "The 32 row addresses travel as one array passed by value."
 pub type Addresses = [u32; MAX_SECTIONS];
 
-// The address of each section; 0, which means nothing, for one that the order does not place.
+// The address of each section. A section that the order does not place has the entry 0; once check 6 has passed,
+// no result depends on it.
 pub fn address_array(order: &[u8], counts: OrderHeader) -> Addresses
     requires { ⌜ reading (now order) ≡ Reading.WellFormed counts ⌝ }
     ensures { λ r. ⌜ r ≡ addresses (now (order .entry)) ⌝ }

@@ -1,4 +1,4 @@
--- Check 8, "Placing". Addresses are those of the array, an entry for each section.
+-- Check 8, "Placing". `addresses` is the array that has an entry for each section.
 use Prim.Native.Nat.{ℕ, _+_, _%_, _^_}
 use mathlib.Core.Bool.{Bool, not, cond, _&&_, _||_}
 use mathlib.Core.List.{List}
@@ -11,7 +11,7 @@ use Rattle.elf_read.specs.Sections.{sectionAt, allocated, loaded}
 use Rattle.placing_match.specs.declared.Fault.{Fault}
 use Rattle.placing_match.specs.Placements.{lowest}
 
--- the first address behind a section
+-- the first address after a section
 unfoldable pub endOf : List ℕ → List ℕ → ℕ → ℕ
 endOf object addresses i = getD addresses i 0 + sectionAt object i .size
 
@@ -26,11 +26,11 @@ aligned object addresses i = eqb (getD addresses i 0 % unit (sectionAt object i 
 unfoldable pub endsInMemory : List ℕ → List ℕ → ℕ → Bool
 endsInMemory object addresses i = leb (endOf object addresses i) (2 ^ addressWidth object)
 
--- it has bytes in the image: "a laid row of size above 0"
+-- a section has bytes in the image: "a laid row of size above 0"
 unfoldable pub hasBytes : Section → Bool
 hasBytes h = loaded h && ltb 0 (h .size)
 
--- "a laid row of size above 0 lies in the window": an image of so many bytes from the base on
+-- "a laid row of size above 0 lies in the window", which is `len` bytes from the base on
 unfoldable pub inWindow : List ℕ → List ℕ → ℕ → ℕ → ℕ → Bool
 inWindow object addresses base len i =
     not (hasBytes (sectionAt object i)) || (leb base (getD addresses i 0) && leb (endOf object addresses i) (base + len))
@@ -47,12 +47,12 @@ share object addresses i j =
 unfoldable pub apart : List ℕ → List ℕ → ℕ → Bool
 apart object addresses i = everywhere (λ j. not (allocated (sectionAt object j) && share object addresses i j)) i
 
--- an allocated section breaks a rule
+-- section i is allocated and breaks a rule
 unfoldable pub misplaced : List ℕ → List ℕ → ℕ → ℕ → ℕ → Bool
 misplaced object addresses base len i =
     allocated (sectionAt object i)
     && not (aligned object addresses i && endsInMemory object addresses i && inWindow object addresses base len i && apart object addresses i)
 
--- check 8, rows going upward
+-- check 8: the lowest section that breaks a rule
 unfoldable pub placingCheck : List ℕ → List ℕ → ℕ → ℕ → Fault
 placingCheck object addresses base len = lowest (misplaced object addresses base len) (sectionCount object)

@@ -1,4 +1,4 @@
--- Check 7: external values against symbols.
+-- Check 7: only undefined symbols have external values.
 use Prim.Native.Nat.{ℕ, _^_}
 use mathlib.Core.Bool.{Bool, not, _&&_}
 use mathlib.Core.List.{List}

@@ -1,4 +1,4 @@
--- Check 6: placements against allocated sections.
+-- Check 6: exactly the allocated sections are placed.
 use Prim.Native.Nat.{ℕ, _^_}
 use mathlib.Core.Bool.{Bool, not, cond, _&&_, _||_}
 use mathlib.Core.List.{List}
@@ -14,7 +14,7 @@ use Rattle.placing_match.specs.declared.Fault.the-variants.{Nowhere, At}
 unfoldable pub lowest : (ℕ → Bool) → ℕ → Fault
 lowest broken n = cond (ltb (first broken n) n) (At (first broken n)) Nowhere
 
--- a number is in one only: placed and not allocated, or allocated and not placed
+-- a number is in one list only: it is placed and not allocated, or allocated and not placed
 unfoldable pub differs : List ℕ → List ℕ → ℕ → Bool
 differs object order i =
     (isGiven (placedAt order i) && not (isAllocated object i)) || (isAllocated object i && not (isGiven (placedAt order i)))

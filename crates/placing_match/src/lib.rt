@@ -1,4 +1,4 @@
-// Placements and external values against an object: checks 6 and 7.
+// Checks 6 and 7: whether the placements and external values of an order fit the object.
 ghost use mathlib.Core.Path.{_≡_};
 ghost use mathlib.Core.Bool.{not, _&&_};
 ghost use Rattle.numbers_definitions.specs.First.{first};
@@ -32,7 +32,7 @@ fn is_given(value: Value) -> bool
     }
 }
 
-// The lowest allocated section that an order does not place, or the number of sections.
+// The lowest allocated section that an order does not place, or the number of sections where there is none.
 fn lowest_unplaced(object: &[u8], order: &[u8], counts: OrderHeader) -> usize
     requires { ⌜ SoundObject (now object) × (reading (now order) ≡ Reading.WellFormed counts) ⌝ }
     ensures { λ r. ⌜ r ≡ first (λ i. isAllocated (now (object .entry)) i && not (isGiven (placedAt (now (order .entry)) i))) (sectionCount (now (object .entry))) ⌝ }
@@ -50,7 +50,7 @@ fn lowest_unplaced(object: &[u8], order: &[u8], counts: OrderHeader) -> usize
     n
 }
 
-// The first placement of a number that names no allocated section, or the number of placements.
+// The first placement whose number names no allocated section, or the number of placements where there is none.
 fn first_extra(object: &[u8], order: &[u8], counts: OrderHeader) -> usize
     requires { ⌜ SoundObject (now object) × (reading (now order) ≡ Reading.WellFormed counts) ⌝ }
     ensures { λ r. ⌜ r ≡ first (λ j. not (isAllocated (now (object .entry)) (placement (now (order .entry)) j .index))) (placementCount (now (order .entry))) ⌝ }
@@ -88,7 +88,7 @@ pub fn check_placements(object: &[u8], order: &[u8], counts: OrderHeader) -> Fau
     Fault::Nowhere
 }
 
-// Whether a number is an undefined symbol's.
+// Whether a number names an undefined symbol.
 fn is_undefined(object: &[u8], k: u32) -> bool
     requires { ⌜ SoundObject (now object) ⌝ }
     ensures { λ r. ⌜ r ≡ isUndefined (now (object .entry)) k ⌝ }

@@ -1,4 +1,4 @@
--- What laws on pieces ask for.
+-- What the laws of pieces assume.
 use mathlib.Core.Path.{_≡_}
 use mathlib.Core.Bool.{true}
 use mathlib.Core.List.{List}
@@ -7,7 +7,7 @@ use lib.ListN.{length, getD}
 use Rattle.elf_read.specs.Sections.{sectionAt}
 use Rattle.placing_check.specs.Placing.{hasBytes}
 
--- each laid section below n has as many bytes as its size says
+-- f gives each laid section below n as many bytes as its size says
 abbrev pub Sized : (ℕ → List ℕ) → List ℕ → ℕ → Type 0
 Sized f object n = (i : ℕ) → i < n → hasBytes (sectionAt object i) ≡ true → length (f i) ≡ sectionAt object i .size
 

@@ -8,13 +8,13 @@ use Rattle.elf_read.specs.Sections.{sectionAt}
 use Rattle.plan_pieces.specs.declared.Span.{Span}
 use Rattle.placing_check.specs.Placing.{endOf, hasBytes}
 
--- the end of the highest laid byte of the sections below i; 0 with none laid
+-- the end of the highest laid byte of the sections below i, or 0 if none is laid
 unfoldable pub highest : List ℕ → List ℕ → ℕ → ℕ → ℕ
 highest object addresses base zero = 0
 highest object addresses base (suc i) =
     cond (hasBytes (sectionAt object i)) (max (endOf object addresses i - base) (highest object addresses base i)) (highest object addresses base i)
 
--- the lowest laid byte; top with none laid
+-- the lowest laid byte of the sections below i, or `top` if none is laid
 unfoldable pub lowestByte : List ℕ → List ℕ → ℕ → ℕ → ℕ → ℕ
 lowestByte object addresses base top zero = top
 lowestByte object addresses base top (suc i) =

@@ -31,7 +31,7 @@ fn less(a: u64, b: u64) -> u64
     if b <= a { a - b } else { 0 }
 }
 
-// The end of the highest laid byte so far, with a section at an address.
+// The end of the highest laid byte, where it was `end` before this section.
 fn raised(h: Section, address: Address, base: Address, end: u64) -> u64
     ensures { λ r. ⌜ r ≡ cond (hasBytes h) (max (address .0 + h .size - base .0) end) end ⌝ }
 {
@@ -41,7 +41,7 @@ fn raised(h: Section, address: Address, base: Address, end: u64) -> u64
     larger(less(address.0 as u64 + h.size as u64, base.0 as u64), end)
 }
 
-// The lowest laid byte so far, with a section at an address.
+// The lowest laid byte, where it was `start` before this section.
 fn lowered(h: Section, address: Address, base: Address, start: u64) -> u64
     ensures { λ r. ⌜ r ≡ cond (hasBytes h) (min (address .0 - base .0) start) start ⌝ }
 {
@@ -51,7 +51,7 @@ fn lowered(h: Section, address: Address, base: Address, start: u64) -> u64
     smaller(less(address.0 as u64, base.0 as u64), start)
 }
 
-// The end of the highest laid byte of the first n sections.
+// The end of the highest laid byte of the first n sections, or 0 if none is laid.
 fn highest_end(object: &[u8], addresses: Addresses, base: Address, n: usize) -> u64
     requires { ⌜ SoundObject (now object) × (n ≤ sectionCount (now object)) ⌝ }
     ensures { λ r. ⌜ r ≡ highest (now (object .entry)) addresses (base .0) n ⌝ }
@@ -66,7 +66,7 @@ fn highest_end(object: &[u8], addresses: Addresses, base: Address, n: usize) -> 
     end
 }
 
-// The lowest laid byte of the first n sections; top with none laid.
+// The lowest laid byte of the first n sections, or `top` if none is laid.
 fn lowest_start(object: &[u8], addresses: Addresses, base: Address, top: u64, n: usize) -> u64
     requires { ⌜ SoundObject (now object) × (n ≤ sectionCount (now object)) ⌝ }
     ensures { λ r. ⌜ r ≡ lowestByte (now (object .entry)) addresses (base .0) top n ⌝ }
@@ -81,7 +81,7 @@ fn lowest_start(object: &[u8], addresses: Addresses, base: Address, top: u64, n:
     start
 }
 
-// The span of an install, counted from the image's first byte. Where check 8 passes it lies inside the image.
+// The span of an install, counted from the image's first byte. If check 8 passes, it lies inside the image.
 pub fn span_of(object: &[u8], addresses: Addresses, base: Address) -> Span
     requires { ⌜ SoundObject (now object) × (highest (now object) addresses (base .0) (sectionCount (now object)) < 4294967296) ⌝ }
     ensures { λ r. ⌜ r ≡ spanOf (now (object .entry)) addresses (base .0) ⌝ }

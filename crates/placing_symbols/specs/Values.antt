@@ -21,9 +21,9 @@ abbrev pub ofUndefined : Symbol → Value → SymbolValue
 ofUndefined y (Given v) = Resolved v
 ofUndefined y NotGiven = cond (eqb (y .binding) STB_WEAK) (Resolved (address 0)) Unresolved
 
--- a symbol of the table, by the section that it is defined in: "placed address plus value modulo 2^32 for a symbol of an allocated row;
--- the value for section 0xFFF1", an absolute symbol, which is in no section: its value is the address itself; "for an undefined symbol the
--- order's value, else 0 if weak". "Anything else" does not resolve.
+-- the value of a symbol of the table, by the section that it is defined in: "placed address plus value modulo 2^32 for a symbol of an
+-- allocated row; the value for section 0xFFF1"; "for an undefined symbol the order's value, else 0 if weak". "Anything else" does not
+-- resolve. Section 0xFFF1 means an absolute symbol: it is in no section, and its value is the address itself.
 unfoldable pub ofSection : List ℕ → List ℕ → List ℕ → ℕ → Symbol → SymbolValue
 ofSection object order addresses k y =
     cond (isAllocated object (y .section)) (Resolved (address (plus (addressWidth object) (getD addresses (y .section) 0) (y .value .0))))

@@ -1,4 +1,4 @@
-// What symbols are worth.
+// The values of symbols.
 ghost use mathlib.Core.Path.{_≡_};
 ghost use Rattle.elf_check.specs.Requires.{SoundObject};
 ghost use Rattle.order_format.specs.Orders.{reading};
@@ -17,7 +17,7 @@ use order_format::Reading;
 use order_lookup::Addresses;
 use order_lookup::Value;
 
-// What a symbol is worth, or that it does not resolve.
+// The value of a symbol, or that it does not resolve.
 pub enum SymbolValue {
     Resolved(Address),
     Unresolved,
@@ -39,7 +39,7 @@ fn undefined_value(symbol: Symbol, value: Value) -> SymbolValue
     }
 }
 
-// The value of a symbol, with the addresses that it was looked up in.
+// The value of a symbol, and the addresses, which are passed by value and handed back.
 pub struct Lookup {
     pub value: SymbolValue,
     pub addresses: Addresses,
@@ -75,7 +75,7 @@ fn value_in_section(
     undefined_value(symbol, order_lookup::external_value(order, counts, k))
 }
 
-// The symbol table: its header, and how many symbols it has. Without symbols the header means nothing.
+// The symbol table: its header, and how many symbols it has. If it has none, nothing reads the header.
 pub struct Symbols {
     pub table: Section,
     pub count: usize,

@@ -1,5 +1,5 @@
--- What an install lays: pieces of bytes, their span, and the judgement that decides on them. Which bytes these are is the judgement's
--- matter; here it is any function.
+-- What an install lays: pieces of bytes, their span, and the judgement that decides which bytes these are. Here the judgement may be any
+-- function.
 use mathlib.Core.Path.{_≡_}
 use Prim.Native.Nat.{ℕ, _+_, _-_, _≤_, min, max}
 use mathlib.Core.List.{List, [], _∷_}
@@ -24,12 +24,12 @@ pub data Verdict : Type 0 where
 abbrev pub Judge : Type 0
 Judge = List ℕ → List ℕ → ℕ → Verdict
 
--- each piece ends inside an image of the length
+-- each piece ends inside an image of `len` bytes
 abbrev pub Inside : ℕ → List Piece → Type 0
 Inside len [] = Unit {0}
 Inside len (piece at b ∷ ps) = (at + length b ≤ len) × Inside len ps
 
--- the one thing that is assumed of a judgement: its plans lie inside the image
+-- the only assumption about a judgement: its plans lie inside the image
 abbrev pub LaysInside : Judge → Type 0
 LaysInside judge = (object order : List ℕ) (len : ℕ) (ps : List Piece) → judge object order len ≡ plan ps → Inside len ps
 
@@ -42,18 +42,18 @@ overwritten s (piece at b ∷ ps) = overwritten (sets s at b) ps
 
 -- ---- the span: "from the lowest to the end of the highest laid byte; with none laid it is start 0, length 0"
 
--- the end of the highest laid byte; 0 with none laid
+-- the end of the highest laid byte, or 0 if none is laid
 unfoldable pub end : List Piece → ℕ
 end [] = 0
 end (piece at [] ∷ ps) = end ps
 end (piece at (b ∷ bs) ∷ ps) = max (at + length (b ∷ bs)) (end ps)
 
--- the lowest laid byte; top with none laid
+-- the lowest laid byte, or `top` if none is laid
 unfoldable pub lowest : ℕ → List Piece → ℕ
 lowest top [] = top
 lowest top (piece at [] ∷ ps) = lowest top ps
 lowest top (piece at (b ∷ bs) ∷ ps) = min at (lowest top ps)
 
--- with none laid, end and lowest are both 0
+-- if no byte is laid, `end` and `lowest` are both 0
 unfoldable pub spanOf : List Piece → Span
 spanOf ps = record { start = lowest (end ps) ps; size = end ps - lowest (end ps) ps }

@@ -1,4 +1,4 @@
--- The bounds that later crates take of a sound object.
+-- The bounds that a sound object gives to later crates.
 use mathlib.Core.Logic.{_⊎_, inl, inr}
 use mathlib.Core.Path.{_≡_, refl}
 use mathlib.Core.Bool.{Bool, true, false, cond, not}
@@ -104,7 +104,7 @@ module _ (s : List ℕ) (f : SoundObject s) where
       let inside = f .sections i h .inside (λ e. omega arith) (λ e. omega arith) in
       record { inside = omega (arith, t .1) }
 
-  -- the sections up to any hold few
+  -- the sections below any i together hold at most `maxRelocations` relocations
   few-below : (i : ℕ) → i ≤ sectionCount s → relocationsBelow s i ≤ maxRelocations
   unfolding sum relocationsIn
   few-below zero h = omega arith

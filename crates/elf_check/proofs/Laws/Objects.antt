@@ -68,7 +68,7 @@ section-symbols s i e k =
     let few : leb (symbolEntries h) maxSymbols ≡ true = search (and-left, and-right) in
     record { lowest = eqb-true _ _ lowest; entries = eqb-true _ _ entries; whole = eqb-true _ _ whole; few = leb-true _ _ few }
 
--- a test that cannot hold twice
+-- two tests that cannot both hold
 not-both : (a b : Bool) → not (a && b) ≡ true → a ≡ true → b ≡ true → ⊥
 not-both a b n p q =
     let z : _≡_ {A = Bool} false true = sym (ap not (both a b p q)) ∙ n in
@@ -260,7 +260,7 @@ sound-object s e =
       sections = λ i h. section-sound s i (check-wells s sections i h);
     }
 
--- and back
+-- a sound object passes checks 4 and 5
 pub object-sound : (s : List ℕ) → SoundObject s → objectCheck s ≡ Passed
 unfolding objectCheck
 object-sound s f =

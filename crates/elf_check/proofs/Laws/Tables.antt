@@ -32,7 +32,7 @@ module _ (s : List ℕ) (i : ℕ) where
   unfolding noCountingRel countingRel
   broken-rel t k = rw (t, eq-eqb _ _ k)
 
-  -- neither
+  -- a section that is neither REL nor RELA
   pub well-other : (sectionAt s i .kind ≡ REL → ⊥) → (sectionAt s i .kind ≡ RELA → ⊥) → relocationWell s i ≡ true
   unfolding noCountingRel relaWell relocationsWell countingRel countingRela
   well-other rel rela = rw (ne-eqb _ _ rel, ne-eqb _ _ rela)

@@ -1,4 +1,4 @@
--- A field's value has the field's bits, and with the bits outside it makes the whole.
+-- The value of a field has the field's bits. Together with the bits outside the field it determines the whole.
 use mathlib.Core.Path.{_≡_, sym, ap, ap₂, _∙_}
 use Prim.Native.Nat.{ℕ, suc, _+_, _-_, _*_, _/_, _%_, _^_, _<_}
 use native.Mathlib.Nat.{mod-lt}
@@ -21,18 +21,18 @@ Agree (keep n ∷ runs) w v = Agree runs (w / 2 ^ n) (v / 2 ^ n)
 Agree (imm high low ∷ runs) w v =
     (w % 2 ^ (suc high - low) ≡ v % 2 ^ (suc high - low)) × Agree runs (w / 2 ^ (suc high - low)) (v / 2 ^ (suc high - low))
 
--- a number is known by its lowest digit and the rest
+-- a number is determined by its lowest digit and the rest
 whole : (n w v : ℕ) → w % 2 ^ n ≡ v % 2 ^ n → w / 2 ^ n ≡ v / 2 ^ n → w ≡ v
 whole n w v low high = sym (split w n) ∙ ap₂ (λ q r. q * 2 ^ n + r) high low ∙ split v n
 
--- sums of a digit and the rest above it are equal in both
+-- if two sums of a digit and the rest above it are equal, so are the digits and the rests
 low-same : (n a b x y : ℕ) → a < 2 ^ n → b < 2 ^ n → a + 2 ^ n * x ≡ b + 2 ^ n * y → a ≡ b
 low-same n a b x y ha hb e = sym (digit-low n a x ha) ∙ ap (λ s. s % 2 ^ n) e ∙ digit-low n b y hb
 
 high-same : (n a b x y : ℕ) → a < 2 ^ n → b < 2 ^ n → a + 2 ^ n * x ≡ b + 2 ^ n * y → x ≡ y
 high-same n a b x y ha hb e = sym (digit-high n a x ha) ∙ ap (λ s. s / 2 ^ n) e ∙ digit-high n b y hb
 
--- what has the same digits there, and the same bits outside, is the same
+-- two numbers with the same digits there and the same bits outside are the same
 agreed : (runs : List Bits) (w v : ℕ) → w < 2 ^ total runs → v < 2 ^ total runs → outside runs w ≡ outside runs v → Agree runs w v → w ≡ v
 unfolding outside total
 agreed [] w v hw hv o a = omega arith
@@ -130,7 +130,7 @@ agree (Data W16) w v e = (omega arith, tt)
 agree (Data W32) w v e = (omega arith, tt)
 agree (Data W64) w v e = (omega arith, tt)
 
--- an instruction or datum is known by its field's value and the bits outside
+-- an instruction or datum is determined by the value of its field and the bits outside
 pub determined : (f : Field) (w v : ℕ) → w < 2 ^ total (layout f) → v < 2 ^ total (layout f) → outside (layout f) w ≡ outside (layout f) v
     → read (layout f) w ≡ read (layout f) v → w ≡ v
 determined f w v hw hv o e = agreed (layout f) w v hw hv o (agree f w v e)

@@ -56,7 +56,7 @@ held-is (Data W64) v h = omega arith
 pub reads-back : (f : Field) (w v : ℕ) → v % unit f ≡ 0 → read (layout f) (put (layout f) w v) ≡ v % 2 ^ valueBits f
 reads-back f w v h = read-put (layout f) w v ∙ held-is f v h
 
--- and a signed one as signed: every whole number that the field's bits spell, and that is a multiple of its unit
+-- a signed value is read back as signed: every whole number that the field's bits spell, and that is a multiple of its unit
 pub reads-back-signed : (f : Field) (w j : ℕ) (z : ℤ) → Spelt (valueBits f) z → residue (j + valueBits f) z % unit f ≡ 0
     → signed (valueBits f) (read (layout f) (put (layout f) w (residue (j + valueBits f) z))) ≡ z
 reads-back-signed f w j z s h =

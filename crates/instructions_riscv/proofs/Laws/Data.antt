@@ -37,7 +37,7 @@ set-whole j h v x b =
     ∙ sym (mod-eq-of-lt (residue-lt (suc h) (signed (j + suc h) x)))
     ∙ sym (put-whole h v (residue (suc h) (signed (j + suc h) x)))
 
--- of what is put into six bits, six bits count
+-- only the low six bits of what is put into a six-bit field count
 six-cut : (v a b : ℕ) → a % 64 ≡ b % 64 → put six v a ≡ put six v b
 unfolding put
 six-cut v a b e = omega arith
@@ -59,7 +59,7 @@ sub-six j v x b =
 pub set-six : (j v x : ℕ) → x < 2 ^ (j + 6) → put six v x ≡ put six v (residue 6 (signed (j + 6) x))
 set-six j v x b = six-cut v x (residue 6 (signed (j + 6) x)) (cut-signed j 6 x b ∙ sym (mod-eq-of-lt (residue-lt 6 (signed (j + 6) x))))
 
--- at every width, of what is put in the field's bits count
+-- at every width, only as many bits of what is put in count as the field has
 pub set-data : (n : Width) (v x : ℕ) → x < 2 ^ 64 → put (dataLayout n) v x ≡ replaced n v (signed 64 x)
 unfolding replaced
 set-data W6 v x b = set-six 58 v x b

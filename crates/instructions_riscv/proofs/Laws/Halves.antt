@@ -29,7 +29,7 @@ halves-sum w x =
     ∙ ap (λ n. n % 2 ^ w) (add-comm (residue w (pos (4096 * high w x))) (residue w (pos x -ℤ pos (4096 * high w x))))
     ∙ residue-sub w (pos x) (pos (4096 * high w x))
 
--- a multiple of 4096 taken away leaves the twelve bits
+-- subtracting a multiple of 4096 does not change the low twelve bits
 sub-multiple : (x q : ℕ) → residue 12 (pos x -ℤ pos (4096 * q)) ≡ x % 4096
 unfolding residue
 sub-multiple x q =
@@ -39,7 +39,7 @@ sub-multiple x q =
     ∙ ap (λ n. (residue 12 z + n) % 4096) (sym (mul-mod-right 4096 q))
     ∙ residue-sub 12 (pos x) (pos (4096 * q))
 
--- the twelve bits of the low half are x's own
+-- the twelve bits of the low half are the low twelve bits of x
 pub low-bits : (k x : ℕ) → residue 12 (low (k + 12) x) ≡ x % 4096
 low-bits k x =
     sym (residue-narrow k 12 (low (k + 12) x))
@@ -86,7 +86,7 @@ low-spelt k x = subst (Spelt 12) (sym (low-rest k x)) (rest-spelt 0 x)
 
 -- ---- at every width that is wide enough
 
--- a law of the widths k + n, of a width w that is at least n
+-- a law of all widths k + n holds for every width w that is at least n
 pub at-least : (P : ℕ → Type 0) (n w : ℕ) → n ≤ w → ((k : ℕ) → P (k + n)) → P w
 at-least P n w h law = let same : w - n + n ≡ w = omega arith in subst P same (law (w - n))
 
@@ -113,11 +113,11 @@ spelt-32 w u h ahead back = go (ltb (2 * u) (2 ^ w)) refl
     go true e = ahead (ltb-true _ _ e)
     go false e = spelt-sub 32 u (2 ^ w) (omega arith) (back (ltb-false _ _ e))
 
--- at 32 bits every one is
+-- at 32 bits every high half is one
 pub high-spelt-32 : (x : ℕ) → HighSpelt 32 x
 high-spelt-32 x = spelt-32 32 (4096 * high 32 x) (high-lt 32 x (omega arith)) (λ l. l) (λ l. omega arith)
 
--- at a greater width those of the numbers from -2,147,485,696 to 2,147,481,599 are (document 02, Ticket 1, asks for these at 64 bits)
+-- at a greater width the high halves of the numbers from -2,147,485,696 to 2,147,481,599 are (document 02, Ticket 1, asks for these at 64 bits)
 near-ahead : (k x : ℕ) → 20 ≤ k → x ≤ 2147481599 → 4096 * high (k + 12) x < 2 ^ 31
 unfolding high
 near-ahead k x h near =
@@ -157,7 +157,7 @@ near-spelt w x wide small e =
     at-least (λ w. 32 ≤ w → x < 2 ^ w → within 2147485696 2147481599 (signed w x) ≡ true → HighSpelt w x) 12 w (omega arith)
     (λ k wide small e. near-either k x wide small (ltb (2 * x) (2 ^ (k + 12))) e) wide small e
 
--- then its low 32 bits, extended, are it
+-- then the sign extension of its low 32 bits is the high half again
 pub high-extended : (w x : ℕ) → 32 ≤ w → HighSpelt w x → residue w (signed 32 (4096 * high w x % 2 ^ 32)) ≡ 4096 * high w x
 high-extended w x h s =
     let u : ℕ = 4096 * high w x in

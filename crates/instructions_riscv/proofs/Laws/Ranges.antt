@@ -18,7 +18,7 @@ use Rattle.instructions_riscv.specs.Ranges.{distance, branch, jal, rvcBr
 use Rattle.instructions_fields.proofs.Laws.Fields.{reads-back-signed}
 use Rattle.instructions_riscv.proofs.Laws.Halves.{at-least}
 
--- both ends are reached, the next steps are not, and nothing odd is
+-- both ends are reached; two steps further out and one step further in, which is odd, nothing is
 pub record Ends (r : Range) (back ahead : ℕ) : Type 0 where
   pub ahead-in : reaches r (pos ahead) ≡ true
   pub ahead-odd : reaches r (pos (ahead - 1)) ≡ false
@@ -52,7 +52,7 @@ anywhere-reaches t p ht hp = go (ltb t p) refl
     go true e = rw (sub-back t p (ltb-true t p e), le-leb (suc (p - suc t)) 0xFFFFFFFF (omega arith)) (and-true _)
     go false e = rw (sub-ahead t p (ltb-false t p e), le-leb (t - p) 0xFFFFFFFF (omega arith)) (and-true _)
 
--- a distance that is reached, put into its field modulo 2^w, is read back whole
+-- a distance that is reached, and put into its field modulo 2^w, is read back whole
 reached-reads-back : (f : Field) (r : Range) (w b : ℕ) (z : ℤ) → valueBits f ≤ w → 1 ≤ w → unit f ≡ 2 → 2 * r .back ≤ 2 ^ valueBits f → 2 * r .ahead < 2 ^ valueBits f
     → reaches r z ≡ true → signed (valueBits f) (read (layout f) (put (layout f) b (residue w z))) ≡ z
 unfolding reaches
@@ -62,7 +62,7 @@ reached-reads-back f r w b z wide one two back ahead e =
     (λ j low. reads-back-signed f b j z (within-spelt (valueBits f) (r .back) (r .ahead) z back ahead (and-right (even z) _ e)) (rw two low))
     is-even
 
--- every jump and branch gives its whole distance, read by the manual
+-- every jump and branch gives its whole distance when it is read as the manual says
 pub branch-reads-back : (w b : ℕ) (z : ℤ) → 32 ≤ w → reaches branch z ≡ true → signed 13 (read (layout B) (put (layout B) b (residue w z))) ≡ z
 branch-reads-back w b z h e = reached-reads-back B branch w b z (omega arith) (omega arith) refl (omega arith) (omega arith) e
 

@@ -16,7 +16,7 @@ use Rattle.journal_format.specs.Journals.{numberSize, entrySize, entryAt
 
 -- ---- places that no piece touches
 
--- n places from i on
+-- no piece touches the n places from i on
 abbrev pub Clear : ℕ → ℕ → List Piece → Type 0
 Clear i n [] = Unit {0}
 Clear i n (piece at b ∷ ps) = ((i + n ≤ at) ⊎ (at + length b ≤ i)) × Clear i n ps

@@ -96,7 +96,7 @@ module _ (j : List ℕ) (len : ℕ) where
       go true e = absurd (unsound (test-sound e))
       go false e = refl
 
-  -- the last thing that is tested
+  -- if everything else holds, the last test decides: whether k is the sum of the lengths
   pub sound-by-held : (s : ℕ) → s ≡ total (entries j) → count j ≤ maxEntries → oldAt + held j ≤ length j
       → ((i : ℕ) → i < maxEntries → allowed j len i ≡ true)
       → eqb (held j) s ≡ sound j len

@@ -35,7 +35,7 @@ Stands judge base room (x ∷ xs) =
 abbrev pub filesOf : List ℕ → List Standing → ℕ → List ℕ → Files
 filesOf base xs free rest = record { image = laid base xs; journal = journalOf (spans xs) free (olds base xs ++ rest) }
 
--- that free and rest are what they should be, of standing installs that the judgement planned
+-- `free` and `rest` are what they should be, for standing installs that the judgement planned
 pub record Shape (judge : Judge) (base : List ℕ) (room : ℕ) (xs : List Standing) (free : ℕ) (rest : List ℕ) : Type 0 where
   pub short : length base ≤ 65536
   pub slots : length (spans xs) + free ≡ maxEntries

@@ -1,5 +1,5 @@
--- What follows: a refusal changes nothing; a done install that is rolled back is as if it had never been asked for. Assumes nothing but that
--- plans lie inside the image.
+-- What follows: a refusal changes nothing; a done install that is rolled back is as if it had never been asked for. The only assumption is
+-- that plans lie inside the image.
 use mathlib.Core.Path.{_≡_, refl, sym, ap, _∙_}
 use Prim.Native.Nat.{ℕ}
 use native.Mathlib.Omega.{arith}

@@ -1,4 +1,4 @@
--- Demand 3 over any judgement: of every list of calls, from every start. Assumes nothing but that plans lie inside the image.
+-- Demand 3 over any judgement, for every list of calls from every start. The only assumption is that plans lie inside the image.
 use mathlib.Core.Path.{_≡_, refl, sym, ap, ap₂, _∙_}
 use Prim.Native.Nat.{ℕ}
 use native.Mathlib.Omega.{arith}
@@ -62,13 +62,13 @@ module _ (judge : Judge) (lays : LaysInside judge) where
     abbrev at : List Standing → History
     at xs = record { start = base; room = room; standing = xs }
 
-    -- one that stands, asked for where those below it stand
+    -- an install that stands, asked for again where only the older ones stand, is done again
     again : (x : Standing) (xs : List Standing) → Stands judge base room (x ∷ xs)
         → told judge (at xs) (Install (x .object) (x .order)) ≡ succeed (at (x ∷ xs))
     unfolding told stand
     again x xs t = rw (t .0, t .1)
 
-    -- they lead to themselves, and are all done
+    -- the standing installs alone lead to themselves, and are all done
     alone-run : (xs : List Standing) → Stands judge base room xs → run (told judge) (at []) (alone xs) ≡ at xs
     unfolding alone run
     alone-run [] t = refl

@@ -1,4 +1,4 @@
--- An install, way by way, by any judgement: what an installer's code has to show at each of its answers.
+-- An install by any judgement, case by case: what an installer's code has to show for each of its answers.
 use mathlib.Core.Path.{_≡_}
 use Prim.Native.Nat.{ℕ, _+_, _*_, _≤_, _<_}
 use mathlib.Core.Bool.{true, false}
@@ -19,7 +19,7 @@ use Rattle.journal_history.specs.Calls.{journalUnsound, journalFull, Fil
 use Rattle.journal_format.proofs.Laws.Sound.{test-sound, entries-length, entries-at, total-le}
 use Rattle.plan_pieces.proofs.Laws.Span.{span-inside}
 
--- where check 15 is not broken, there is an entry, and room for the span
+-- if check 15 is not broken, there is a free entry, and room for the span
 pub room-left : (n k size len : ℕ) → noRoom n k size len ≡ false → (n ≡ maxEntries → ⊥) × (oldAt + k + size ≤ len)
 unfolding noRoom
 room-left n k size len e = (
@@ -27,7 +27,7 @@ room-left n k size len e = (
   ltb-false len (oldAt + k + size) (neither-right (eqb n maxEntries) (ltb len (oldAt + k + size)) e),
 )
 
--- k of a sound journal is small where the image is short
+-- the k of a sound journal is small if the image is short
 pub held-small : (j : List ℕ) (len : ℕ) → Sound j len → len ≤ 65536 → held j ≤ 65536 * maxEntries
 held-small j len s short =
     let size : (i : ℕ) → i < length (entries j) → getD (entries j) i blank .size ≤ 65536 =
@@ -72,7 +72,7 @@ savable image j s ok allowed room inside =
       small = omega (arith, held-small j (length image) k short);
     }
 
--- of a plan's span
+-- the same for the span of a plan
 pub plan-savable : (image j : List ℕ) (ps : List Piece) → sound j (length image) ≡ true → lengthAllowed (length image) ≡ true
     → noRoom (count j) (held j) (spanOf ps .size) (length j) ≡ false → Inside (length image) ps → Savable image j (spanOf ps)
 plan-savable image j ps ok allowed room inside = savable image j (spanOf ps) ok allowed room (span-inside (length image) ps inside)

@@ -27,7 +27,7 @@ old-bytes ss free o p r at n slots ea en =
 
 module _ (image : List ℕ) (ss : List Span) (free : ℕ) (o p r : List ℕ) (len : ℕ) (slots : length ss + suc free ≡ maxEntries) (short : len ≤ 65536)
     (holds : length o ≡ total ss) where
-  -- an install onto the stack ss, where p are the bytes that the old ones take the place of
+  -- an install onto the stack ss; p are the bytes of the journal that the old bytes replace
   pub pushed : (ps : List Piece) → AllIn len ss → spanOf ps .start + spanOf ps .size ≤ length image → length p ≡ spanOf ps .size
       → installed ps (record { image = image; journal = journalOf ss (suc free) (o ++ (p ++ r)) })
       ≡ record {

@@ -118,7 +118,7 @@ module _ (image j j′ : List ℕ) (length-same : length j ≡ length j′) (fir
   abbrev there : Files
   there = record { image = image; journal = j′ }
 
-  -- the answer and the image
+  -- the answer and the image are the same
   abbrev Same : Outcome Files → Outcome Files → Type 0
   Same o o′ = (o .answer ≡ o′ .answer) × (o .after .image ≡ o′ .after .image)
 

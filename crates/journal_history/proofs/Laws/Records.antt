@@ -22,7 +22,7 @@ use Rattle.journal_history.specs.Requires.{Savable, Undoable}
 use Rattle.journal_history.specs.Records.{Appended, Released}
 use Rattle.journal_history.proofs.Laws.Past.{past-saved, past-released}
 
--- another entry lies before or behind
+-- another entry lies before or after this one
 other-entry : (i n : ℕ) → (i ≡ n → ⊥) → (entryAt i + entrySize ≤ entryAt n) ⊎ (entryAt n + entrySize ≤ entryAt i)
 other-entry i n out = go (decLt i n)
   where
@@ -212,7 +212,7 @@ module _ (image j : List ℕ) (u : Undoable image j) (small : held j < 2 ^ 32) w
       )
       (inr (rw length-bytes (omega arith)), (inr (rw length-bytes (omega arith)), (inr (rw (length-entry blank) (omega arith)), (inl (omega arith), tt))))
 
-  -- the old bytes, which are as many as the span's
+  -- there are as many old bytes as the span has
   length-held : length (part j (oldAt + heldBelow j) size) ≡ size
   length-held = length-part j (oldAt + heldBelow j) size (omega (arith, u .room, u .within))
 

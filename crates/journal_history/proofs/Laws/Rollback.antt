@@ -1,4 +1,4 @@
--- A rollback, way by way: what the code has to show at each of its answers.
+-- A rollback, case by case: what the code has to show for each of its answers.
 use mathlib.Core.Path.{_≡_}
 use mathlib.Core.Bool.{true, false}
 use mathlib.Core.List.{List}
@@ -19,7 +19,7 @@ use Rattle.journal_history.specs.Calls.{journalUnsound, windowBroken, no
 
 -- ---- what is read of the newest install, and what is written
 
--- of a sound journal in which an install stands the newest can be undone
+-- if a journal is sound and an install stands in it, the newest install can be undone
 pub undoable : (image j : List ℕ) → Sound j (length image) → 0 < count j → Undoable image j
 undoable image j k some =
     let few : count j ≤ maxEntries = k .few in

@@ -64,7 +64,7 @@ blank-past (s ∷ ss) m (suc i) h = blank-past ss m i (omega arith)
 
 -- ---- the journal of a stack
 
--- spans, the oldest first, so many entries that are free, and what follows k
+-- it has the spans, the oldest first, then the number of free entries, and what follows k
 unfoldable pub journalOf : List Span → ℕ → List ℕ → List ℕ
 journalOf ss free tail = spelt (length ss) (ss ++ replicate free blank) (total ss) tail
 
@@ -114,7 +114,7 @@ newest-at ss s free = rw append-assoc (getD-at ss s (replicate free blank) blank
 
 module _ (ss : List Span) (free : ℕ) (s : Span) (o p p′ r : List ℕ) (slots : length ss + suc free ≡ maxEntries) (holds : length o ≡ total ss)
     (same : length p ≡ length p′) where
-  -- p′ takes the place of as many bytes after the o that are held
+  -- p′ replaces as many bytes after o, which are the bytes held so far
   pub save-journal : overwritten (journalOf ss (suc free) (o ++ (p ++ r)))
       (piece (oldAt + total ss) p′
       ∷ piece (entryAt (length ss)) (entryBytes s)
@@ -128,7 +128,7 @@ module _ (ss : List Span) (free : ℕ) (s : Span) (o p p′ r : List ℕ) (slots
       simp (append-assoc, length-append, total-append, add-zero)
       (rw holds at (spelt-saving (length ss) (length ss + 1) ss blank s (replicate free blank) (total ss) (total ss + s .size) o p p′ r full same))
 
-  -- p′ takes the place of the bytes p that the newest holds
+  -- p′ replaces p, the old bytes of the newest span
   pub release-journal : overwritten (journalOf (ss ++ s ∷ []) free (o ++ p ++ r))
       (piece countAt (bytes 4 (length ss))
       ∷ piece heldAt (bytes 4 (total ss))

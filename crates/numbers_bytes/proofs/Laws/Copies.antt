@@ -8,7 +8,7 @@ use lib.Seq.{sets, length-sets}
 use Rattle.numbers_definitions.specs.Bytes.{part}
 use Rattle.numbers_definitions.proofs.Laws.Lists.{part-whole, part-stored}
 
--- over a list of the same length
+-- a whole list, copied over a list of the same length
 pub copied-whole : (l v : List ℕ) → length v ≡ length l → sets l 0 (part v 0 (length v)) ≡ v
 copied-whole l v e =
     ap (sets l 0) (part-whole v (length v) refl)

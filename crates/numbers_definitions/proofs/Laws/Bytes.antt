@@ -91,7 +91,7 @@ bytes-le (suc n) (x ∷ s) b h =
     let high : (x + 256 * le n s) / 256 ≡ le n s = omega arith in
     rw (low, high, bytes-le n s (λ i. b (suc i)) (omega arith))
 
--- the same from a place on
+-- the same for the bytes from place i on
 pub bytes-leAt : (n : ℕ) (s : List ℕ) (i : ℕ) → Bytes s → i + n ≤ length s → bytes n (leAt n s i) ≡ part s i n
 unfolding leAt part
 bytes-leAt n s i b h =

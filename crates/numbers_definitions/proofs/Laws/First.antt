@@ -8,7 +8,7 @@ use lib.ListN.{length, getD, set}
 use borrow.Author.Tests.{eqb-true, eq-eqb, not-false}
 use Rattle.numbers_definitions.specs.First.{first, everywhere, tabulate}
 
--- the one law that gives it: nothing below k, and k itself unless it is n
+-- how to show that `first` is k: p holds nowhere below k, and p holds at k unless k is n
 pub first-is : (p : ℕ → Bool) (n k : ℕ) → k ≤ n → ((j : ℕ) → j < k → p j ≡ false) → (k < n → p k ≡ true) → first p n ≡ k
 unfolding first
 first-is p zero zero h below at = refl
@@ -27,7 +27,7 @@ first-le p (suc n) = go (p zero) (first-le (λ j. p (suc j)) n)
     go true h = omega arith
     go false h = omega arith
 
--- nothing below it holds
+-- p does not hold below it
 pub first-below : (p : ℕ → Bool) (n j : ℕ) → j < first p n → p j ≡ false
 unfolding first
 first-below p zero j h = absurd (omega arith)
@@ -42,7 +42,7 @@ first-below p (suc n) (suc j) h = go (p zero) h (first-below (λ k. p (suc k)) n
     go true l rest = absurd (omega arith)
     go false l rest = rest (omega arith)
 
--- where there is one, it holds there
+-- if there is such an index, p holds at it
 pub first-at : (p : ℕ → Bool) (n : ℕ) → first p n < n → p (first p n) ≡ true
 unfolding first
 first-at p zero h = absurd (omega arith)
@@ -96,7 +96,7 @@ tabulate-same f g zero e = refl
 tabulate-same f g (suc n) e =
     rw (e 0 (omega arith), tabulate-same (λ j. f (suc j)) (λ j. g (suc j)) n (λ i h. e (suc i) (omega arith)))
 
--- a store into a tabulated list: f changed at one place
+-- a store into a tabulated list gives the list of a function that differs from f at one place only
 pub set-tabulate : {A : Type 0} (f g : ℕ → A) (n i : ℕ) → ((j : ℕ) → j < n → (j ≡ i → ⊥) → f j ≡ g j) → set (tabulate f n) i (g i) ≡ tabulate g n
 unfolding tabulate
 set-tabulate f g zero i e = refl

@@ -11,7 +11,7 @@ use Rattle.numbers_definitions.specs.Bytes.{part}
 
 -- ---- sets
 
--- a part of a list replaced by as many others
+-- a part of a list, replaced by as many other elements
 pub splice : (a b c d : List ℕ) (i : ℕ) → length a ≡ i → length b ≡ length c → sets (a ++ (b ++ d)) i c ≡ a ++ (c ++ d)
 splice a b c d i ea eb =
     let fits : i + length c ≤ length (a ++ (b ++ d)) = simp length-append (omega arith) in
@@ -47,14 +47,14 @@ sets-snoc l i (x ∷ v) a n e =
     let z : i + n ≡ suc i + length v = omega arith in
     rw z (sets-snoc (set l i x) (suc i) v a (length v) refl)
 
--- a run of stores in two
+-- a run of stores, split in two
 pub sets-append : (l : List ℕ) (i : ℕ) (a b : List ℕ) (n : ℕ) → i + length a ≡ n → sets l i (a ++ b) ≡ sets (sets l i a) n b
 sets-append l i [] b n e = let z : n ≡ i = omega arith in rw z
 sets-append l i (x ∷ a) b n e = sets-append (set l i x) (suc i) a b n (omega arith)
 
 -- ---- part
 
--- as many bytes as asked for
+-- a part has as many bytes as asked for
 pub length-part : (s : List ℕ) (i n : ℕ) → i + n ≤ length s → length (part s i n) ≡ n
 unfolding part
 length-part s i n h = length-take-le n (drop i s) (simp length-drop (omega arith))

@@ -18,6 +18,6 @@ mod-cancel m a b c pos e = sym (back a) ∙ ap (λ x. (x + (m - c % m)) % m) e �
 pub mod-sum : (m a b c d : ℕ) → a % m ≡ b % m → c % m ≡ d % m → (a + c) % m ≡ (b + d) % m
 mod-sum m a b c d e f = add-mod a c m ∙ ap₂ (λ x y. (x + y) % m) e f ∙ sym (add-mod b d m)
 
--- numbers below m that are equal modulo m, after a sum, are equal
+-- numbers below m are equal if their sums with c are equal modulo m
 pub mod-unique : (m r s c : ℕ) → r < m → s < m → (r + c) % m ≡ (s + c) % m → r ≡ s
 mod-unique m r s c hr hs e = sym (mod-eq-of-lt hr) ∙ mod-cancel m r s c (omega arith) e ∙ mod-eq-of-lt hs

@@ -23,7 +23,7 @@ ones-power k =
     let none : ones 0 ≡ 0 = unfold ones in refl in
     sym (ap ones e) ∙ ones-cat k 1 0 (pow-pos k) ∙ rw (one, none)
 
--- no bit is set in 0 only
+-- only 0 has no bit set
 ones-none : (w n : ℕ) → n < 2 ^ w → ones n ≡ 0 → n ≡ 0
 ones-none zero n h e = let b : n < 1 = rw pow-zero at h in omega arith
 ones-none (suc w) n h e =
@@ -53,7 +53,7 @@ power-of-ones (suc w) n h e =
         let none : n / 2 ≡ 0 = ones-none w (n / 2) (omega arith) (omega arith) in
         (0, omega arith, rw pow-zero (omega arith))
 
--- counting the bits tells the powers of two below 2^w
+-- counting the set bits recognises the powers of two below 2^w
 pub one-bit-is : (w n : ℕ) → n < 2 ^ w → eqb (ones n) 1 ≡ oneBit w n
 unfolding oneBit
 one-bit-is w n h = go (eqb (ones n) 1) refl (ltb (first p w) w) refl
@@ -111,7 +111,7 @@ ceil-power-least w n k h =
     below (yes l) = l
     below (no l) = absurd (not-le-of-lt h (pow-mono (le-of-suc-le-suc (lt-of-not-le l))))
 
--- 1 shifted by the length of n - 1 in bits
+-- it is 1, shifted left by the length of n - 1 in bits
 pub shift-ceil : (n : ℕ) → 0 < n → n < 2 ^ 32 → 1 * 2 ^ (32 - leadingZeros 32 (n - 1)) % 2 ^ 64 ≡ ceilPower 32 n
 unfolding ceilPower
 shift-ceil n some h =

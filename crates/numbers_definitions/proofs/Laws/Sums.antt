@@ -30,7 +30,7 @@ sum-mono f m (suc n) h = go (leb m n) refl (sum-mono f m n)
 abbrev pub passing : (ℕ → ℕ) → ℕ → ℕ → ℕ
 passing f k n = first (λ j. ltb k (sum f (suc j))) n
 
--- there is one
+-- if the whole sum is above k, there is such a place
 passing-lt : (f : ℕ → ℕ) (k n : ℕ) → k < sum f n → passing f k n < n
 unfolding sum
 passing-lt f k zero h = absurd (omega arith)
@@ -46,7 +46,7 @@ passing-lt f k (suc n) h = go (ltb (passing f k (suc n)) (suc n)) refl
         let low : sum f (suc n) ≤ k = ltb-false k (sum f (suc n)) (first-below p (suc n) n (omega arith)) in
         absurd (omega arith)
 
--- at most k lies below any place up to it
+-- the sum below any place up to it is at most k
 below-passing : (f : ℕ → ℕ) (k n i : ℕ) → i ≤ passing f k n → sum f i ≤ k
 unfolding sum
 below-passing f k n zero h = omega arith

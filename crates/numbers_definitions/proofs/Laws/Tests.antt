@@ -7,7 +7,7 @@ use native.Mathlib.Omega.{arith}
 use lib.Dec.{leb}
 use borrow.Author.Tests.{le-leb, lt-leb, leb-true, leb-false}
 
--- a test that fails and holds
+-- a test cannot both fail and hold
 pub never : {A : Type 0} → _≡_ {A = Bool} false true → A
 never e =
     let z : _≡_ {A = ℕ} 0 1 = ap (λ b. cond b 1 0) e in
@@ -28,7 +28,7 @@ and-right false b e = cc
 pub both : (a b : Bool) → a ≡ true → b ≡ true → a && b ≡ true
 both a b p q = rw (p, q)
 
--- one half holds
+-- if an `||` holds, one of its halves holds
 pub one-of-two : (a b : Bool) → (a || b) ≡ true → (a ≡ true) ⊎ (b ≡ true)
 one-of-two true b e = inl refl
 one-of-two false b e = inr e
@@ -52,7 +52,7 @@ implies true true e h = refl
 implies true false e h = never (sym e)
 implies false b e h = never h
 
--- neither holds without the other
+-- two tests are equal if neither holds without the other
 pub same-tests : (a b : Bool) → ((a && not b) || (b && not a)) ≡ false → a ≡ b
 same-tests true true e = refl
 same-tests false false e = refl
@@ -90,13 +90,13 @@ pub or-true : (a : Bool) → a || true ≡ true
 or-true true = refl
 or-true false = refl
 
--- a test that fails and holds
+-- a test cannot both fail and hold
 pub not-both : (a b : Bool) → not a ≡ true → a ≡ b → b ≡ true → ⊥
 not-both a b n e h = let z : _≡_ {A = Bool} false true = cc in let y : _≡_ {A = ℕ} 0 1 = cc in omega arith
 
 pub ruleset tests = (and-true, and-false, or-true, or-false)
 
--- two orders that say the same have one test
+-- two comparisons that say the same give the same test
 pub same-test : (a b c d : ℕ) → (c ≤ d → a ≤ b) → (d < c → b < a) → leb a b ≡ leb c d
 same-test a b c d f g = go (leb c d) refl
   where

@@ -21,7 +21,7 @@ abbrev down : ℤ → ℕ
 down (pos n) = 0
 down (negsuc n) = suc n
 
--- of a difference
+-- for a difference
 sub-up-down : (a b : ℕ) → up (subℕ a b) + b ≡ down (subℕ a b) + a
 sub-up-down a b = go (ltb a b) refl
   where
@@ -29,7 +29,7 @@ sub-up-down a b = go (ltb a b) refl
     go true e = omega (arith, ltb-true a b e)
     go false e = omega (arith, ltb-false a b e)
 
--- of a sum
+-- for a sum
 sum-up-down : (x y : ℤ) → up (x +ℤ y) + (down x + down y) ≡ down (x +ℤ y) + (up x + up y)
 sum-up-down (pos a) (pos b) = omega arith
 sum-up-down (pos a) (negsuc b) = omega (arith, sub-up-down a (suc b))
@@ -43,7 +43,7 @@ unfolding residue
 residue-lt w (pos n) = mod-lt n (pow-pos w)
 residue-lt w (negsuc n) = omega (arith, pow-pos w)
 
--- what makes it the residue
+-- the equation that makes it the residue
 residue-law : (w : ℕ) (z : ℤ) → (residue w z + down z) % 2 ^ w ≡ up z % 2 ^ w
 unfolding residue
 residue-law w (pos n) = rw (add-zero, mod-mod)
@@ -72,11 +72,11 @@ residue-add w x y =
     ∙ mod-sum m D D _ _ refl (mod-sum m _ _ _ _ (residue-law w x) (residue-law w y)) in
     mod-unique m r (s % m) (D + d) (residue-lt w (x +ℤ y)) (mod-lt s (pow-pos w)) (left ∙ sym right)
 
--- a difference and what was taken away make the first
+-- a difference, plus what was subtracted, gives the first number
 pub residue-sub : (w : ℕ) (x y : ℤ) → (residue w (x -ℤ y) + residue w y) % 2 ^ w ≡ residue w x
 residue-sub w x y = sym (residue-add w (x -ℤ y) y) ∙ ap (residue w) (-ℤ-+ℤ-cancel x y)
 
--- a number that with b makes a, modulo 2^w, is the difference
+-- a number whose sum with b is a, modulo 2^w, is the difference
 pub minus-unique : (w a b r : ℕ) → r < 2 ^ w → (r + b) % 2 ^ w ≡ a % 2 ^ w → r ≡ minus w a b
 unfolding minus residue
 minus-unique w a b r h e =
@@ -146,7 +146,7 @@ signed-residue w (negsuc n) h =
     let back : 2 ^ w - suc u ≡ n = omega arith in
     rw (small, le-ltb (2 * (2 ^ w - suc n)) (2 ^ w) (omega arith)) (sub-back u (2 ^ w) (omega arith) ∙ ap negsuc back)
 
--- at a greater width a number below half stays, and one from half on moves up by what the width grew
+-- sign extension from w to v bits: a number below half of 2^w stays, and one from there on grows by 2^v - 2^w
 pub extend-low : (v w u : ℕ) → 2 * u < 2 ^ w → u < 2 ^ v → residue v (signed w u) ≡ u
 unfolding signed residue
 extend-low v w u low h = rw (lt-ltb (2 * u) (2 ^ w) low) (mod-eq-of-lt h)
@@ -159,11 +159,11 @@ extend-high v w u d high h e =
 
 -- ---- wrapping at the width of a field
 
--- what a wrapping difference says of its result makes it the difference modulo 2^w
+-- the contract of a wrapping difference determines its result: it is the difference modulo 2^w
 pub minus-wrapped : (w v x r : ℕ) → r < 2 ^ w → v < 2 ^ w → (r + x % 2 ^ w) % 2 ^ w ≡ v → r ≡ minus w v x
 minus-wrapped w v x r hr hv e = minus-unique w v x r hr (sym (add-mod-mod r x (2 ^ w)) ∙ e ∙ sym (mod-eq-of-lt hv))
 
--- a whole number that travels as its residue at a greater width is added, and taken away, as itself
+-- adding or subtracting the residue of a whole number at a greater width is adding or subtracting the number itself
 pub plus-residue : (j k v : ℕ) (z : ℤ) → plus k v (residue (j + k) z) ≡ residue k (pos v +ℤ z)
 unfolding plus
 plus-residue j k v z =
@@ -204,7 +204,7 @@ even-residue j z e = residue-narrow j 1 z ∙ even-lowest z e
 
 -- ---- ranges
 
--- a number within a range that w bits spell
+-- a number within a range is one that w bits spell, if they spell the whole range
 pub within-spelt : (w back ahead : ℕ) (z : ℤ) → 2 * back ≤ 2 ^ w → 2 * ahead < 2 ^ w → within back ahead z ≡ true → Spelt w z
 unfolding within
 within-spelt w back ahead (pos n) b a e = let h : n ≤ ahead = leb-true n ahead e in omega arith

@@ -11,7 +11,7 @@ use borrow.Author.Tests.{ltb-true, lt-ltb}
 use Rattle.numbers_definitions.proofs.Laws.First.{everywhere-is, everywhere-at}
 use Rattle.order_format.specs.Orders.{ascending}
 
--- each number below its next one: they ascend
+-- numbers ascend if each is below the next one
 pub ascending-is : (f : ℕ → ℕ) (n : ℕ) → ((i : ℕ) → suc i < n → f i < f (suc i)) → ascending f n ≡ true
 unfolding ascending
 ascending-is f n step =

@@ -102,7 +102,7 @@ entryAt-bytes x s a t at e l hi hv =
     let fields : _≡_ {A = Entry} (entryAt s at 0) (record { index = x .index; value = address (x .value .0) }) = rw (index, value) in
     fields
 
--- entries that stand after one
+-- entries that stand after a stretch of bytes
 tabulate-entries : (es : List Entry) (s a t : List ℕ) (at : ℕ) → s ≡ a ++ (encodeEntries es ++ t) → length a ≡ at
     → ((i : ℕ) → i < length es → getD es i none .index < 2 ^ 32)
     → ((i : ℕ) → i < length es → getD es i none .value .0 < 2 ^ 32)
@@ -216,6 +216,6 @@ module _ (o : Order) where
         rw (externalCount-encode, placementCount-encode, base-encode, placements-encode, externals) in
         fields
 
--- no two orders are confused
+-- orders with the same bytes are equal
 pub encode-injective : (o q : Order) → Spellable o → Spellable q → encode o ≡ encode q → o ≡ q
 encode-injective o q ko kq e = sym (orderOf-encode o ko) ∙ ap orderOf e ∙ orderOf-encode q kq

@@ -1,4 +1,4 @@
--- What is known of bytes that are an order's.
+-- What is known of bytes that are an order.
 use mathlib.Core.Path.{_≡_, refl, sym, subst}
 use mathlib.Core.Bool.{Bool, true, false, cond, _&&_}
 use mathlib.Core.List.{List}
@@ -80,7 +80,7 @@ sound-reading s c k =
     let same : c ≡ orderHeaderOf s = sound-counts s c k in
     rw (sound-wellFormed s (subst (Sound s) same k), same)
 
--- no counts are sound
+-- if the counts of the bytes are not sound, the bytes are malformed
 pub unsound-reading : (s : List ℕ) → (Sound s (orderHeaderOf s) → ⊥) → Malformed ≡ reading s
 unfolding reading
 unsound-reading s unsound = go (wellFormed s) refl
@@ -89,7 +89,7 @@ unsound-reading s unsound = go (wellFormed s) refl
     go true w = absurd (unsound (wellFormed-sound s w))
     go false w = refl
 
--- the same of counts that were read
+-- the same for counts that were read
 pub unsound-read : (s : List ℕ) (p e : ℕ) → p ≡ placementCount s → e ≡ leAt 4 s (externalCountAt p)
     → (Sound s (record { base = address (base s); placements = p; externals = e }) → ⊥)
     → Malformed ≡ reading s

@@ -28,7 +28,7 @@ unfolding filled addresses placedAt
 filled-all s n e = rw e
 
 module _ (s : List ℕ) (i : ℕ) (e : Entry) (read : e ≡ entryAt s placementsStart i) where
-  -- a number that the placement does not have keeps its entry
+  -- a section that the placement does not name keeps its entry
   kept : (section : ℕ) → (section ≡ e .index → ⊥) → valueIn s placementsStart i section ≡ valueIn s placementsStart (i + 1) section
   kept section other = sym (valueIn-more s placementsStart i section (λ z. other (sym z ∙ sym (ap (λ (e : Entry). e .index) read))))
 
@@ -43,7 +43,7 @@ module _ (s : List ℕ) (i : ℕ) (e : Entry) (read : e ≡ entryAt s placements
       (set-tabulate (λ section. orZero (valueIn s placementsStart i section)) (λ section. orZero (valueIn s placementsStart (i + 1) section)) maxSections (e .index)
       (λ section l other. ap orZero (kept section other)))
 
-  -- one of a section past it is not
+  -- a placement of a section past the array is not stored
   pub filled-out : maxSections ≤ e .index → filled s i ≡ filled s (i + 1)
   unfolding filled
   filled-out high =

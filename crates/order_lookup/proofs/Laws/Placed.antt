@@ -18,7 +18,7 @@ use Rattle.order_lookup.proofs.Laws.Values.{valueIn-at, valueIn-none}
 abbrev pub Unnamed : List ℕ → ℕ → ℕ → ℕ → Type 0
 Unnamed s at n k = (j : ℕ) → j < n → entryAt s at j .index ≡ k → ⊥
 
--- nothing is given exactly where no entry has the number
+-- a number has no value exactly if no entry has the number
 valueIn-unnamed : (s : List ℕ) (at n k : ℕ) → ascending (λ i. entryAt s at i .index) n ≡ true
     → (valueIn s at n k ≡ NotGiven → Unnamed s at n k) × (Unnamed s at n k → valueIn s at n k ≡ NotGiven)
 valueIn-unnamed s at n k a =

@@ -1,4 +1,4 @@
--- The value that entries give a number.
+-- The value that entries give to a number.
 use mathlib.Core.Path.{_≡_, refl, sym, ap, _∙_}
 use mathlib.Core.Bool.{Bool, true, false, cond}
 use mathlib.Core.List.{List}
@@ -16,7 +16,7 @@ use Rattle.order_lookup.specs.Values.{valueIn}
 use Rattle.order_format.proofs.Laws.Ascending.{ascending-lt}
 
 module _ (s : List ℕ) (at n k : ℕ) where
-  -- no entry has the number
+  -- a number that no entry has is given no value
   pub valueIn-none : ((j : ℕ) → j < n → entryAt s at j .index ≡ k → ⊥) → valueIn s at n k ≡ NotGiven
   unfolding valueIn
   valueIn-none none =
@@ -24,7 +24,7 @@ module _ (s : List ℕ) (at n k : ℕ) where
       first-is (λ j. eqb (entryAt s at j .index) k) n n (omega arith) (λ j h. ne-eqb _ _ (none j h)) (λ h. absurd (omega arith)) in
       rw (end, le-ltb n n (omega arith))
 
-  -- the numbers up to a place are below it, and from there on above it
+  -- nor is a number that lies above those before place m and below those from m on
   pub valueIn-between : (m : ℕ) → ((j : ℕ) → j < m → entryAt s at j .index < k) → ((j : ℕ) → m ≤ j → j < n → k < entryAt s at j .index)
       → valueIn s at n k ≡ NotGiven
   valueIn-between m below above = valueIn-none (λ j h e. go j h e (ltb j m) refl)
@@ -33,7 +33,7 @@ module _ (s : List ℕ) (at n k : ℕ) where
       go j h e true l = omega (arith, below j (ltb-true j m l))
       go j h e false l = omega (arith, above j (ltb-false j m l) h)
 
-  -- of entries that ascend, the one that has the number gives it its value
+  -- if the entries ascend, the one that has the number gives it its value
   pub valueIn-at : ascending (λ i. entryAt s at i .index) n ≡ true → (i : ℕ) → i < n → entryAt s at i .index ≡ k
       → valueIn s at n k ≡ Given (entryAt s at i .value)
   unfolding valueIn
@@ -44,7 +44,7 @@ module _ (s : List ℕ) (at n k : ℕ) where
       (λ l. eq-eqb _ _ e) in
       rw (here, lt-ltb i n h)
 
-  -- the same of an entry that was read
+  -- the same for an entry that was read
   pub valueIn-read : ascending (λ i. entryAt s at i .index) n ≡ true → (i : ℕ) (e : Entry) → e ≡ entryAt s at i → e .index ≡ k → i < n
       → Given (e .value) ≡ valueIn s at n k
   valueIn-read a i e here same h =

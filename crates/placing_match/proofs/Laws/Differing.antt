@@ -1,4 +1,4 @@
--- Laws of check 6, by the lowest section that is not placed and the first placement of none.
+-- Laws of check 6, by the lowest allocated section that is not placed and the first placement that names no allocated section.
 use mathlib.Core.Path.{_≡_, sym, ap, _∙_}
 use mathlib.Core.Bool.{Bool, true, false, not, _&&_}
 use mathlib.Core.List.{List}
@@ -70,7 +70,7 @@ module _ (object order : List ℕ) where
   pub unplaced-le : unplaced ≤ sectionCount object
   unplaced-le = first-le (missing object order) (sectionCount object)
 
-  -- none below k, where the lowest is not there or not below k
+  -- no section below k lacks a placement if there is no lowest such section, or if it is not below k
   pub not-missing-below : (k : ℕ) → (ltb unplaced (sectionCount object) && ltb unplaced k) ≡ false → (j : ℕ) → j < k → missing object order j ≡ false
   not-missing-below k e j l = go (decLt unplaced (sectionCount object))
     where
@@ -106,7 +106,8 @@ module _ (object order : List ℕ) where
 
 -- ---- what check 6 answers, by what was found on the way
 
--- the lowest section that is not placed and the first placement of none, and how many sections and placements there are
+-- u is the lowest allocated section that is not placed, x the first placement that names no allocated section; n and p are the numbers of
+-- sections and of placements
 pub record Found (object order : List ℕ) (u x n p : ℕ) : Type 0 where
   pub lowest : u ≡ unplaced object order
   pub first-one : x ≡ firstExtra object order
@@ -125,7 +126,7 @@ module _ (object order : List ℕ) (u x n p : ℕ) (f : Found object order u x n
   first-index : (e : Entry) → e ≡ entryAt order placementsStart x → e .index ≡ placement order (firstExtra object order) .index
   first-index e read = ap (λ (e : Entry). e .index) (read ∙ ap (placement order) (f .first-one))
 
-  -- a section below the first placement of none is not placed
+  -- section u is there, and lies below the number that placement x names
   pub found-lower : (e : Entry) → e ≡ entryAt order placementsStart x → x < p → (ltb u n && ltb u (e .index)) ≡ true → At u ≡ placementCheck object order
   found-lower e read h flag =
       let index = first-index e read in
@@ -139,7 +140,7 @@ module _ (object order : List ℕ) (u x n p : ℕ) (f : Found object order u x n
       (λ j l. extra-below object order ascends there j (omega (arith, f .lowest)))
       (missing-below object order) (missing-at object order in-table))
 
-  -- none is
+  -- section u is not there, or does not lie below that number
   pub found-extra : (e : Entry) → e ≡ entryAt order placementsStart x → x < p → e .index < 2 ^ 32 → (ltb u n && ltb u (e .index)) ≡ false
       → At (e .index) ≡ placementCheck object order
   found-extra e read h small flag =
@@ -152,7 +153,7 @@ module _ (object order : List ℕ) (u x n p : ℕ) (f : Found object order u x n
       (differ-extra object order (placement order (firstExtra object order) .index) (omega arith) (extra-below object order ascends there)
       (not-missing-below object order (placement order (firstExtra object order) .index) none) (extra-at object order ascends there))
 
-  -- every placement is of an allocated section
+  -- every placement names an allocated section
   pub found-missing : p ≤ x → ltb u n ≡ true → At u ≡ placementCheck object order
   found-missing h flag =
       let none : placementCount order ≤ firstExtra object order = omega (arith, f .first-one, f .placements) in

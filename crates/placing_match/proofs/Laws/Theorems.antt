@@ -1,4 +1,4 @@
--- What check 6 gives.
+-- What follows if check 6 passes.
 use mathlib.Core.Path.{_≡_, refl, _∙_}
 use mathlib.Core.Bool.{Bool, true, false, cond}
 use mathlib.Core.List.{List}

@@ -1,4 +1,4 @@
--- What check 8 gives of the span: it lies inside the image.
+-- If check 8 passes, the span lies inside the image.
 use mathlib.Core.Path.{_≡_, refl}
 use Prim.Native.Nat.{ℕ, zero, suc, _+_, _-_, _≤_, _<_, min, max}
 use native.Mathlib.Omega.{arith}
@@ -25,7 +25,7 @@ raised-le : (b : Bool) (a l top : ℕ) → (b ≡ true → a ≤ top) → l ≤ 
 raised-le true a l top f h = omega (arith, f refl)
 raised-le false a l top f h = h
 
--- where each laid section ends by the top, so does the highest
+-- if each laid section ends at or below `top`, so does the highest
 highest-le : (object addresses : List ℕ) (base top n : ℕ) → ((i : ℕ) → i < n → hasBytes (sectionAt object i) ≡ true → endOf object addresses i - base ≤ top)
     → highest object addresses base n ≤ top
 unfolding highest

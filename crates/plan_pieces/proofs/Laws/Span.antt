@@ -1,4 +1,4 @@
--- The span of a plan: what is laid lies in it, so that its old bytes written back undo the laying.
+-- The span of a plan. What is laid lies in it, so writing its old bytes back undoes the laying.
 use mathlib.Core.Path.{_≡_, refl, ap, _∙_}
 use Prim.Native.Nat.{ℕ, zero, suc, _+_, _-_, _≤_, _<_, min, max}
 use native.Mathlib.Omega.{arith}
@@ -47,7 +47,7 @@ end-le len [] h = omega arith
 end-le len (piece at [] ∷ ps) h = end-le len ps (h .1)
 end-le len (piece at (b ∷ bs) ∷ ps) h = omega (arith, end-le len ps (h .1))
 
--- where nothing is laid the lowest is the top, and where something is the top does not matter
+-- if nothing is laid, the lowest is `top`; if something is laid, `top` does not matter
 pub lowest-none : (top : ℕ) (ps : List Piece) → end ps ≡ 0 → lowest top ps ≡ top
 unfolding lowest end
 lowest-none top [] h = refl
@@ -69,7 +69,7 @@ pub span-inside : (len : ℕ) (ps : List Piece) → Inside len ps → spanOf ps 
 unfolding spanOf
 span-inside len ps h = omega (arith, lowest-le (end ps) ps, end-le len ps h)
 
--- the old bytes of a run put back over a list that differs from the old one only there
+-- the old bytes of a run, put back over a list that differs from the old one only there, give the old list
 restored : (l l′ : List ℕ) (i n : ℕ) → i + n ≤ length l → length l′ ≡ length l → take i l′ ≡ take i l → drop (i + n) l′ ≡ drop (i + n) l
     → sets l′ i (part l i n) ≡ l
 unfolding part
