@@ -1,7 +1,7 @@
 // Checks 10 to 14 of one relocation. Everything is read from the object as it was given, and nothing is written.
 ghost use mathlib.Core.Path.{_≡_};
 ghost use mathlib.Core.Bool.{true};
-ghost use Prim.Native.Nat.{_+_, _^_, _≤_, _<_};
+ghost use Prim.Native.Nat.{_+_, _≤_, _<_};
 ghost use lib.ListN.{length};
 ghost use Rattle.numbers_definitions.specs.Bytes.{leAt};
 ghost use Rattle.numbers_definitions.specs.Whole.{signed};

@@ -38,10 +38,10 @@ address c = ap (λ l. getD l (c .args .t) 0) (c .pre .1)
 -- ---- where the header has been read, and whether the section has bytes
 
 abbrev header : tie.After-has-bytes → tie.After-read-section
-header c = c .before
+header c = search
 
 abbrev st : tie.After-has-bytes → tie.Start
-st c = header c .before .before .before .before
+st c = search
 
 has-bytes-is : (c : tie.After-has-bytes) → hasBytes (sectionAt (S (st c)) (st c .args .t)) ≡ c .has-bytes .result
 has-bytes-is c = ap hasBytes (sym (header c .read-section .ensures)) ∙ sym (c .has-bytes .ensures)
@@ -49,7 +49,7 @@ has-bytes-is c = ap hasBytes (sym (header c .read-section .ensures)) ∙ sym (c 
 -- ---- where the section has bytes
 
 abbrev read : tie.Else1 → tie.After-has-bytes
-read c = c .before
+read c = search
 
 abbrev T : tie.Else1 → ℕ
 T c = st (read c) .args .t

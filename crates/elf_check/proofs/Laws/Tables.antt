@@ -5,11 +5,10 @@ use mathlib.Core.List.{List}
 use Prim.Native.Nat.{ℕ, _<_}
 use native.Mathlib.Omega.{arith}
 use lib.Dec.{ltb}
-use borrow.Author.Tests.{ltb-true, eq-eqb, ne-eqb, lt-ltb, le-ltb}
-use Rattle.numbers_definitions.proofs.Laws.Tests.{and-left, and-false}
+use borrow.Author.Tests.{eq-eqb, ne-eqb, lt-ltb, le-ltb}
+use Rattle.numbers_definitions.proofs.Laws.Tests.{and-false}
 use Rattle.numbers_definitions.specs.First.{first}
 use Rattle.numbers_definitions.proofs.Laws.First.{first-is}
-use Rattle.elf_read.specs.declared.Section.{Section}
 use Rattle.elf_read.specs.Headers.{sectionCount}
 use Rattle.elf_read.specs.Sections.{REL, RELA, sectionAt, targets, countingRel, countingRela}
 use Rattle.elf_check.specs.declared.SectionCheck.the-variants.{Sound, Broken}
