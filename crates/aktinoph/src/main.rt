@@ -3,8 +3,9 @@
 //     aktinoph fit OBJECT ORDER IMAGE LEDGER
 //     aktinoph take-back IMAGE LEDGER
 //
-// Number and place go to standard output. What keeps the call from being made or its result from being kept gives a message on
-// standard error that names the file, nothing on standard output, and changes no file. The exit status is always 0: Rattle has no other.
+// Number and place go to standard output. If a file cannot be read, or the result cannot be kept, a message on standard
+// error names the file, nothing goes to standard output, and no file is changed. If a file is longer than 65,536 bytes,
+// `too long` goes to standard output. The exit status is always 0: Rattle has no other.
 ghost use mathlib.Core.Path.{_≡_};
 ghost use mathlib.Core.Bool.{_||_};
 ghost use lib.Dec.{ltb};
@@ -57,7 +58,7 @@ fn take_back() {
     over_files(false, b"", b"", 2, 3);
 }
 
-// A call over the files of image and ledger, which the arguments at these places name.
+// Makes a call over the files of image and ledger, which the arguments `image_at` and `ledger_at` name.
 fn over_files(is_fit: bool, object: &[u8], order: &[u8], image_at: usize, ledger_at: usize) {
     let mut image = [0u8; ROOM];
     let a = program_files::read(image_at, &mut image);
@@ -92,7 +93,8 @@ fn over_image(
     }
 }
 
-// The ledger first: a cut between the two leaves one that still holds the image's old bytes.
+// The ledger is replaced first. If the program is cut off between the two, the ledger still holds the image's old
+// bytes.
 fn fit_bytes(
     object: &[u8],
     order: &[u8],
@@ -105,13 +107,13 @@ fn fit_bytes(
     keep(code, ledger_at, ledger, image_at, image);
 }
 
-// The image first: a cut between the two leaves a fit that can be taken back again.
+// The image is replaced first. If the program is cut off between the two, the fit can be taken back once more.
 fn take_back_bytes(image_at: usize, image: &mut [u8], ledger_at: usize, ledger: &mut [u8]) {
     let code = fitter::aktinoph_take_back(image, ledger);
     keep(code, image_at, image, ledger_at, ledger);
 }
 
-// Replaces both files where the call was done, and then gives its answer.
+// Replaces both files if the call was done, and then prints its answer.
 fn keep(code: u64, first: usize, new: &[u8], second: usize, other: &[u8]) {
     if code == 0 {
         if !replace_both(first, new, second, other) {
@@ -128,7 +130,7 @@ fn any_long(object: usize, order: usize, image: usize, ledger: usize) -> bool
     (object > MAX_FILE) | (order > MAX_FILE) | (image > MAX_FILE) | (ledger > MAX_FILE)
 }
 
-// The line of the answer that a code is read as: its number is in the low eight bits, its place in the upper 32.
+// The line of the answer in a code. The number is in the low eight bits, the place in the upper 32.
 fn line_of(code: u64, out: &mut [u8; 42]) -> usize
     ensures { λ r. ⌜ Counts r (now (out .exit)) ⌝ }
     ensures { λ r. ⌜ ((answer : Answer) → Reads code answer → take r (now (out .exit)) ≡ line answer) ⌝ }

@@ -1,4 +1,4 @@
--- The demands, of any install and any rollback.
+-- The demands, stated for any install and any rollback.
 use mathlib.Core.Path.{_≡_}
 use mathlib.Core.Bool.{false}
 use mathlib.Core.List.{List, [], _∷_}
@@ -24,13 +24,14 @@ use Rattle.calls_demands.specs.Laid.{IsSpan, Laid}
 unfoldable pub rollbackTable : Files → Checks
 rollbackTable f = one 1 (Sound (f .journal) (length (f .image))) (one 3 (length (f .image) ≤ maxImage) (one 16 (0 < count (f .journal)) none))
 
--- "Any object, order, slot image and ledger, of any bytes and any length, gets an answer in the end": both are functions on all lists.
+-- "Any object, order, slot image and ledger, of any bytes and any length, gets an answer in the end": this holds because
+-- both calls are functions on all lists.
 pub record Demand1 (installs : InstallCall) (rollsBack : RollbackCall) : Type 0 where
   -- "A refusal gives its number and place from document 01,"
   pub install-refused : (object order : List ℕ) (f : Files) → (installs object order f .answer ≡ done → ⊥)
       → FirstBroken (table object order f) (installs object order f .answer)
   pub rollback-refused : (f : Files) → (rollsBack f .answer ≡ done → ⊥) → FirstBroken (rollbackTable f) (rollsBack f .answer)
-  -- of a taking-back, "given exactly when" (of a fit, demand 2 has it)
+  -- for a taking-back, "given exactly when"; for a fit, demand 2 says so
   pub rollback-holds : (f : Files) → rollsBack f .answer ≡ done → AllHold (rollbackTable f)
   pub rollback-done : (f : Files) → AllHold (rollbackTable f) → rollsBack f .answer ≡ done
   pub rollback-first : (f : Files) (a : Answer) → FirstBroken (rollbackTable f) a → rollsBack f .answer ≡ a
@@ -69,7 +70,7 @@ StandAsLaid start [] = Unit {0}
 StandAsLaid start (x ∷ older) =
     Laid (x .object) (x .order) (laid start older) (laid start (x ∷ older)) × IsSpan (x .object) (x .order) (spanOf (x .pieces)) × StandAsLaid start older
 
--- what holds after a list of calls: these were the answers, and this is left
+-- what holds after a list of calls, where `got` is the answers and `left` the files as they are then
 pub record AfterCalls (installs : InstallCall) (rollsBack : RollbackCall) (K : Kind) (start : Files) (calls : List Call) (got : List Answer) (left : Files) : Type 0 where
   pub holds : Holds (calling installs rollsBack) judgement K start calls got left
   pub stand-as-laid : StandAsLaid (start .image) (historyOf judgement start calls .standing)
@@ -81,20 +82,20 @@ Demand3 K installs rollsBack =
 
 -- ---- all of it
 
--- the kinds of lists: any, and bytes
+-- the two kinds of lists: any list, and a list of bytes
 abbrev pub AnyList : Kind
 AnyList s = Unit {0}
 
 abbrev pub AreBytes : Kind
 AreBytes s = (i : ℕ) → getD s i 0 < 256
 
--- What is said of each call by itself. `Only` shows that no two pairs of calls that meet it differ on bytes, and `Follows` that they meet
--- demand 3 there.
+-- What is said of each call by itself. `Only` shows that two pairs of calls that meet it never differ on bytes, and `Follows` shows that
+-- such a pair meets demand 3 on bytes.
 pub record Meets (installs : InstallCall) (rollsBack : RollbackCall) : Type 0 where
   pub demand-1 : Demand1 installs rollsBack
   pub demand-2 : Demand2 installs
   pub journalled : Journalled installs rollsBack
-  -- what is left is bytes, where what is given is
+  -- if all that is given is bytes, all that is left is bytes
   pub install-bytes : (object order : List ℕ) (f : Files) → AreBytes object → FilesAre AreBytes f → FilesAre AreBytes (installs object order f .after)
   pub rollback-bytes : (f : Files) → FilesAre AreBytes f → FilesAre AreBytes (rollsBack f .after)
 

@@ -1,5 +1,5 @@
--- "Checks run in this order. Rows go upward. Records go by RELA row, then file order, each through 9 to 14 before the next." What the first
--- broken rule is, over any list of checks, and document 01's table as such a list.
+-- "Checks run in this order. Rows go upward. Records go by RELA row, then file order, each through 9 to 14 before the next." This file
+-- says what the first broken rule of any list of checks is, and gives document 01's table as such a list.
 use mathlib.Core.Logic.{_⊎_}
 use mathlib.Core.Path.{_≡_}
 use mathlib.Core.List.{List}
@@ -14,12 +14,12 @@ use Rattle.plan_pieces.specs.Answers.{Answer, says}
 use Rattle.journal_history.specs.Calls.{Files}
 use Rattle.calls_demands.specs.Rules.{OrderWell, WindowWell, HeaderWell, TableWell, PlacedAsAllocated, ValuedIfUndefined, PlacedIfAllocated, Shape, SymbolResolves, FormIs, OnePair, Reaches, OnBoundary, Room}
 
--- rules with their numbers, each a proposition on a place; all of them are looked at for one place before the next
+-- Rules with their numbers. Each rule is a proposition about a place, and all of them are checked at one place before the next.
 pub data Line : Type 1 where
   nil : Line
   rule : ℕ → (ℕ → Type 0) → Line → Line
 
--- checks, one after the other: the places of each, and its rules
+-- checks, one after the other: how many places each has, and its rules
 pub data Checks : Type 1 where
   none : Checks
   check : ℕ → Line → Checks → Checks
@@ -46,14 +46,14 @@ abbrev pub BrokenAt : Line → Answer → Type 0
 BrokenAt nil a = ⊥
 BrokenAt (rule n R l) a = ((a ≡ says n (a .place)) × (R (a .place) → ⊥)) ⊎ (R (a .place) × BrokenAt l a)
 
--- the checks before it hold, and its own check at the places below
+-- the checks before it hold everywhere, and its own check holds at every lower place
 abbrev pub FirstBroken : Checks → Answer → Type 0
 FirstBroken none a = ⊥
 FirstBroken (check m l c) a = ((a .place < m) × HoldBelow l (a .place) × BrokenAt l a) ⊎ (HoldBelow l m × FirstBroken c a)
 
 -- ---- document 01's table
 
--- a check with place 0 alone
+-- a check with one rule, at place 0 alone
 abbrev pub one : ℕ → Type 0 → Checks → Checks
 one n R c = check 1 (rule n (λ _. R) nil) c
 

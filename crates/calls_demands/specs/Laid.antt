@@ -36,7 +36,7 @@ module _ (object order : List ℕ) where
   abbrev pub sectionIn : List ℕ → ℕ → List ℕ
   sectionIn image t = part image (start t) (sectionAt object t .size)
 
-  -- byte b of the image is one of section t's: a laid row of size above 0
+  -- byte b of the image belongs to section t, which is a laid row of size above 0
   pub record Covers (t b : ℕ) : Type 0 where
     pub there : t < sectionCount object
     pub loaded : hasBytes (sectionAt object t) ≡ true
@@ -54,7 +54,7 @@ module _ (object order : List ℕ) where
   abbrev pub siteOf : ℕ → Site
   siteOf i = siteAt object (addresses order) i
 
-  -- relocation j of RELA section i, which counts
+  -- section i is a RELA section that counts, and relocation j is one of its relocations
   pub record IsRelocation (i j : ℕ) : Type 0 where
     pub there : i < sectionCount object
     pub counts : countingRela object i ≡ true
@@ -72,7 +72,7 @@ module _ (object order : List ℕ) where
   abbrev pub target : ℕ → ℕ → ℕ
   target i j = targetAt object order (addresses order) (siteOf i) j
 
-  -- an image before and after
+  -- the image before and after a done install
   pub record Laid (before after : List ℕ) : Type 0 where
     pub same-length : length after ≡ length before
     -- "No other image byte changes."

@@ -92,7 +92,7 @@ pub record TableWell (object : List ℕ) : Type 0 where
   pub few : sectionCount object ≤ maxSections
   pub inside : sectionTable object + 40 * sectionCount object ≤ length object
 
--- of section i: `SoundSection` of `elf_check`, a field for each sentence
+-- for section i: `SoundSection` of `elf_check`, with a field for each sentence
 
 -- ---- 6 "placements differ from allocated rows": a number is placed exactly when it is that of an allocated section
 

@@ -1,1 +1,1 @@
-// The demands, stated over the definitions: theorems, no code. What the code does is said by the contracts of `fitter`.
+// The demands, stated about the definitions: theorems, no code. The contracts of `fitter` say what the code does.

@@ -14,7 +14,7 @@ use journal_undo::RolledBack;
 use order_format::OrderHeader;
 use order_format::Reading;
 
-// Check 15, and then the writing: the span's old bytes are recorded, and the sections laid.
+// Check 15. If it passes, the span's old bytes are recorded, and then the sections are laid.
 fn fit(
     object: &[u8],
     order: &[u8],

@@ -28,6 +28,6 @@ answerOf (PaddingOffBoundary relocation) = says 14 relocation
 answerOf JournalFull = says 15 0
 answerOf NothingStands = says 16 0
 
--- the verdict that an answer stands for: a plan where all is well, else the refusal with its number and place
+-- the verdict that an answer stands for: the plan if its number is 0, otherwise the refusal with its number and place
 abbrev pub verdictOf : List ℕ → List ℕ → Answer → Verdict
 verdictOf object order a = cond (eqb (answerOf a .number) 0) (plan (planOf object order)) (refused (answerOf a))

@@ -17,7 +17,8 @@ use relocations_check_all::search::check_relocations;
 use relocations_rules::Finding;
 use relocations_rules::RelocationCheck;
 
-// What a call answers. A number is a section's, a symbol's, or a relocation's counted from 0 over all.
+// What a call answers. The number in an answer is that of a section, of a symbol, or of a relocation, counted from 0
+// over all relocations.
 pub enum Answer {
     Done,
     JournalUnsound,
@@ -117,7 +118,7 @@ fn judge_object(object: &[u8], order: &[u8], counts: OrderHeader, len: usize) ->
     }
 }
 
-// Checks 2 to 14, for an image of the length.
+// Checks 2 to 14, for an image of `len` bytes.
 pub fn judge(object: &[u8], order: &[u8], len: usize) -> Answer
     ensures { λ r. ⌜ verdictOf (now (object .entry)) (now (order .entry)) r ≡ judgement (now (object .entry)) (now (order .entry)) len ⌝ }
 {

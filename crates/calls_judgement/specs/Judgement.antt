@@ -1,5 +1,5 @@
--- Document 01, "When the fitter says no": checks 2 to 14 in their order, and the plan of an install that passes them all. It is a function of
--- object, order and image length alone.
+-- Document 01, "When the fitter says no": checks 2 to 14 in their order, and the plan of an install that passes them all. It depends
+-- on object, order and image length alone.
 use Prim.Native.Nat.{ℕ}
 use mathlib.Core.Bool.{cond}
 use mathlib.Core.List.{List}

@@ -1,4 +1,4 @@
--- What inner functions ask of their callers, the checks that have passed, and what one of them leaves.
+-- What inner functions ask of their callers, namely the checks that have passed; and what laying one section leaves.
 use mathlib.Core.Path.{_≡_}
 use mathlib.Core.Bool.{true, cond}
 use mathlib.Core.List.{List}

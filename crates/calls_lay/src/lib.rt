@@ -1,4 +1,4 @@
-// Laying the plan of an install that passed every check into the image. Nothing in it can fail.
+// Lays the plan of an install into the image. Every check has passed, so nothing here can fail.
 ghost use mathlib.Core.Path.{_≡_};
 ghost use mathlib.Core.Bool.{true};
 ghost use Prim.Native.Nat.{_+_, _≤_, _<_};

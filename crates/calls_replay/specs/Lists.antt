@@ -3,7 +3,7 @@
 --
 --     count         u32
 --     each call     kind u32: 1 is a fit, 2 a taking-back
---                   of a fit: length u32, and the object; length u32, and the order
+--                   for a fit: length u32, and the object; length u32, and the order
 use Prim.Native.Nat.{ℕ, zero, suc, _+_}
 use mathlib.Core.Bool.{Bool, cond, _&&_, _||_}
 use mathlib.Core.List.{List, [], _∷_, _++_}
@@ -21,7 +21,7 @@ FIT = 1
 abbrev pub TAKE_BACK : ℕ
 TAKE_BACK = 2
 
--- bytes after their length
+-- bytes, with their length in front of them
 abbrev pub counted : List ℕ → List ℕ
 counted s = bytes 4 (length s) ++ s
 
@@ -43,7 +43,7 @@ encode cs = bytes 4 (length cs) ++ encodeCalls cs
 abbrev pub callCount : List ℕ → ℕ
 callCount s = leAt 4 s 0
 
--- of the call that starts at a place: its kind, and of a fit the lengths of object and order
+-- the call that starts at a place: its kind and, for a fit, the lengths of the object and the order
 abbrev pub kindAt : List ℕ → ℕ → ℕ
 kindAt s at = leAt 4 s at
 
@@ -57,7 +57,7 @@ orderLength s at = leAt 4 s (at + 8 + objectLength s at)
 unfoldable pub callEnd : List ℕ → ℕ → ℕ
 callEnd s at = cond (eqb (kindAt s at) FIT) (at + 12 + objectLength s at + orderLength s at) (at + 4)
 
--- it is a call, wholly inside the bytes
+-- a call starts there, and lies wholly inside the bytes
 unfoldable pub isCall : List ℕ → ℕ → Bool
 isCall s at = (eqb (kindAt s at) FIT || eqb (kindAt s at) TAKE_BACK) && leb (callEnd s at) (length s)
 
@@ -68,12 +68,12 @@ callAt s at =
     (Install (part s (at + 8) (objectLength s at)) (part s (at + 12 + objectLength s at) (orderLength s at)))
     Rollback
 
--- where call i starts: the first behind the count, each other behind the one before it
+-- where call i starts: the first after the count, every other after the one before it
 unfoldable pub callStart : List ℕ → ℕ → ℕ
 callStart s zero = 4
 callStart s (suc i) = callEnd s (callStart s i)
 
--- the bytes are a list's: every call is one, and no byte is left over
+-- the bytes are a list: a call stands at every start, and no byte is left over
 unfoldable pub isList : List ℕ → Bool
 isList s = everywhere (λ i. isCall s (callStart s i)) (callCount s) && eqb (callStart s (callCount s)) (length s)
 

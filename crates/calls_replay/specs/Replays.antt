@@ -21,7 +21,7 @@ unfoldable pub codes : List Answer → List ℕ
 codes [] = []
 codes (a ∷ rest) = packed a ∷ codes rest
 
--- the calls that the bytes s list, made by these two, with room for answers
+-- The calls that the bytes s list, made by this install and this rollback. `room` is the lent places for the answers.
 unfoldable pub replay : InstallCall → RollbackCall → List ℕ → List ℕ → Files → Replay
 replay installs rollsBack s room f =
     cond (isList s && leb (callCount s) (length room))

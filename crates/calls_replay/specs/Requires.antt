@@ -8,12 +8,12 @@ use Rattle.journal_history.specs.Calls.{Files, Call, InstallCall, RollbackCall,
 use Rattle.calls_replay.specs.Lists.{FIT, kindAt, objectLength, orderLength, callAt, callStart}
 use Rattle.calls_replay.specs.Replays.{codes}
 
--- a kind stands at a place, and is a fit's
+-- the bytes have a kind at a place, and it is that of a fit
 pub record IsFit (s : List ℕ) (at : ℕ) : Type 0 where
   pub inside : at + 4 ≤ length s
   pub is-fit : kindAt s at ≡ FIT
 
--- a fit at a place lies in the bytes
+-- a fit at a place lies inside the bytes
 pub record FitInside (s : List ℕ) (at : ℕ) : Type 0 where
   pub inside : at + 12 + objectLength s at + orderLength s at ≤ length s
 

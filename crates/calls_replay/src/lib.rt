@@ -13,16 +13,16 @@ pub const FIT: u32 = 1;
 
 pub const TAKE_BACK: u32 = 2;
 
-// Where the first call starts: behind the count.
+// Where the first call starts: after the count.
 pub const FIRST_AT: usize = 4;
 
-// How many calls a list has.
+// How many calls a list has, or that the bytes are no list.
 pub enum List {
     Malformed,
     Calls(usize),
 }
 
-// Whether the fit at a place lies inside the bytes, its object and its order each after its length.
+// Whether the fit at a place lies inside the bytes. Its object and its order each follow their length.
 fn is_fit_inside(calls: &[u8], at: usize) -> bool
     requires { ⌜ IsFit (now calls) at ⌝ }
     ensures { λ r. ⌜ r ≡ isCall (now (calls .entry)) at ⌝ }
@@ -85,7 +85,7 @@ pub fn object_of(calls: &[u8], at: usize) -> &[u8]
     &calls[from..to]
 }
 
-// Its order.
+// The order of the fit at a place, as a part of the list.
 pub fn order_of(calls: &[u8], at: usize) -> &[u8]
     requires { ⌜ FitInside (now calls) at ⌝ }
     ensures { λ r. ⌜ now r ≡ part (now (calls .entry)) (at + 12 + objectLength (now (calls .entry)) at) (orderLength (now (calls .entry)) at) ⌝ }
@@ -96,7 +96,8 @@ pub fn order_of(calls: &[u8], at: usize) -> &[u8]
     &calls[from..to]
 }
 
-// How many calls the bytes list, or that they are no list: each call is looked at, and no byte is left over.
+// How many calls the bytes list, or `Malformed` if they are no list. Every call is checked, and no byte may be left
+// over.
 pub fn read_list(calls: &[u8]) -> List
     ensures { λ r. ⌜ r ≡ cond (isList (now (calls .entry))) (List.Calls (callCount (now (calls .entry)))) List.Malformed ⌝ }
 {

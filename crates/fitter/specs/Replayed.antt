@@ -1,4 +1,4 @@
--- Demand 3 of a list of calls that was run: what the exported replay says of it beside the equation.
+-- Demand 3 for a list of calls that was run. The contract of the exported replay states it beside the equation.
 use mathlib.Core.Path.{_≡_}
 use mathlib.Core.List.{List}
 use Prim.Native.Nat.{ℕ}
@@ -9,7 +9,7 @@ use Rattle.calls_replay.specs.Lists.{callCount, callsOf}
 use Rattle.calls_replay.specs.Replays.{codes}
 use Rattle.calls_demands.specs.Demands.{AnyList, AfterCalls, ourInstall, ourRollback}
 
--- the first places hold the codes of answers in order, and of these answers and of what is left demand 3 holds
+-- The first places hold the codes of the answers in order, and demand 3 holds for these answers and for what is left.
 pub record Demand3Of (calls : List ℕ) (start : Files) (places : List ℕ) (left : Files) : Type 0 where
   pub got : List Answer
   pub in-order : take (callCount calls) places ≡ codes got

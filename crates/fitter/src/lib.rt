@@ -1,4 +1,4 @@
-// The library: the calls for other languages.
+// The library: the calls for callers in other languages.
 ghost use mathlib.Core.Path.{_≡_};
 ghost use mathlib.Core.Bool.{true};
 ghost use Prim.Native.Nat.{_≤_};
@@ -18,7 +18,7 @@ use calls_judge::code_of;
 use calls_replay::FIRST_AT;
 use calls_replay::List;
 
-// `calls_install` for callers in other languages. The four buffers do not overlap.
+// `install` for callers in other languages. The four buffers must not overlap.
 #[no_mangle]
 pub extern "C" fn aktinoph_fit(
     object: &[u8],
@@ -32,7 +32,7 @@ pub extern "C" fn aktinoph_fit(
     code_of(install(object, order, image, ledger))
 }
 
-// `rollback` for callers in other languages. The two buffers do not overlap.
+// `rollback` for callers in other languages. The two buffers must not overlap.
 #[no_mangle]
 pub extern "C" fn aktinoph_take_back(image: &mut [u8], ledger: &mut [u8]) -> u64
     ensures { λ r. ⌜ Returned r (files (now (image .exit)) (now (ledger .exit))) (ourRollback (files (now (image .entry)) (now (ledger .entry)))) ⌝ }
@@ -70,7 +70,7 @@ fn make_calls(calls: &[u8], n: usize, image: &mut [u8], ledger: &mut [u8], answe
     }
 }
 
-// Runs a list of n calls where there are places for their answers, and says whether it did.
+// Runs a list of n calls if there are enough places for their answers. It returns 1 if it ran them, otherwise 0.
 fn replay_list(
     calls: &[u8],
     n: usize,
@@ -89,8 +89,9 @@ fn replay_list(
     1
 }
 
-// A list of calls, made one after the other, for callers in other languages: 1 where it was run, with the answers in the first
-// places, and 0 where the bytes are no list or there are fewer places than calls, with nothing changed. The buffers do not overlap.
+// Makes a list of calls one after the other, for callers in other languages. It returns 1 if the list was run; the
+// first places then hold the answers. It returns 0, and changes nothing, if the bytes are no list or there are fewer
+// places than calls. The buffers must not overlap.
 #[no_mangle]
 pub extern "C" fn aktinoph_replay(
     calls: &[u8],

@@ -1,4 +1,4 @@
-// Files, by the places of their names among the arguments: read whole, and replaced whole by rename.
+// Files, each given by the position of its name among the arguments. They are read whole, and replaced whole by rename.
 ghost use mathlib.Core.Path.{_≡_};
 ghost use mathlib.Core.Bool.{cond};
 ghost use Prim.Native.Nat.{_+_, _≤_};
@@ -12,10 +12,10 @@ use program_text::append_decimal;
 // "files of at most 65,536 bytes"
 pub const MAX_FILE: usize = 65536;
 
-// Room for a file, and for the byte by which one is seen to be longer.
+// Room for a file, and for one byte more, which shows that a file is too long.
 pub const ROOM: usize = 65537;
 
-// Where it is read, `len` bytes of it, at most one above the limit.
+// Whether a file could be read, and how many bytes of it were read: at most one more than the limit.
 pub struct Contents {
     pub is_read: bool,
     pub len: usize,
@@ -59,7 +59,7 @@ fn read_path(path: &[u8], buf: &mut [u8]) -> Contents
     contents
 }
 
-// Reads until the file ends or buf is full, so that an endless file is too long and not a hang.
+// Reads until the file ends or buf is full. So an endless file counts as too long, and the program does not hang.
 fn read_all(fd: i32, buf: &mut [u8]) -> Contents
     ensures { λ r. ⌜ Counts (r .len) (now (buf .exit)) ⌝ }
 {
@@ -91,7 +91,8 @@ fn read_some(fd: i32, buf: &mut [u8]) -> Contents
     }
 }
 
-// Replaces the file of argument `first`, then that of argument `second`. Both new files are written before either takes its name.
+// Replaces the file of argument `first`, then that of argument `second`. Both new files are written before either takes
+// its name.
 pub fn replace_both(first: usize, new: &[u8], second: usize, other: &[u8]) -> bool {
     let mut name = [0u8; 4103];
     let target = write_beside(first, new, &mut name);
@@ -102,7 +103,7 @@ pub fn replace_both(first: usize, new: &[u8], second: usize, other: &[u8]) -> bo
     replace_second(first, &name[..end], target, second, other)
 }
 
-// The same, from where the first new file is written.
+// The rest of `replace_both`, once the first new file is written.
 fn replace_second(first: usize, name: &[u8], target: usize, second: usize, other: &[u8]) -> bool
     requires { ⌜ target ≤ length (now name) ⌝ }
 {
@@ -127,7 +128,8 @@ fn say(name: &[u8], what: &[u8]) {
     io::write_all(libc::STDERR_FILENO, what);
 }
 
-// The same, from where both are. Where the second cannot take its name, the first file is put back.
+// The rest of `replace_both`, once both new files are written. If the second cannot take its name, the first file is
+// put back.
 fn put_both(first: usize, a: &[u8], m: usize, b: &[u8], n: usize) -> bool
     requires { ⌜ (m ≤ length (now a)) × (n ≤ length (now b)) ⌝ }
 {
@@ -159,8 +161,8 @@ fn replace(i: usize, bytes: &[u8]) {
     }
 }
 
-// Gives a new file the name of the one that it is to replace, or removes it and says why. The name is then on its device, so that
-// what is renamed first stays first.
+// Gives a new file the name of the file that it is to replace, or removes the new file and says why. The folder is then
+// synced to its device, so that the renames reach the device in their order.
 fn put(name: &[u8], target: usize) -> bool
     requires { ⌜ target ≤ length (now name) ⌝ }
 {
@@ -173,7 +175,7 @@ fn put(name: &[u8], target: usize) -> bool
     false
 }
 
-// Has the folder of a path on its device, where the file system can.
+// Syncs the folder of a path to its device, if the file system can do that.
 fn sync_folder(path: &[u8]) {
     let n = folder(path);
     let fd = os::open_read(&path[..n]);
@@ -184,7 +186,7 @@ fn sync_folder(path: &[u8]) {
     libc::close(fd);
 }
 
-// The length of a path's folder: up to its last slash and with it, 0 where it has none.
+// The length of a path's folder: up to and including its last slash, or 0 if it has none.
 fn folder(path: &[u8]) -> usize
     ensures { λ r. ⌜ Counts r (now (path .entry)) ⌝ }
 {
@@ -198,8 +200,8 @@ fn folder(path: &[u8]) -> usize
     0
 }
 
-// Writes a new file beside the one that argument i names, or says why it cannot. The new file's name is put into `name`; the
-// answer is the length of the old one's, which it begins with, and 0 where there is no new file.
+// Writes a new file beside the one that argument i names, or says why it cannot. The new file's name is put into
+// `name`. It begins with the old file's name, and the length of that is returned, or 0 if there is no new file.
 fn write_beside(i: usize, bytes: &[u8], name: &mut [u8]) -> usize
     requires { ⌜ length (now name) ≡ 4103 ⌝ }
     ensures { λ r. ⌜ Counts (r + 7) (now (name .exit)) ⌝ }
@@ -223,8 +225,9 @@ fn if_made(made: bool, n: usize) -> usize
     if made { n } else { 0 }
 }
 
-// Makes a file with the mode and the bytes, or says of the file `given` why it cannot. It is then on its device. Its name is `name`,
-// whose last six letters are replaced, so that it is a new one. Until it has its mode, nobody else can open it.
+// Makes a file with this mode and these bytes, and syncs it to its device. If it cannot, it says why, and names the
+// file `given`. The last six letters of `name` are replaced so that the name is new. Until the file has its mode,
+// nobody else can open it.
 fn write_new(given: &[u8], name: &mut [u8], mode: Mode, bytes: &[u8]) -> bool {
     let fd = os::create_temp(name);
     if fd < 0 {
@@ -240,7 +243,7 @@ fn write_new(given: &[u8], name: &mut [u8], mode: Mode, bytes: &[u8]) -> bool {
     is_stored
 }
 
-// Owner and group are kept where the system lets the program, as it lets root.
+// Owner and group are kept if the system allows it, as it does for root.
 fn store(fd: i32, mode: Mode, bytes: &[u8]) -> bool {
     libc::fchown(fd, mode.owner, mode.group);
     if libc::fchmod(fd, mode.bits) != 0 {
@@ -252,7 +255,7 @@ fn store(fd: i32, mode: Mode, bytes: &[u8]) -> bool {
     libc::fsync(fd) == 0
 }
 
-// A file that is to be replaced: the length of its path, 0 where there is none, and its mode.
+// A file that is to be replaced: the length of its path, or 0 if there is no such file, and its mode.
 struct Replaced {
     len: usize,
     mode: Mode,
@@ -279,8 +282,8 @@ fn target(given: &[u8], path: &mut [u8]) -> Replaced
     Replaced { len: n, mode }
 }
 
-// The path of an open plain file, as Linux has it: absolute and with every link followed. 0 where there is none: the file may be
-// gone, or something else than a plain one.
+// Puts the path of an open plain file into `path`, as Linux gives it: absolute, and with every link followed. It
+// returns the length, or 0 if there is no such path: the file may be gone, or it may not be a plain file.
 fn own_path(fd: i32, is_plain: bool, path: &mut [u8]) -> usize
     ensures { λ r. ⌜ Counts r (now (path .exit)) ⌝ }
 {

@@ -1,11 +1,11 @@
-// What an open file is: whether it is a plain one, its permission bits, and whose it is.
+// What an open file is: whether it is a plain file, its permission bits, its owner and its group.
 ghost use mathlib.Core.Path.{_≡_};
 ghost use mathlib.Core.Bool.{false};
 ghost use Prim.Native.Nat.{_<_};
 use libc::types::stat;
 use libc::types::timespec;
 
-// The permission bits, of 0o7777, the owner and the group; they mean nothing where the file is not a plain one.
+// The permission bits, which are those of 0o7777, the owner and the group. Only those of a plain file are used.
 pub struct Mode {
     pub plain: bool,
     pub bits: u32,
@@ -46,7 +46,8 @@ fn blank() -> stat {
     }
 }
 
-// The one function that lends a struct, which the borrow checker does not cover: its proof is by hand, and follows this text.
+// The only function that lends a struct. The borrow checker does not cover that, so the proof is written by hand; it
+// follows this text.
 fn ask(fd: i32, mut st: stat) -> Asked {
     let status = libc::fstat(fd, &mut st);
     Asked {
@@ -57,7 +58,7 @@ fn ask(fd: i32, mut st: stat) -> Asked {
     }
 }
 
-// That of a file that is not open.
+// The mode of a file that is not open.
 pub fn unknown() -> Mode
     ensures { λ r. ⌜ (r .plain ≡ false) × (r .bits ≡ 0) ⌝ }
 {
@@ -69,7 +70,7 @@ pub fn unknown() -> Mode
     }
 }
 
-// The mode of an open file. S_IFREG, a plain file, is 8 in the bits above the permission's.
+// The mode of an open file. S_IFREG, which marks a plain file, is 8 in the bits above the permission bits.
 pub fn mode_of(fd: i32) -> Mode
     ensures { λ r. ⌜ r .bits < 4096 ⌝ }
 {

@@ -13,7 +13,7 @@ abbrev pub «the-fit» : List ℕ
 abbrev pub «the-take-back» : List ℕ
 «the-take-back» = 116 ∷ 97 ∷ 107 ∷ 101 ∷ 45 ∷ 98 ∷ 97 ∷ 99 ∷ 107 ∷ []
 
--- The first word, and how many arguments there are with the program's own name: a fit names four files, a taking-back two.
+-- `word` is the first word, and `count` the number of arguments with the program's own name. A fit names four files, a taking-back two.
 abbrev pub Asks : List ℕ → ℕ → Command → Type 0
 Asks word count Fit = (word ≡ «the-fit») × (count ≡ 6)
 Asks word count TakeBack = (word ≡ «the-take-back») × (count ≡ 4)

@@ -8,12 +8,12 @@ use lib.Dec.{ltb}
 use Rattle.io.specs.Digits.{glyph}
 use Rattle.plan_pieces.specs.Answers.{Answer}
 
--- n in decimal, without zeros in front, where `most` digits hold it
+-- n in decimal without leading zeros, if it has at most `most` digits
 unfoldable pub decimalIn : ℕ → ℕ → List ℕ
 decimalIn zero n = []
 decimalIn (suc most) n = cond (ltb n 10) (glyph n ∷ []) (decimalIn most (n / 10) ++ glyph (n % 10) ∷ [])
 
--- 20 digits hold every number below 2^64
+-- every number below 2^64 has at most 20 digits
 unfoldable pub decimal : ℕ → List ℕ
 decimal = decimalIn 20
 
@@ -21,7 +21,7 @@ decimal = decimalIn 20
 unfoldable pub line : Answer → List ℕ
 line a = decimal (a .number) ++ 32 ∷ [] ++ decimal (a .place) ++ 10 ∷ []
 
--- bytes stand behind the first `at` of what was there before, and end at r
+-- the bytes follow the first `at` bytes of what was there before, and end at r
 pub record Appended (before : List ℕ) (at : ℕ) (bytes : List ℕ) (r : ℕ) (after : List ℕ) : Type 0 where
   pub end : r ≡ at + length bytes
   pub text : take r after ≡ take at before ++ bytes

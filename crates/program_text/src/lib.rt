@@ -13,7 +13,7 @@ pub enum Command {
     Unknown,
 }
 
-// The command that a first word and a number of arguments ask for, the program's own name among them.
+// The command that the first word and the number of arguments ask for. The program's own name counts as an argument.
 pub fn asked(word: &[u8], count: usize) -> Command
     ensures { λ r. ⌜ Asks (now (word .entry)) count r ⌝ }
 {
@@ -32,7 +32,7 @@ pub fn asked(word: &[u8], count: usize) -> Command
     Command::Unknown
 }
 
-// Puts bytes behind the first `at` of out, and answers where they end.
+// Puts bytes after the first `at` bytes of out, and returns where they end.
 pub fn append(out: &mut [u8], at: usize, bytes: &[u8]) -> usize
     requires { ⌜ at + length (now bytes) ≤ length (now out) ⌝ }
     ensures { λ r. ⌜ Counts r (now (out .exit)) ⌝ }
@@ -65,7 +65,7 @@ pub fn answer_line(number: u64, place: u64, out: &mut [u8; 42]) -> usize
     append(out, c, b"\n")
 }
 
-// The name of a new file beside the one at `path`: the tag stands behind it.
+// The name of a new file beside the one at `path`: the path, and then the tag.
 pub fn beside(path: &[u8], tag: [u8; 7], name: &mut [u8]) -> usize
     requires { ⌜ length (now path) + 7 ≤ length (now name) ⌝ }
     ensures { λ r. ⌜ Counts r (now (name .exit)) ⌝ }

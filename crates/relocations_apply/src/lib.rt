@@ -1,4 +1,4 @@
-// The bytes of sections after their relocations, laid in place. Everything was checked before; nothing here can fail.
+// The bytes of sections after their relocations, laid in place. Every check has passed, so nothing here can fail.
 ghost use mathlib.Core.Path.{_≡_};
 ghost use mathlib.Core.Bool.{true, cond};
 ghost use Prim.Native.Nat.{_+_, _^_, _≤_, _<_};
@@ -49,7 +49,7 @@ use relocations_values::pairs::hi20_pair;
 use relocations_values::place_of;
 use relocations_values::target_of;
 
-// Both halves of a number, where AUIPC or LUI and the instruction after it have them.
+// Both halves of a number, at the bits where AUIPC or LUI and the instruction after it hold them.
 fn both_halves(x: u32) -> u64
     ensures { λ r. ⌜ r ≡ highPart 32 x + lowPart 32 x ⌝ }
 {
@@ -68,7 +68,7 @@ fn low_part(x: u32) -> u64
     lo12(x) as u64
 }
 
-// The width of a data field. Of another field, which no caller has, it means nothing.
+// The width of a data field. `requires` excludes every other field; those arms only complete the match.
 fn data_width(field: Field) -> Width
     requires { ⌜ isDataField field ≡ true ⌝ }
     ensures { λ r. ⌜ field ≡ Field.Data r ⌝ }
@@ -86,7 +86,8 @@ fn data_width(field: Field) -> Width
     }
 }
 
-// What a relocation leaves of the bytes w: x is S + A in two's complement, p is P, d the paired high half's T - P.
+// The touched bytes after a relocation. w is these bytes before it, x is S + A in two's complement, p is P, and d is
+// the paired high half's T - P.
 fn patch(calculation: Calculation, field: Field, w: u64, x: u64, p: Address, d: u32) -> u64
     requires { ⌜ onData calculation field ≡ true ⌝ }
     ensures { λ r. ⌜ r ≡ patched 32 calculation field w (signed 64 x) (p .0) d ⌝ }
@@ -232,7 +233,7 @@ fn apply(
     }
 }
 
-// T - P of the paired high half for a PCREL_LO12; 0, which nothing reads, for any other.
+// T - P of the paired high half for a PCREL_LO12. Any other calculation gets 0, and does not use it.
 fn distance_for(
     calculation: Calculation,
     object: &[u8],
@@ -282,7 +283,7 @@ fn apply_all(
     }
 }
 
-// The RELA section of section t, or the number of sections where it has none.
+// The RELA section of section t, or the number of sections if it has none.
 fn rela_of(object: &[u8], t: usize) -> usize
     requires { ⌜ SoundObject (now object) ⌝ }
     ensures { λ r. ⌜ r ≡ relaOf (now (object .entry)) t ⌝ }

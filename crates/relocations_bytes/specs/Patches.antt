@@ -1,4 +1,4 @@
--- What a relocation leaves of the bytes that it touches: document 01's table, a line for each calculation.
+-- The bytes that a relocation touches, as it leaves them: document 01's table, with a line for each calculation.
 use Prim.Native.Nat.{ℕ, _+_, _*_}
 use lib.IntN.{ℤ, pos, _+ℤ_, _-ℤ_}
 use Rattle.numbers_definitions.specs.Whole.{residue, minus}
@@ -10,17 +10,17 @@ use Rattle.instructions_fields.specs.Fields.{layout, valueBits}
 use Rattle.instructions_riscv.specs.Halves.{high, low}
 use Rattle.instructions_riscv.specs.Ranges.{distance}
 
--- the two halves of an address of w bits, or of a distance modulo 2^w, each where its instruction has it
+-- the two halves of an address of w bits, or of a distance modulo 2^w, each at the bits where its instruction holds it
 abbrev pub highPart : ℕ → ℕ → ℕ
 highPart w x = 4096 * high w x
 
 abbrev pub lowPart : ℕ → ℕ → ℕ
 lowPart w x = residue 12 (low w x)
 
--- The value that goes into a field of so many bits, where addresses have w bits; a field takes the low bits that it has. v is V, "the
+-- The value that goes into a field of `bits` bits, where addresses have w bits. The field takes as many low bits as it has. v is V, "the
 -- field's present value"; x is S + A, a whole number; p is P; d is the partner's T - P modulo 2^w. T is x modulo 2^w.
 abbrev pub calculated : ℕ → Calculation → ℕ → ℕ → ℤ → ℕ → ℕ → ℕ
--- 1: "T", of which the field takes 32 bits
+-- 1: "T"; the field takes its low 32 bits
 calculated w Absolute bits v x p d = residue w x
 -- 57: "T - P modulo 2^32"
 calculated w PcRelative bits v x p d = minus w (residue w x) p
@@ -41,6 +41,6 @@ calculated w Sub bits v x p d = residue bits (pos v -ℤ x)
 -- 53..56: "S + A cut to the width"
 calculated w Set bits v x p d = residue bits x
 
--- the bytes touched, as one number b, after it. "Bits outside the field stay."
+-- The touched bytes after the relocation, as one number. b is that number before it. "Bits outside the field stay."
 unfoldable pub patched : ℕ → Calculation → Field → ℕ → ℤ → ℕ → ℕ → ℕ
 patched w c f b x p d = put (layout f) b (calculated w c (valueBits f) (read (layout f) b) x p d)

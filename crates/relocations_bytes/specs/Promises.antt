@@ -25,7 +25,7 @@ use Rattle.relocations_bytes.specs.Sections.{sumAt, pairDistance}
 
 -- ---- ADD, SUB and SET at one place
 
--- one of them, on what those before it left; no other type is there
+-- One of them, applied to what those before it left. Check 9 lets no other type share their place; the other lines only complete the match.
 abbrev pub stackStep : Calculation → ℤ → ℤ → ℤ
 stackStep Add v x = v +ℤ x
 stackStep Sub v x = v -ℤ x
@@ -45,7 +45,7 @@ stackOn Marker here v x = v
 stackOn Align here v x = v
 stackOn Refused here v x = v
 
--- "V + S + A, V - S - A", "S + A", in file order: the whole number that the first j relocations make of v at an offset
+-- The whole number that the first j relocations make of v at an offset, in file order: "V + S + A, V - S - A", "S + A".
 unfoldable pub stackAt : List ℕ → List ℕ → List ℕ → Site → ℕ → ℕ → ℕ → ℤ
 stackAt object order addresses x at v zero = pos v
 stackAt object order addresses x at v (suc j) =
@@ -59,27 +59,28 @@ abbrev pub extended : ℕ → ℕ → ℕ
 extended w u = residue w (signed 32 u)
 
 abbrev pub Said : ℕ → Calculation → Field → ℕ → ℕ → ℕ → ℕ → ℤ → Type 0
--- 1: T, its low 32 bits: as many as the field has
+-- 1: the low 32 bits of T, which are as many as the field has
 Said w Absolute f b t p d total = read (layout f) b ≡ t % 2 ^ valueBits f
--- 57: T - P modulo 2^32, likewise
+-- 57: likewise the low 32 bits of T - P, which is T - P modulo 2^32
 Said w PcRelative f b t p d total = read (layout f) b ≡ minus w t p % 2 ^ valueBits f
--- 16, 17, 44, 45: the signed distance is T - P, whole
+-- 16, 17, 44, 45: the field, as a signed number, is the whole distance T - P
 Said w Distance f b t p d total = signed (valueBits f) (read (layout f) b) ≡ distance t p
--- 18, 19: high half and low half, each read out of its own instruction, add up to T - P modulo 2^32
+-- 18, 19: the high half and the low half, each read out of its own instruction, add up to T - P modulo 2^32
 Said w BothHalves f b t p d total = residue w (signed 32 (read formatU b) +ℤ signed 12 (read formatI (b / 2 ^ 32))) ≡ minus w t p
 -- 23, 26: the high half of T - P; of T
 Said w HighPcRelative f b t p d total = extended w (read (layout f) b) ≡ highPart w (minus w t p)
 Said w HighAbsolute f b t p d total = extended w (read (layout f) b) ≡ highPart w t
 -- 27, 28: the low half of T, from -2,048 to 2,047
 Said w LowAbsolute f b t p d total = signed 12 (read (layout f) b) ≡ low w t
--- 24, 25: that of the paired high half's T - P
+-- 24, 25: the low half of the paired high half's T - P
 Said w LowOfPair f b t p d total = signed 12 (read (layout f) b) ≡ low w d
--- 33..40, 52..56: what the whole stack says, modulo the width
+-- 33..40, 52..56: the number that the whole stack gives, modulo 2 to the power of the width
 Said w Add f b t p d total = read (layout f) b ≡ residue (valueBits f) total
 Said w Sub f b t p d total = read (layout f) b ≡ residue (valueBits f) total
 Said w Set f b t p d total = read (layout f) b ≡ residue (valueBits f) total
 
--- a store at an offset of a section that was `before` and is `final`: what is read, and that the bits outside the field are the object's
+-- A store at an offset of a section that was `before` and is now `final`: what is read there, and that the bits outside the field are still
+-- the object's.
 abbrev pub Stored : ℕ → Decision → List ℕ → List ℕ → ℕ → ℕ → ℕ → ℕ → (ℕ → ℤ) → Type 0
 Stored w (Store c f form n) before final at t p d total =
     Said w c f (leAt n final at) t p d (total (read (layout f) (leAt n before at)))
@@ -96,6 +97,7 @@ ReadsBack object order addresses x final j =
 
 -- ---- two halves of one number
 
--- a field that holds a high half and one that holds a low half, read out of the bytes b and v, add up to a number "modulo 2^32", which is 2^w
+-- The high half in field f of the bytes b and the low half in field g of the bytes v add up to a number "modulo 2^32", which is 2^w where
+-- addresses have w bits.
 abbrev pub AddUp : ℕ → Field → ℕ → Field → ℕ → ℕ → Type 0
 AddUp w f b g v number = residue w (signed 32 (read (layout f) b) +ℤ signed 12 (read (layout g) v)) ≡ number

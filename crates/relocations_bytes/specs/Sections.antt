@@ -22,7 +22,8 @@ use Rattle.relocations_values.specs.Pairs.{pairOf}
 use Rattle.relocations_rules.specs.Rules.{symbol}
 use Rattle.relocations_bytes.specs.Patches.{patched}
 
--- what a decision leaves of a section's bytes, where addresses have w bits: the n bytes at an offset, as one number, are patched
+-- A section's bytes after one relocation, where addresses have w bits. A store patches the n bytes at an offset, read as one number; every
+-- other decision changes nothing.
 abbrev pub stored : ℕ → Decision → ℕ → ℤ → ℕ → ℕ → List ℕ → List ℕ
 stored w (Store c f form n) at x p d s = sets s at (bytes n (patched w c f (leAt n s at) x p d))
 stored w Marker at x p d s = s
@@ -30,14 +31,15 @@ stored w Align at x p d s = s
 stored w Refused at x p d s = s
 
 module _ (object order addresses : List ℕ) (x : Site) where
-  -- S + A, "not reduced first", and T - P "modulo 2^32" of relocation j
+  -- of relocation j: S + A, "not reduced first", and T - P "modulo 2^32", which is 2^w where addresses have w bits
   unfoldable pub sumAt : ℕ → ℤ
   sumAt j = pos (S (valueAt object order addresses x j)) +ℤ A object x j
 
   unfoldable pub distanceAt : ℕ → ℕ
   distanceAt j = minus (addressWidth object) (targetAt object order addresses x j) (P object x j)
 
-  -- "the partner's T - P", never that of its own P; 0, which means nothing, without a partner
+  -- "the partner's T - P": P is the partner's, never that of the low half. Without a partner it counts as 0. Check 12 has refused such a
+  -- PCREL_LO12, and no other type uses the value.
   abbrev pub distanceOf : Pair → ℕ
   distanceOf (At k) = distanceAt k
   distanceOf NotOne = 0
@@ -49,16 +51,16 @@ module _ (object order addresses : List ℕ) (x : Site) where
   unfoldable pub applied : ℕ → List ℕ → List ℕ
   applied j s = stored (addressWidth object) (decisionAt object x j) (offset object x j) (sumAt j) (P object x j) (pairDistance j) s
 
-  -- "as found in the object", and then each relocation in file order on what those before it left
+  -- The bytes "as found in the object", after the first j relocations. These are applied in file order, each to what the one before it left.
   unfoldable pub after : ℕ → List ℕ
   after zero = found object x
   after (suc j) = applied j (after j)
 
--- the RELA section that counts and relocates section t, or the number of sections where there is none. Check 5 allows one at most.
+-- The RELA section that counts and relocates section t, or the number of sections if there is none. Check 5 allows at most one.
 unfoldable pub relaOf : List ℕ → ℕ → ℕ
 relaOf object t = first (λ i. countingRela object i && eqb (sectionAt object i .info) t) (sectionCount object)
 
--- the bytes of section t: those of the object, after its relocations if it has any
+-- the bytes of section t as the object has them, after its relocations if it has any
 unfoldable pub relocated : List ℕ → List ℕ → List ℕ → ℕ → List ℕ
 relocated object order addresses t =
     let x = siteAt object addresses (relaOf object t) in

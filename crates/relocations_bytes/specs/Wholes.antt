@@ -1,5 +1,5 @@
--- What else the final bytes of one section say: bytes that no relocation touches, and two halves of one number. `calls_demands` says both of the
--- image.
+-- What else the final bytes of one section say, about bytes that no relocation touches and about two halves of one number. `calls_demands`
+-- says the same about the image.
 use mathlib.Core.Path.{_≡_}
 use mathlib.Core.Bool.{Bool, not, _&&_}
 use mathlib.Core.List.{List}
@@ -23,7 +23,7 @@ use Rattle.relocations_rules.specs.Rules.{symbol}
 use Rattle.relocations_bytes.specs.Sections.{distanceAt}
 use Rattle.relocations_bytes.specs.Promises.{AddUp}
 
--- relocation j touches byte b; none does
+-- relocation j touches byte b; no relocation touches it
 unfoldable pub touches : List ℕ → Site → ℕ → ℕ → Bool
 touches object x j b = leb (offset object x j) b && ltb b (end object x j)
 
@@ -36,7 +36,7 @@ pub record Halves (object order addresses : List ℕ) (x : Site) (final : List �
   pub address : (i j : ℕ) → i < count x → j < count x → (f g : Field) (a b : Form) (m n : ℕ) → decisionAt object x i ≡ Store HighAbsolute f a m → decisionAt object x j ≡ Store LowAbsolute g b n
       → targetAt object order addresses x i ≡ targetAt object order addresses x j
       → AddUp (addressWidth object) f (leAt m final (offset object x i)) g (leAt n final (offset object x j)) (targetAt object order addresses x i)
-  -- 23 with 24 or 25: there is one pair, and the two add up to its distance
+  -- 23 with 24 or 25: the low half has exactly one pair, and the two halves add up to the distance of that pair
   pub distance : (j : ℕ) → j < count x → (g : Field) (b : Form) (n : ℕ) → decisionAt object x j ≡ Store LowOfPair g b n
       → (k : ℕ) × (k < count x) × (pairOf object x (symbol object x j .value) ≡ At k)
       × AddUp (addressWidth object) U (leAt 4 final (offset object x k)) g (leAt n final (offset object x j)) (distanceAt object order addresses x k)

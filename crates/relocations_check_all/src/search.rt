@@ -1,4 +1,4 @@
-// Checks 9 to 14 over all relocations: the first that breaks a rule, and which.
+// Checks 9 to 14 over all relocations: the first relocation that breaks a rule, and which rule it breaks.
 ghost use mathlib.Core.Path.{_≡_};
 ghost use mathlib.Core.Bool.{true};
 ghost use Rattle.elf_check.specs.Requires.{SoundObject};
@@ -92,7 +92,7 @@ fn is_broken(finding: Finding) -> bool
     }
 }
 
-// Checks 9 to 14: by RELA section, then in file order, each relocation through all rules before the next.
+// Checks 9 to 14. Relocations go by RELA section, then in file order, each through all rules before the next.
 pub fn check_relocations(
     object: &[u8],
     order: &[u8],

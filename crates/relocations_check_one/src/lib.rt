@@ -1,4 +1,4 @@
-// Checks 10 to 14 of one relocation. Everything is read out of the object as it came, and nothing is written.
+// Checks 10 to 14 of one relocation. Everything is read from the object as it was given, and nothing is written.
 ghost use mathlib.Core.Path.{_≡_};
 ghost use mathlib.Core.Bool.{true};
 ghost use Prim.Native.Nat.{_+_, _^_, _≤_, _<_};
@@ -96,7 +96,7 @@ fn is_data(form: Form) -> bool
     }
 }
 
-// Whether the n bytes at an offset of a section, which starts at an address, have a form.
+// Whether the n bytes at an offset of a section have a form. `start` is the address of the section.
 fn has_form_at(s: &[u8], start: Address, at: SectionOffset, n: usize, form: Form) -> bool
     requires { ⌜ (at .0 + n ≤ length (now s)) × (isWidth n ≡ true) ⌝ }
     ensures { λ r. ⌜ r ≡ standsWell form (start .0 + at .0) (leAt n (now (s .entry)) (at .0)) ⌝ }
@@ -145,7 +145,7 @@ pub fn is_paired(object: &[u8], symbols: Symbols, site: Site, j: usize) -> bool
     is_one(hi20_pair(object, site, symbol.value))
 }
 
-// Whether a distance from p to t is allowed for a calculation and its field.
+// Whether a calculation and its field allow the distance from p to t.
 fn reaches_well(calculation: Calculation, field: Field, t: Address, p: Address) -> bool
     ensures { λ r. ⌜ r ≡ reachesWell 32 calculation field (t .0) (p .0) ⌝ }
 {

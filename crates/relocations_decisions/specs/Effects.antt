@@ -1,4 +1,4 @@
--- What the rules ask of a type's line in the table.
+-- What the rules need to know about a type's line in the table.
 use Prim.Native.Nat.{ℕ}
 use mathlib.Core.Bool.{Bool, true, false, cond}
 use Rattle.relocations_types.specs.declared.Calculation.{Calculation}
@@ -41,7 +41,7 @@ stacks Add = true
 stacks Sub = true
 stacks Set = true
 
--- the width of an ADD, SUB or SET in bits, "SUB6 and SET6 have a width of their own"; 0 for all others
+-- The width of an ADD, SUB or SET in bits: "SUB6 and SET6 have a width of their own". It is 0 for every other type.
 abbrev pub stackWidth : Decision → ℕ
 stackWidth (Store c f form n) = cond (stacks c) (valueBits f) 0
 stackWidth Marker = 0

@@ -17,6 +17,6 @@ isDataField Cj = false
 isDataField Call = false
 isDataField (Data width) = true
 
--- ADD, SUB and SET are on data
+-- ADD, SUB and SET have data fields only
 abbrev pub onData : Calculation → Field → Bool
 onData c f = not (stacks c) || isDataField f

@@ -1,4 +1,4 @@
-// What the rules ask of a type's decision.
+// What the rules need to know about a type's decision.
 ghost use mathlib.Core.Path.{_≡_};
 ghost use Rattle.instructions_fields.specs.Fields.{valueBits};
 ghost use Rattle.relocations_decisions.specs.Effects.{isStore, isRefused, touched, stacks, stackWidth, takesPair, needsPair};
@@ -84,7 +84,7 @@ fn value_bits(field: Field) -> u32
     }
 }
 
-// The width of an ADD, SUB or SET in bits, or 0.
+// The width of an ADD, SUB or SET in bits, or 0 for any other type.
 pub fn stack_width(decision: Decision) -> u32
     ensures { λ r. ⌜ r ≡ stackWidth decision ⌝ }
 {

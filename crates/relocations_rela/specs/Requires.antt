@@ -10,21 +10,21 @@ use Rattle.elf_read.specs.Entries.{symbolCount}
 use Rattle.relocations_rela.specs.declared.sites.Site.{Site}
 use Rattle.relocations_rela.specs.Sites.{count, entry}
 
--- a site whose RELA section and target lie in the file, and whose target ends in memory
+-- a site whose RELA section and target lie in the file, and whose target does not reach past the end of memory
 pub record SoundSite (object : List ℕ) (x : Site) : Type 0 where
   pub entries : x .rela .offset .0 + x .rela .size ≤ length object
   pub bytes : x .target .offset .0 + x .target .size ≤ length object
   pub placed : x .address .0 + x .target .size ≤ 2 ^ addressWidth object
 
--- and one of its relocations
+-- such a site, and relocation j of it
 pub record There (object : List ℕ) (x : Site) (j : ℕ) : Type 0 where
   pub site : SoundSite object x
   pub there : j < count x
 
--- the symbol of relocation j, unless it is 0, is in the table
+-- the symbol of relocation j is 0 or in the table
 pub record InTable (object : List ℕ) (x : Site) (j : ℕ) : Type 0 where
   pub inside : 0 < entry object x j .symbol → entry object x j .symbol < symbolCount object
 
--- every section that is relocated ends in memory
+-- no allocated section, and so no section that is relocated, reaches past the end of memory
 pub record Placed (object addresses : List ℕ) : Type 0 where
   pub ends : (i : ℕ) → i < sectionCount object → allocated (sectionAt object i) ≡ true → getD addresses i 0 + sectionAt object i .size ≤ 2 ^ addressWidth object

@@ -18,7 +18,7 @@ unfoldable pub neverFalls : List ℕ → Site → ℕ → Bool
 neverFalls object x zero = true
 neverFalls object x (suc j) = leb (offset object x j) (offset object x (suc j))
 
--- the first offset behind the bytes that relocation j touches
+-- the first offset after the bytes that relocation j touches
 abbrev pub end : List ℕ → Site → ℕ → ℕ
 end object x j = offset object x j + touched (decisionAt object x j)
 
@@ -26,7 +26,7 @@ end object x j = offset object x j + touched (decisionAt object x j)
 unfoldable pub staysInside : List ℕ → Site → ℕ → Bool
 staysInside object x j = leb (end object x j) (x .target .size)
 
--- "the previous non-marker": the last below j
+-- "the previous non-marker": the last one before relocation j
 unfoldable pub previous : List ℕ → Site → ℕ → Previous
 previous object x zero = Nothing
 previous object x (suc j) = cond (isStore (decisionAt object x j)) (Entry j) (previous object x j)
@@ -46,7 +46,7 @@ clears object x j (Entry k) = leb (end object x k) (offset object x j) || shares
 unfoldable pub noOverlap : List ℕ → Site → ℕ → Bool
 noOverlap object x j = not (isStore (decisionAt object x j)) || clears object x j (previous object x j)
 
--- ALIGN: "A even, 0 to 4,094, offset + A inside the row"; 24, 25: "A must be 0"; at an offset in a row of a size
+-- The addend rules, at an offset in a section of some size. ALIGN: "A even, 0 to 4,094, offset + A inside the row"; 24, 25: "A must be 0".
 abbrev pub addendWell : Decision → ℕ → ℕ → ℤ → Bool
 addendWell Align at size a = within 0 4094 a && even a && leb (at + natAbs a) size
 addendWell (Store c f form n) at size a = not (takesPair c) || eqb (natAbs a) 0

@@ -31,7 +31,8 @@ offset object x j = entry object x j .offset .0
 abbrev pub decisionAt : List ℕ → Site → ℕ → Decision
 decisionAt object x j = decision (entry object x j .kind)
 
--- A, a signed number: the third word of the entry in two's complement, which the entry keeps modulo 2^64 (`Addends.addend-is`)
+-- A, a signed number. In the file it is the third word of the entry, in two's complement; the entry that is read keeps it modulo 2^64
+-- (`Addends.addend-is`).
 abbrev pub A : List ℕ → Site → ℕ → ℤ
 A object x j = signed 64 (entry object x j .addend)
 

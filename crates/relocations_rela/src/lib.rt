@@ -1,3 +1,4 @@
-// RELA sections and their relocations: what each relocation's type asks for, and check 9. Everything is read out of the object as it came.
+// RELA sections and their relocations: what each relocation's type asks for, and check 9. Everything is read from the
+// object as it was given.
 pub mod shape;
 pub mod sites;

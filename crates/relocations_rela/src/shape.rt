@@ -15,7 +15,7 @@ use relocations_decisions::stack_width;
 use relocations_types::Decision;
 use relocations_types::decide;
 
-// The previous non-marker of a relocation, among those of its site.
+// The previous non-marker of a relocation, among the relocations of its site.
 pub enum Previous {
     Nothing,
     Entry(usize),
@@ -31,7 +31,7 @@ pub fn step(previous: Previous, decision: Decision, j: usize) -> Previous
     previous
 }
 
-// Whether the offset is not below that of the relocation before.
+// Whether the offset is at least that of the relocation before.
 fn never_falls(object: &[u8], site: Site, j: usize) -> bool
     requires { ⌜ There (now object) site j ⌝ }
     ensures { λ r. ⌜ r ≡ neverFalls (now (object .entry)) site j ⌝ }
@@ -69,7 +69,7 @@ fn is_apart(object: &[u8], site: Site, k: usize, j: usize) -> bool
         | ((earlier.offset.0 == later.offset.0) & (0 < width) & (width == stack_width(second)))
 }
 
-// The rules of an addend, at an offset in a section of a size.
+// The addend rules, at an offset in a section of some size.
 fn is_addend_allowed(decision: Decision, at: SectionOffset, size: u32, addend: u64) -> bool
     ensures { λ r. ⌜ r ≡ addendWell decision (at .0) size (signed 64 addend) ⌝ }
 {

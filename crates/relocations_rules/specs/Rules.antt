@@ -50,7 +50,7 @@ symbolWell object x j value =
 
 -- ---- check 11
 
--- data, which may be any and anywhere
+-- Data. Its bytes may be anything, and its address may be odd.
 abbrev pub isData : Form → Bool
 isData Any = true
 isData Lui = false
@@ -63,7 +63,7 @@ isData CallPair = false
 isData CBranch = false
 isData CJump = false
 
--- "Instruction at an even address": p is the address, w the number that the bytes touched spell
+-- "Instruction at an even address". p is the address, and w is the touched bytes as one number.
 unfoldable pub standsWell : Form → ℕ → ℕ → Bool
 standsWell form p w = isData form || (eqb (p % 2) 0 && hasForm form w (w / 2 ^ 32))
 

@@ -16,7 +16,7 @@ use Rattle.relocations_values.specs.Values.{valueAt, targetAt}
 use Rattle.relocations_rela.specs.Shape.{shapeWell}
 use Rattle.relocations_rules.specs.Rules.{symbolWell, formWell, pairWell, distanceWell, boundaryWell}
 
--- document 01's number of what is found; 0 where all rules are kept
+-- document 01's number of a finding; 0 if all rules are kept
 abbrev pub number : Finding → ℕ
 number Kept = 0
 number BadShape = 9

@@ -1,5 +1,5 @@
-// The rules of relocations: checks 10 to 14 of one relocation, and the first that is broken of all. Definitions and theorems, no code:
-// `relocations_check_one` and `relocations_check_all` look.
+// The rules of relocations: checks 10 to 14 of one relocation, and the first broken rule over all relocations.
+// Definitions and theorems, no code; `relocations_check_one` and `relocations_check_all` do the checking.
 
 // Which of checks 9 to 14 a relocation breaks, if it breaks one.
 pub enum Finding {
@@ -12,7 +12,8 @@ pub enum Finding {
     OffBoundary,
 }
 
-// What checks 9 to 14 find: nothing, or the first broken rule of the first relocation that breaks one, and its number.
+// What checks 9 to 14 find: nothing, or the first rule broken by the first relocation that breaks one, and the number
+// of that relocation.
 pub enum RelocationCheck {
     Passed,
     Broken(Finding, u32),

@@ -63,12 +63,12 @@ table =
     ∷ line (56 ∷ []) (Store Set (Data W32) Any 4)
     ∷ []
 
--- a number is in a list
+-- whether a number is in a list
 unfoldable pub among : ℕ → List ℕ → Bool
 among t [] = false
 among t (x ∷ xs) = eqb t x || among t xs
 
--- the line that has the type, or a refusal: "all others: refused"
+-- the decision on the line that has the type, or a refusal: "all others: refused"
 unfoldable pub lookup : ℕ → List Line → Decision
 lookup t [] = Refused
 lookup t (l ∷ ls) = cond (among t (l .types)) (l .decisionAt) (lookup t ls)

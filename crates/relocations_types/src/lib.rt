@@ -5,7 +5,7 @@ use instructions_fields::Field;
 use instructions_fields::Width;
 use instructions_riscv::forms::Form;
 
-// What is stored, T being the symbol's value with the addend and P the place's address.
+// What is stored. T is the symbol's value with the addend, and P is the place's address.
 pub enum Calculation {
     // T
     Absolute,
@@ -21,7 +21,7 @@ pub enum Calculation {
     // the low half of T, and of the paired high half's T - P
     LowAbsolute,
     LowOfPair,
-    // the present value with S + A added, less S + A, or S + A
+    // the present value plus S + A, the present value minus S + A, and S + A alone
     Add,
     Sub,
     Set,
@@ -31,9 +31,10 @@ pub enum Calculation {
 pub enum Decision {
     // no bytes
     Marker,
-    // no bytes, and padding that ends on a boundary
+    // no bytes, but padding that must end on a boundary
     Align,
-    // a calculation, the field that it is stored in, the form asked of what stands there, and how many bytes are touched
+    // a calculation, the field that its result goes into, the form that the instruction there must have, and how
+    // many bytes are touched
     Store(Calculation, Field, Form, usize),
     Refused,
 }

@@ -18,7 +18,7 @@ PCREL_HI20 = 23
 unfoldable pub isPair : List ℕ → Site → SectionOffset → ℕ → Bool
 isPair object x value k = eqb (entry object x k .kind) PCREL_HI20 && eqb (offset object x k) (value .0)
 
--- at how many numbers below n p holds
+-- how many of the numbers below n satisfy p
 unfoldable pub howMany : (ℕ → Bool) → ℕ → ℕ
 howMany p n = sum (λ k. cond (p k) 1 0) n
 

@@ -14,7 +14,7 @@ use Rattle.relocations_rela.specs.Sites.{entry, A}
 abbrev pub valueAt : List ℕ → List ℕ → List ℕ → Site → ℕ → SymbolValue
 valueAt object order addresses x j = symbolValue object order addresses (entry object x j .symbol)
 
--- S; 0, which means nothing, for a symbol that does not resolve
+-- S. A symbol that does not resolve counts as 0 here; check 10 has refused it before the value is used.
 abbrev pub S : SymbolValue → ℕ
 S (Resolved v) = v .0
 S Unresolved = 0

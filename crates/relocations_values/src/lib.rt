@@ -1,4 +1,4 @@
-// What a relocation is worked out from: T and P, and the paired high half of a PCREL_LO12.
+// What a relocation is calculated from: T and P, and the paired high half of a PCREL_LO12.
 pub mod pairs;
 
 ghost use mathlib.Core.Path.{_≡_};
@@ -19,7 +19,7 @@ pub fn target_of(value: SymbolValue, addend: u64) -> Address
     }
 }
 
-// P: the place's address. Of a non-marker it is below 2^32.
+// P: the place's address. For a non-marker it is below 2^32, so that the addition does not wrap.
 pub fn place_of(site: Site, here: Relocation) -> Address
     ensures { λ r. ⌜ r .0 ≡ plus 32 (site .address .0) (here .offset .0) ⌝ }
 {

@@ -10,7 +10,7 @@ use relocations_rela::sites::Site;
 // The type of a paired high half.
 pub const PCREL_HI20: u8 = 23;
 
-// The one PCREL_HI20 at an offset, or that there is not exactly one.
+// The one PCREL_HI20 at an offset, or `NotOne` if there is not exactly one.
 pub enum Pair {
     At(usize),
     NotOne,
@@ -25,7 +25,7 @@ fn is_pair(object: &[u8], site: Site, offset: SectionOffset, k: usize) -> bool
     (r.kind == PCREL_HI20) & (r.offset.0 == offset.0)
 }
 
-// k if it is chosen, else what was.
+// k if it is chosen, otherwise the one before.
 fn chosen(is: bool, k: usize, before: usize) -> usize
     ensures { λ r. ⌜ r ≡ cond is k before ⌝ }
 {

@@ -71,7 +71,7 @@ pub struct Jump {
     pub p: Address,
 }
 
-// Jumps to an end, one byte and two past it, to themselves, and once around the address space.
+// Jumps to each end of the range, one byte and two bytes past it, to themselves, and once around the address space.
 pub fn case(ends: Range, number: u64) -> Jump {
     if number == 7 {
         return Jump {
@@ -127,7 +127,7 @@ fn funct3(x: u64) -> u64
     x / 2 % 8
 }
 
-// A word of an opcode. Its rd and rs1 are 0 or 1, so that pairs match.
+// A word with this opcode. Its rd and rs1 are 0 or 1, so that the registers of a pair often match.
 pub fn word(opcode: u64, x: u64) -> u64
     requires { ⌜ opcode < 128 ⌝ }
 {

@@ -48,7 +48,7 @@ pub fn half(x: u32) {
     end();
 }
 
-// t: a type, and 0 for a marker, 1 for ALIGN, 3 for a refusal, or 2 with calculation, field, form and bytes.
+// t: a type, and then 0 for a marker, 1 for ALIGN, 3 for a refusal, or 2 with calculation, field, form and bytes.
 pub fn decision(number: u8) {
     first(b't', number as u64);
     match relocations_types::decide(number) {
@@ -77,7 +77,7 @@ pub fn data(number: u64, v: u64, x: u64) {
     end();
 }
 
-// r: a range, a target, an address, and whether the one is reached from the other.
+// r: a range, a target, an address, and whether the target is reached from the address.
 pub fn reach(number: u64, place: u64) {
     let ends = choices::range(number);
     let jump = choices::case(ends, place);

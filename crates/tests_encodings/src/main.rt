@@ -1,8 +1,10 @@
-// Runs the functions of `instructions_encode`, `instructions_decode`, `instructions_riscv` and `relocations_types` over fixed inputs, and writes what goes in and what comes out, in hexadecimal, a line for each case.
+// Runs the functions of `instructions_encode`, `instructions_decode`, `instructions_riscv` and `relocations_types` over
+// fixed inputs. It writes a line for each case: what goes in and what comes out, in hexadecimal.
 mod choices;
 mod lines;
 
-// A kind is the letter that its lines begin with, but for 'e': these are of kind 'd', at the edges of each width.
+// A kind is the letter that its lines begin with. Only those of 'e' begin with 'd': they are data at the edges of each
+// width.
 fn main() {
     run(b'f', 416);
     run(b'h', 64);
@@ -32,7 +34,7 @@ fn next(x: u64) -> u64 {
     b ^ (b << 17)
 }
 
-// The line of a kind with a number, from a and b of the sequence.
+// Line number i of a kind, from the numbers a and b of the sequence.
 fn line(kind: u8, i: u64, a: u64, b: u64) {
     match kind {
         b'f' => lines::field(i % 13, a, b),

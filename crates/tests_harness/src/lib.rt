@@ -1,7 +1,8 @@
-// What the compared programs share: commands that are read, and lines that are written.
+// What the compared programs share: reading commands, and writing lines.
 //
-// The input is a number of commands and then the commands, of thirteen bytes each: a letter and three numbers, a, b and c. `s` stores b
-// bytes, which follow, in the program's space at a; the other letters ask about what is there.
+// The input is commands of thirteen bytes each: a letter and three numbers, a, b and c. The first one only says, in a,
+// how many follow. `s` stores the b bytes that come after it in the program's space at a; the other letters ask about
+// what is there.
 
 pub struct Command {
     pub letter: u8,
@@ -10,7 +11,7 @@ pub struct Command {
     pub c: u32,
 }
 
-// The next command; zeros where the input has ended.
+// The next command, or zeros if the input has ended.
 pub fn next() -> Command {
     let mut text = [0u8; 13];
     io::read_full(0, &mut text);
@@ -26,7 +27,7 @@ fn parse(text: &[u8; 13]) -> Command {
     }
 }
 
-// Stores the bytes that follow. A command that would leave the space does nothing.
+// Stores the bytes that follow. A command that would write outside the space does nothing.
 pub fn store(space: &mut [u8], at: usize, count: usize) {
     if space.len() < at {
         return;

@@ -1,6 +1,7 @@
-// Places objects by orders, both of which its input spells out, and writes what the functions of `placing_match`, `placing_check` and `placing_symbols` find, a line for each pair.
+// Places objects by orders, both given in its input. It writes a line for each pair: what the functions of
+// `placing_match`, `placing_check` and `placing_symbols` find.
 //
-//     p   the object that the first a bytes are, the order that b bytes from 65,600 on are, and an image of c bytes
+//     p   the first a bytes are the object, the b bytes from 65,600 on are the order, and the image has c bytes
 mod pairs;
 
 use tests_harness::Command;

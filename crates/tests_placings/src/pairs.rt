@@ -1,4 +1,5 @@
-// p: the first of checks 2 to 8 that an object and an order break; where they break none, the addresses and the values of the symbols.
+// p: the first of checks 2 to 8 that an object and an order break. If they break none, the addresses and the values of
+// the symbols.
 ghost use mathlib.Core.Path.{_≡_};
 ghost use Prim.Native.Nat.{_≤_};
 ghost use Rattle.elf_check.specs.Requires.{SoundObject};
@@ -86,7 +87,8 @@ fn addresses(array: Addresses) {
     }
 }
 
-// The value of each symbol, and of three numbers past the table. There are at most 1,024 symbols: the `return` is never taken.
+// The value of each symbol, and of three numbers past the table. There are at most 1,024 symbols, so the `return` is
+// never taken.
 fn values(object: &[u8], order: &[u8], counts: OrderHeader, array: Addresses)
     requires { ⌜ SoundObject (now object) × (reading (now order) ≡ Reading.WellFormed counts) ⌝ }
 {

@@ -1,14 +1,14 @@
-// The lines: their letter, and of a window what check 3 says.
+// The lines: their letter and, for a window, what check 3 says.
 use numbers_definitions::Address;
 
-// Document 01's number and place, behind the letter.
+// Document 01's number and place, after the letter.
 pub fn answer(kind: u8, number: u64, place: u64) {
     let text = [kind, b' '];
     io::write_all(1, &text);
     tests_harness::answer(number, place);
 }
 
-// w: check 3 of an install, then that of a rollback.
+// w: check 3 of an install, then check 3 of a rollback.
 pub fn window(base: Address, length: usize) {
     answer(b'w', number(order_format::window_allowed(base, length)), 0);
     tests_harness::then(number(order_format::length_allowed(length)));

@@ -1,7 +1,8 @@
-// Reads objects and orders that its input spells out, and writes what the functions of `elf_read`, `elf_check`, `order_format` and `order_lookup` find in them, a line for each.
+// Reads objects and orders that its input gives. It writes a line for each: what the functions of `elf_read`,
+// `elf_check`, `order_format` and `order_lookup` find in it.
 //
-//     o   the object that the first a bytes are
-//     r   the order that the first a bytes are
+//     o   the first a bytes are an object
+//     r   the first a bytes are an order
 //     w   a window of base a and length b
 mod digest;
 mod lines;

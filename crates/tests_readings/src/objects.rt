@@ -1,6 +1,7 @@
-// o: checks 4 and 5 of an object, and of one that passes a digest for each function that reads it.
+// o: checks 4 and 5 of an object. If it passes, a digest for each function that reads it.
 //
-// What the checks say of offsets and counts is tested here again, so that no proof needs a law about them: such a `return` is never taken.
+// What the checks say about offsets and counts is tested here again, so that no proof needs a law about it. Such a
+// `return` is never taken.
 ghost use Prim.Native.Nat.{_<_};
 ghost use Rattle.elf_read.specs.Headers.{sectionCount};
 ghost use Rattle.elf_read.specs.Requires.{TableInside};
@@ -35,7 +36,7 @@ fn passed(s: &[u8]) {
     entries(s);
 }
 
-// How many sections there are; headers, roles and bytes.
+// How many sections there are, and their headers, roles and bytes.
 fn sections(s: &[u8])
     requires { ⌜ TableInside (now s) ⌝ }
 {
@@ -45,7 +46,7 @@ fn sections(s: &[u8])
     tests_harness::then(bodies(s));
 }
 
-// The symbol table, and the symbols; how many relocations there are, where they are, and they themselves.
+// The symbol table and the symbols; how many relocations there are, where they are, and the relocations themselves.
 fn entries(s: &[u8])
     requires { ⌜ TableInside (now s) ⌝ }
 {
@@ -95,7 +96,7 @@ fn roles(s: &[u8]) -> u64
     d
 }
 
-// Whether a section is allocated, is loaded, and counts as RELA.
+// Whether a section is allocated, whether it is loaded, and whether it is a RELA section that counts.
 fn role(digest: u64, s: &[u8], i: usize) -> u64
     requires { ⌜ TableInside (now s) × (i < sectionCount (now s)) ⌝ }
 {
@@ -161,7 +162,8 @@ fn symbol(digest: u64, s: &[u8], table: Section, k: usize) -> u64 {
     digest::mix(c, y.section as u64)
 }
 
-// Where the first relocation behind each section is, the one before it, and one in the middle of all these.
+// For each section, where three relocations are: the first one after the section, the one before that, and one in the
+// middle of all those up to there.
 fn locations(s: &[u8]) -> u64
     requires { ⌜ TableInside (now s) ⌝ }
 {

@@ -1,6 +1,7 @@
-// r: check 2 of an order, and of one that is well formed a digest for each function that reads it.
+// r: check 2 of an order. If it is well formed, a digest for each function that reads it.
 //
-// What the check says of counts is tested here again, so that no proof needs a law about them: such a `return` is never taken.
+// What the check says about counts is tested here again, so that no proof needs a law about it. Such a `return` is
+// never taken.
 ghost use mathlib.Core.Path.{_≡_};
 ghost use Rattle.order_format.specs.Orders.{reading};
 use super::digest;
@@ -20,7 +21,7 @@ pub fn line(s: &[u8]) {
     tests_harness::end();
 }
 
-// Base and counts; both lists; the array; and the values of numbers that the lists have and that they do not have.
+// Base and counts; both lists; the array; and the values of numbers that are in the lists and of numbers that are not.
 fn well_formed(s: &[u8], counts: OrderHeader)
     requires { ⌜ reading (now s) ≡ Reading.WellFormed counts ⌝ }
 {
@@ -53,7 +54,7 @@ fn entries(s: &[u8], at: usize, n: usize) -> u64 {
     d
 }
 
-// Entry i of the list at `at`; zeros, if it did not lie in the order.
+// Entry i of the list at `at`, or zeros if it did not lie in the order.
 fn entry(s: &[u8], at: usize, i: usize) -> Entry {
     let none = Entry {
         index: 0,
@@ -81,7 +82,7 @@ fn addresses(array: Addresses) -> u64 {
     d
 }
 
-// The values of each number up to 33.
+// The values of the numbers 0 to 33.
 fn low_values(s: &[u8], counts: OrderHeader) -> u64
     requires { ⌜ reading (now s) ≡ Reading.WellFormed counts ⌝ }
 {
@@ -94,7 +95,7 @@ fn low_values(s: &[u8], counts: OrderHeader) -> u64
     d
 }
 
-// The values of a list's numbers, of those before them and of those behind them.
+// The values of each number in a list, of the number before it, and of the number after it.
 fn near_values(s: &[u8], counts: OrderHeader, at: usize, n: usize) -> u64
     requires { ⌜ reading (now s) ≡ Reading.WellFormed counts ⌝ }
 {

@@ -1,6 +1,7 @@
-// Relocates objects by orders, both of which its input spells out, and writes what the functions of `calls_judge` and `relocations_apply` give, a line for each pair.
+// Relocates objects by orders, both given in its input. It writes a line for each pair: what the functions of
+// `calls_judge` and `relocations_apply` give.
 //
-//     r   the object that the first a bytes are, the order that b bytes from 65,600 on are, and an image of c bytes
+//     r   the first a bytes are the object, the b bytes from 65,600 on are the order, and the image has c bytes
 mod lines;
 mod pairs;
 

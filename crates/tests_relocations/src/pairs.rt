@@ -1,4 +1,5 @@
-// r: the first of checks 2 to 14 that an object and an order break; where they break none, the bytes of the loaded sections after relocation.
+// r: the first of checks 2 to 14 that an object and an order break. If they break none, the bytes of the loaded
+// sections after relocation.
 ghost use mathlib.Core.Path.{_≡_};
 ghost use mathlib.Core.Bool.{true};
 ghost use Prim.Native.Nat.{_<_};
@@ -27,7 +28,7 @@ pub fn line(object: &[u8], order: &[u8], len: usize) {
     tests_harness::end();
 }
 
-// The loaded sections one after the other in the same room: each finds there what those before it left.
+// The loaded sections, one after the other in the same room. Each finds there what those before it left.
 fn passed(object: &[u8], order: &[u8], len: usize)
     requires { ⌜ judgement (now object) (now order) len ≡ plan (planOf (now object) (now order)) ⌝ }
 {
@@ -52,7 +53,7 @@ fn sections(object: &[u8], order: &[u8], counts: OrderHeader, array: Addresses, 
     }
 }
 
-// Section t, unless it is not loaded or has no bytes.
+// Section t, if it is loaded and has bytes.
 fn section(
     object: &[u8],
     order: &[u8],

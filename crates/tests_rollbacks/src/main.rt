@@ -1,9 +1,10 @@
-// Runs rollbacks and saves over the cases of standard input, and writes a line for each: number, and a checksum of image and journal after.
+// Runs rollbacks and saves over the cases of standard input. It writes a line for each: the number, and a checksum each
+// of the image and the journal afterwards.
 //
 //     count        u32
 //     each case    kind u32: 0 a rollback, 1 a save, 2 a rollback of what the case before left
 //                  length of image u32, of journal u32; how many first bytes of each are given u32 u32; span u32 u32
-//                  the bytes given; the others are their places modulo 251
+//                  the bytes given; every other byte is its place modulo 251
 use journal_undo::RolledBack;
 use plan_pieces::Span;
 ghost use Prim.Native.Nat.{_<_, _^_};
@@ -29,7 +30,7 @@ fn number() -> u32 {
     numbers_bytes::read32(s, 0)
 }
 
-// One case, where the spaces are long enough for it.
+// One case, if the spaces are long enough for it.
 fn case(images: &mut [u8], journals: &mut [u8]) {
     let kind = number();
     let m = number() as usize;
@@ -88,7 +89,7 @@ fn rolled_back(image: &mut [u8], book: &mut [u8]) -> u64 {
     }
 }
 
-// Document 01's number of a save, after the checks of an install; 255 for a span outside the image.
+// Document 01's number of a save, after the checks of an install. 255 stands for a span outside the image.
 fn saved(image: &[u8], book: &mut [u8], span: Span) -> u64 {
     if !journal_format::is_sound(book, image.len()) {
         return 1;
