@@ -7,7 +7,7 @@
  * What a caller owes; all else is answered:
  *   - No pointer is null, that of an empty buffer neither. An empty buffer is never read or written.
  *   - Each buffer has its whole length, and its bytes can be read: of image, ledger and answers also written.
- *   - The buffers of one call do not overlap.
+ *   - The buffers of one call must not overlap.
  *   - No other thread uses image, ledger or answers, or writes object, order or calls, during the call.
  *
  * Lengths: any length is answered. A call can be done with an object of at most 65,536 bytes, an image of 0 to

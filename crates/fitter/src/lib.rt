@@ -70,7 +70,7 @@ fn make_calls(calls: &[u8], n: usize, image: &mut [u8], ledger: &mut [u8], answe
     }
 }
 
-// Runs a list of n calls if there are places enough for their answers: 1 if it did, 0 if it did not.
+// Runs a list of n calls if there are enough places for their answers. It returns 1 if it ran them, otherwise 0.
 fn replay_list(
     calls: &[u8],
     n: usize,

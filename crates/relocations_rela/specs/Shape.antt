@@ -18,7 +18,7 @@ unfoldable pub neverFalls : List ℕ → Site → ℕ → Bool
 neverFalls object x zero = true
 neverFalls object x (suc j) = leb (offset object x j) (offset object x (suc j))
 
--- the first offset behind the bytes that relocation j touches
+-- the first offset after the bytes that relocation j touches
 abbrev pub end : List ℕ → Site → ℕ → ℕ
 end object x j = offset object x j + touched (decisionAt object x j)
 

@@ -10,8 +10,7 @@ use elf_read::Section;
 use numbers_definitions::Address;
 use order_lookup::Addresses;
 
-// A RELA section, the section that it relocates (document 01: the target row), and the number and address of the
-// latter.
+// A RELA section, the section that it relocates (document 01: the target row), and the number and address of that section.
 pub struct Site {
     pub rela: Section,
     pub target: Section,

@@ -68,7 +68,7 @@ unfoldable pub among : ℕ → List ℕ → Bool
 among t [] = false
 among t (x ∷ xs) = eqb t x || among t xs
 
--- the decision on the line that has the type, or a refusal: "all others: refused"
+-- the decision on the line that has the type, or a refusal: "all others | refused"
 unfoldable pub lookup : ℕ → List Line → Decision
 lookup t [] = Refused
 lookup t (l ∷ ls) = cond (among t (l .types)) (l .decisionAt) (lookup t ls)

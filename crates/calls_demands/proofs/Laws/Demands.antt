@@ -1,4 +1,4 @@
--- The demands at document 01's judgement.
+-- The demands, proved for document 01's judgement.
 use mathlib.Core.Logic.{_⊎_, inl, inr}
 use mathlib.Core.Path.{_≡_, refl, sym, ap, subst, _∙_}
 use mathlib.Core.Bool.{Bool, true, false, not, cond}
@@ -188,7 +188,7 @@ rollback-above f a b = go (named-number OfRollback (rollbackTable f) a (rollback
     go (inr (inl e)) = omega arith
     go (inr (inr e)) = omega arith
 
--- by what is told, an answer that is not done has a number above 0
+-- by `Told`, an answer that is not done has a number above 0
 not-zero : (c : Checks) (a : Answer) → (FirstBroken c a → 0 < a .number) → Told c a → (a ≡ done → ⊥) → a .number ≡ 0 → ⊥
 not-zero c a up (inl t) not-done e = not-done (t .0)
 not-zero c a up (inr b) not-done e = omega (arith, up b)
@@ -257,7 +257,7 @@ done-leaves object order f e = go (sound (f .journal) (length (f .image))) refl 
     room : List Piece → Bool
     room ps = noRoom (count (f .journal)) (held (f .journal)) (spanOf ps .size) (length (f .journal))
 
-    -- what is left is the plan's
+    -- what is left is what the plan lays
     left : (ps : List Piece) → Fits object order len ps → sound (f .journal) len ≡ true → judgement object order len ≡ plan ps → room ps ≡ false → Done object order f
     left ps fits s v r =
         let same : ps ≡ planOf object order = sym (fits .plan-is) in

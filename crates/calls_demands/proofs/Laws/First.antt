@@ -1,4 +1,4 @@
--- There is one first broken rule at most, and none where every rule holds.
+-- There is at most one first broken rule, and there is none if every rule holds.
 use mathlib.Core.Logic.{_⊎_, inl, inr}
 use mathlib.Core.Path.{_≡_, refl, sym, ap, _∙_, subst}
 use Prim.Native.Nat.{ℕ, _≤_, _<_}
@@ -76,16 +76,16 @@ named-place top (check m l c) a h (inr b) = named-place top c a (h .1 (b .0)) (b
 
 -- ---- what an answer says of checks
 
--- done and every rule holds, or the first broken one is named
+-- it is done and every rule holds, or it names the first broken rule
 abbrev pub Told : Checks → Answer → Type 0
 Told c a = ((a ≡ done) × AllHold c) ⊎ FirstBroken c a
 
--- the check holds, and the answer is that of those after it
+-- the check holds, and the checks after it give the answer
 pub later : (m : ℕ) (l : Line) (c : Checks) (a : Answer) → HoldBelow l m → Told c a → Told (check m l c) a
 later m l c a h (inl t) = inl (t .0, (h, t .1))
 later m l c a h (inr b) = inr (inr (h, b))
 
--- one rule, at place 0 or at each place
+-- one rule that holds, at place 0 or at each place
 pub at-once : {R : Type 0} → (n : ℕ) → R → HoldBelow (rule n (λ _. R) nil) 1
 at-once n r p h = (r, tt)
 

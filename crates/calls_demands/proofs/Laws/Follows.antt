@@ -1,4 +1,4 @@
--- Demand 3 follows: what meets demands 1 and 2 and the ledger's sentences meets demand 3 on bytes, whatever its code.
+-- Demand 3 follows: calls that meet demands 1 and 2 and the sentences about the ledger meet demand 3 on bytes, whatever their code is.
 use mathlib.Core.Path.{_≡_, refl, sym, ap, ap₂, _∙_, subst}
 use mathlib.Core.Bool.{cond}
 use mathlib.Core.List.{List, [], _∷_, _++_}
@@ -100,7 +100,7 @@ module _ (i : InstallCall) (r : RollbackCall) (m : Meets i r) where
       → answers their (run their f calls) more ≡ answers our (run our f calls) more
   some-more calls f b k more km = ap (λ g. answers their g more) (same-left calls f b k) ∙ same-answers more (run our f calls) (bytes-after calls f b k) km
 
-  -- so that demand 3 is theirs too
+  -- so they meet demand 3 too
   pub follows : Demand3 AreBytes i r
   follows start b s calls k =
       let ours = demand-3 AreBytes start b s calls k in

@@ -93,7 +93,7 @@ module _ (object order : List ℕ) (counts : OrderHeader) (image : List ℕ) (fi
           let one : _≡_ {A = ℕ} 0 1 = ap (λ b. cond b 0 1) z in
           absurd (omega arith)
 
-  -- a byte that is no section's is as before
+  -- a byte that belongs to no section is as before
   kept : (n b : ℕ) → n ≤ sectionCount object → ((t : ℕ) → Covers object order t b → ⊥) → getD (now n) b 0 ≡ getD image b 0
   kept zero b h out = ap (λ s. getD s b 0) (laid-none object order image)
   kept (suc t) b h out = go (hasBytes (sectionAt object t)) refl (kept t b (omega arith) out)

@@ -1,4 +1,4 @@
--- A journal of bytes is known by n, its entries, k and what follows, and a span by the bytes that are laid.
+-- A journal of bytes is determined by n, its entries, k and what follows. A span is determined by the bytes that are laid.
 use mathlib.Core.Path.{_≡_, ap}
 use mathlib.Core.List.{List}
 use Prim.Native.Nat.{ℕ, _+_, _-_, _/_, _%_, _≤_, _<_}

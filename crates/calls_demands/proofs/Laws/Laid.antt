@@ -1,4 +1,4 @@
--- What is laid is the object's own, or the field that is asked for.
+-- Each laid byte is the object's own, or belongs to the field that is asked for.
 use mathlib.Core.Path.{_≡_, refl, sym, ap, _∙_, subst}
 use mathlib.Core.Bool.{Bool, true, false, not, _&&_}
 use mathlib.Core.List.{List}

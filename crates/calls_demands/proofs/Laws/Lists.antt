@@ -10,7 +10,7 @@ use lib.Seq.{getD-drop, getD-take}
 use Rattle.numbers_definitions.specs.Bytes.{leAt, bytes, part}
 use Rattle.numbers_definitions.proofs.Laws.Bytes.{Bytes, bytes-leAt, le-lt}
 
--- two numbers are equal, or not
+-- two numbers are equal or not equal
 pub equal : (i n : ℕ) → (i ≡ n) ⊎ (i ≡ n → ⊥)
 equal i n = go (decLt i n) (decLt n i)
   where
@@ -19,7 +19,7 @@ equal i n = go (decLt i n) (decLt n i)
     go (no g) (yes h) = inr (λ e. omega arith)
     go (no g) (no h) = inl (omega arith)
 
--- where each number below n has a property or not, one of them has it, or none
+-- if each number below n either has a property or does not have it, then one of them has it or none has it
 pub search-below : (P : ℕ → Type 0) (n : ℕ) → ((i : ℕ) → i < n → P i ⊎ (P i → ⊥)) → ((i : ℕ) × P i) ⊎ ((i : ℕ) → i < n → P i → ⊥)
 search-below P zero d = inr (λ i l p. omega arith)
 search-below P (suc n) d = go (search-below P n (λ i l. d i (omega arith))) (d n (omega arith))

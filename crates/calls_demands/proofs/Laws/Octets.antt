@@ -1,4 +1,4 @@
--- Calls on bytes leave bytes: our two calls meet all that is said of each by itself.
+-- Calls on bytes leave bytes. So our two calls meet all that is said of each call by itself.
 use mathlib.Core.Path.{_≡_, refl, subst}
 use mathlib.Core.Bool.{Bool, true, false, not, cond}
 use mathlib.Core.List.{List, [], _∷_, _++_}
@@ -175,7 +175,7 @@ rollback-bytes f b =
     either LeavesBytes (not (sound (f .journal) (length (f .image)))) _ _ b
     (either LeavesBytes (not (lengthAllowed (length (f .image)))) _ _ b (either LeavesBytes (eqb (count (f .journal)) 0) _ _ b (bytes-rolled-back f b)))
 
--- so that there is a fitter that meets this, and by `Only` no other
+-- so there is a fitter that meets this and, by `Only`, no other
 pub ours-meets : Meets ourInstall ourRollback
 ours-meets =
     record {

@@ -1,4 +1,4 @@
--- Two pairs of calls that meet the demands are one and the same on bytes: nothing is left open.
+-- Two pairs of calls that meet the demands are the same on bytes, so the demands leave nothing open.
 use mathlib.Core.Logic.{_⊎_, inl, inr, ⊎-elim}
 use mathlib.Core.Path.{_≡_, sym, ap, subst, _∙_}
 use mathlib.Core.List.{List}

@@ -1,4 +1,4 @@
--- Each test of checks 9 to 14 is the rule that it is named for.
+-- Each test of checks 9 to 14 is equivalent to the rule that it is named after.
 use mathlib.Core.Logic.{_⊎_, inl, inr, ⊎-elim}
 use mathlib.Core.Path.{_≡_, refl, sym, ap, _∙_, subst}
 use mathlib.Core.Bool.{Bool, true, false, not, cond, _&&_, _||_}
@@ -33,7 +33,7 @@ use Rattle.relocations_values.specs.declared.pairs.Pair.the-variants.{At, NotOn
 use Rattle.relocations_rules.specs.Rules.{isResolved, symbol, inTarget, symbolWell, isData, standsWell, asksWell, formWell, isOne, pairWell, reachesWell, distanceWell, boundaryWell}
 use Rattle.calls_demands.specs.Rules.{Within, Even, SharePlace, PaddingWell, ShapeWell, SymbolWell, FormWell, PairWell, Reachable, ReachWell, BoundaryWell}
 
--- 24 and 25 are no markers
+-- 24 and 25 are not markers
 needs-store : (d : Decision) → needsPair d ≡ true → isStore d ≡ true
 needs-store (Store c f form n) e = refl
 needs-store Marker e = never e

@@ -1,4 +1,4 @@
--- Each test of the judgement is the rule that it is named for.
+-- Each test of the judgement is equivalent to the rule that it is named after.
 use mathlib.Core.Logic.{_⊎_, inl, inr}
 use mathlib.Core.Path.{_≡_, refl, sym, ap, _∙_}
 use mathlib.Core.Bool.{Bool, true, false, not, cond, _&&_, _||_}

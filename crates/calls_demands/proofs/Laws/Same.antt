@@ -1,4 +1,4 @@
--- An image of bytes is known by what demand 2 says of it.
+-- An image of bytes is determined by what demand 2 says about it.
 use mathlib.Core.Logic.{_⊎_, inl, inr, ⊎-elim}
 use mathlib.Core.Path.{_≡_, refl, sym, ap, subst, _∙_}
 use mathlib.Core.Bool.{Bool, true, false}
@@ -64,7 +64,7 @@ module _ (object order : List ℕ) where
       go (no k) (yes l) = inl (record { is = record { there = there; counts = counts; entry = entry }; relocates = relocates; low = omega arith; high = l })
       go (no k) (no l) = inr (λ c. omega (arith, c .high))
 
-  -- one of a RELA section does, or none
+  -- one relocation of a RELA section touches it, or none does
   touched-or-not : (t b i : ℕ) → i < sectionCount object → ((j : ℕ) × Touches t b i j) ⊎ (((j : ℕ) × Touches t b i j) → ⊥)
   touched-or-not t b i there = go (countingRela object i) refl (equal (sectionAt object i .info) t)
     where
@@ -80,7 +80,7 @@ module _ (object order : List ℕ) where
 
   module _ (counts : OrderHeader) (before g h : List ℕ) (fit : Fitting object order counts (length before)) (lg : Laid object order before g) (lh : Laid object order before h)
       (bg : Bytes g) (bh : Bytes h) where
-    -- bytes of a section in either
+    -- bytes of a section in either image
     in-section : (t b : ℕ) → b < sectionAt object t .size → getD (sectionIn object order g t) b 0 ≡ getD (sectionIn object order h t) b 0
         → getD g (start object order t + b) 0 ≡ getD h (start object order t + b) 0
     in-section t b l e =

@@ -114,7 +114,7 @@ externals-are : (k : ℕ) → ValuedIfUndefined object order k
 unfolding order words bytes leAt le externalValue valueIn first
 externals-are k e = never e
 
--- it stands at the window's start, and keeps every rule of placing
+-- section 1 stands at the window's start, and keeps every rule of placing
 placed-are : (i : ℕ) → i < 4 → PlacedIfAllocated object order (length (files .image)) i
 unfolding object order files words bytes leAt le sectionAt allocated misplaced aligned unit endsInMemory endOf inWindow hasBytes loaded share apart everywhere first addresses tabulate placedAt valueIn entryAt
 placed-are zero h a = never a
@@ -152,7 +152,7 @@ boundary-is : OnBoundary object order 0
 unfolding object order words bytes leAt le sum relocationsIn locationOf countingRela isAllocated sectionAt allocated siteAt relocationAt decision table lookup among first addresses tabulate placedAt valueIn entryAt
 boundary-is = boundary-well object (site object order 0) (entryOf object order 0) refl
 
--- its four bytes are all that is laid
+-- the section's four bytes are all that is laid
 only-laid : (t b : ℕ) → Covers object order t b → b < 4
 unfolding object order words bytes leAt le sectionAt allocated loaded hasBytes addresses tabulate placedAt valueIn entryAt first
 only-laid zero b c = never (c .loaded)
@@ -172,7 +172,7 @@ room-is = record { entry-free = λ e. omega (arith, e); bytes-free = λ s is. go
 only-one : (P : ℕ → Type 0) → P 0 → (k : ℕ) → k < relocationCount object → P k
 only-one P p k h = let zero-th : k ≡ 0 = omega (arith, relocations-are) in subst P (sym zero-th) p
 
--- every rule holds, so that there is something that demand 2 asks for
+-- every rule holds, so demand 2 does ask for something
 pub keeps-all : Rules object order files
 keeps-all =
     record {

@@ -1,4 +1,4 @@
--- What an install answers is what the table says: done where every rule holds, else the first broken one.
+-- What an install answers is what the table says: done if every rule holds, otherwise the first broken rule.
 use mathlib.Core.Logic.{inl, inr}
 use mathlib.Core.Path.{_≡_, refl, sym, subst}
 use mathlib.Core.Bool.{Bool, true, false, not, cond, _&&_}
@@ -69,7 +69,7 @@ module _ (object order : List ℕ) where
       (rule 13 (Reaches object order)
       (rule 14 (OnBoundary object order) nil)))))
 
-  -- what a finding says of relocation k
+  -- what a finding says about relocation k
   abbrev Means : ℕ → Finding → Type 0
   Means k Kept = HoldAt line k
   Means k BadShape = BrokenAt line (says 9 k)
@@ -163,14 +163,14 @@ module _ (object order : List ℕ) where
 -- ---- the other checks, each before any that follow, which may count on it
 
 module _ (f : Files) (tail : Checks) (next : Verdict) where
-  -- with place 0 alone
+  -- a check with place 0 alone
   alone : (n : ℕ) (R : Type 0) (b : Bool) → (b ≡ true → Told tail (settle f next .answer)) → (b ≡ true → R) → (b ≡ false → R → ⊥)
       → Told (one n R tail) (settle f (cond b next (refused (says n 0))) .answer)
   unfolding settle
   alone n R true t holds breaks = later 1 (rule n (λ _. R) nil) tail (settle f next .answer) (at-once n (holds refl)) (t refl)
   alone n R false t holds breaks = broken-once n tail (breaks refl)
 
-  -- at the lowest place
+  -- a check that names the lowest place where it is broken
   at-lowest : (m n : ℕ) (R : ℕ → Type 0) (p : ℕ → Bool) → (lowest p m ≡ Nowhere → Told tail (settle f next .answer))
       → ((k : ℕ) → p k ≡ false → R k) → ((k : ℕ) → p k ≡ true → R k → ⊥)
       → Told (each m n R tail) (settle f (afterFault n (lowest p m) next) .answer)
@@ -288,7 +288,7 @@ module _ (object order : List ℕ) (f : Files) where
   abbrev verdict3 : Verdict
   verdict3 = cond (windowAllowed (addressWidth object) (base order) len) verdict4 (refused (says 3 0))
 
-  -- each check, where those before it pass
+  -- each check, given that those before it pass
   told15 : Fitting object order (orderHeaderOf order) len → Told checks15 (settle f (plan (planOf object order)) .answer)
   unfolding settle
   told15 fit = go (noRoom (count (f .journal)) (held (f .journal)) (spanOf (planOf object order) .size) (length (f .journal))) refl

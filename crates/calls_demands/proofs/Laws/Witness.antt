@@ -113,7 +113,7 @@ order₁ = orderWith 0x20000000
 abbrev pub order₂ : List ℕ
 order₂ = orderWith 0x20000020
 
--- an image of 52 bytes, and a journal with just the room for both spans
+-- an image of 52 bytes, and a journal with exactly enough room for both spans
 unfoldable pub files : Files
 files = record { image = replicate 52 0xA5; journal = replicate 192 0 }
 
@@ -262,7 +262,7 @@ start-is = record { allowed = omega arith; sound = journal-is; none = refl }
 
 -- ---- the history of both installs, and of a taking-back after them
 
--- the two, as the history has them
+-- the two installs, as they stand in the history
 stands₁ : Standing
 stands₁ = record { object = object; order = order₁; pieces = planOf object order₁ }
 
@@ -334,14 +334,14 @@ lays₂ = refl
 pub record Says (code value : List ℕ) (apart near total : ℕ) : Type 0 where
   -- the two halves of the pair add up to the distance of the data + 0x12345FE0 from the code's start
   pub pair : residue 32 (signed 32 (read formatU (leAt 4 code 0)) +ℤ signed 12 (read formatI (leAt 4 code 4))) ≡ apart
-  -- those of the call to the function's distance
+  -- the two halves of the call add up to the function's distance
   pub call : residue 32 (signed 32 (read formatU (leAt 8 code 8)) +ℤ signed 12 (read formatI (leAt 8 code 8 / 2 ^ 32))) ≡ near
   -- the branch goes back to the code's start
   pub branch : signed 13 (read formatB (leAt 4 code 16)) ≡ negℤ (pos 16)
-  -- the data's word is what the object has there, and the data's start, less the code's
+  -- the data's word is what the object has there, plus the data's start, minus the code's start
   pub stack : read (layout (Data W32)) (leAt 4 value 0) ≡ total
 
--- where a pair is
+-- the number of the pair
 abbrev place : Pair → ℕ
 place (At k) = k
 place NotOne = 0
@@ -427,7 +427,7 @@ module _ (installs : InstallCall) (rollsBack : RollbackCall) (p : Promised insta
   done₂ : installs object order₂ files₁ .answer ≡ done
   done₂ = p .each .demand-2 .holds-done object order₂ files₁ then₂
 
-  -- a taking-back is done where some stand
+  -- a taking-back is done if any fit stands
   done₃ : rollsBack files₂ .answer ≡ done
   unfolding run calling
   done₃ =
@@ -465,6 +465,6 @@ module _ (installs : InstallCall) (rollsBack : RollbackCall) (p : Promised insta
         image-first = image-is₁;
       }
 
--- and ours do
+-- and our two calls do so
 pub ours-witnessed : Witnessed ourInstall ourRollback
 ours-witnessed = witnessed ourInstall ourRollback ours-keep

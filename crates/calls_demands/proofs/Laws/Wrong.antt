@@ -1,4 +1,4 @@
--- Fitters that the demands shut out, each by a sentence of them.
+-- Fitters that the demands exclude, each by one of their sentences.
 use mathlib.Core.Logic.{inl, inr}
 use mathlib.Core.Path.{_≡_, refl, sym, ap, _∙_}
 use mathlib.Core.List.{List, [], _∷_, _++_}
@@ -56,7 +56,7 @@ module _ (installs : InstallCall) (d : Demand2 installs) where
   pub refuses-everything : ((o r : List ℕ) (f : Files) → installs o r f .answer ≡ done → ⊥) → ⊥
   refuses-everything wrong = wrong object order files is-done
 
-  -- one with a fixed number and place: the same sentence
+  -- one that always gives the same number and place: the same sentence
   pub one-answer : (a : Answer) → ((o r : List ℕ) (f : Files) → installs o r f .answer ≡ a) → ⊥
   one-answer a same =
       let empty = d .done-holds [] order files (same [] order files ∙ sym (same object order files) ∙ is-done) in
@@ -114,11 +114,11 @@ missing =
     first-match zero h = refl
     first-match (suc i) h = absurd (omega arith)
 
--- one that takes a missing address as zero, or gives no place: "otherwise the first broken rule is named"
+-- one that treats a missing address as zero, or gives no place: "otherwise the first broken rule is named"
 pub names-the-section : (installs : InstallCall) → Demand2 installs → installs object bare files .answer ≡ says 6 1
 names-the-section installs d = d .first-refused object bare files (says 6 1) missing
 
--- one that gives the number alone: the same sentence
+-- one that gives only the number: the same sentence
 pub gives-no-place : (installs : InstallCall) → Demand2 installs → ((o r : List ℕ) (f : Files) → installs o r f .answer .place ≡ 0) → ⊥
 gives-no-place installs d wrong = omega (arith, ap (λ a. a .place) (names-the-section installs d), wrong object bare files)
 
@@ -139,7 +139,7 @@ start-is : Start files
 unfolding files leAt le lengthAllowed
 start-is = record { allowed = omega arith; sound = journal-is; none = refl }
 
--- the install, as the history has it
+-- the install, as it stands in the history
 stands : Standing
 stands = record { object = object; order = order; pieces = planOf object order }
 
@@ -151,7 +151,7 @@ stood =
     let left : Done object order files = done-leaves object order files (demand-2 .holds-done object order files keeps-all) in
     rw (left .verdict-is, left .room-is)
 
--- each of the four laid bytes is another than the starting image's
+-- each of the four laid bytes differs from that of the starting image
 differs : (b : ℕ) → b < 4 → getD (files .image) b 0 ≡ getD (overwritten (files .image) (planOf object order)) b 0 → ⊥
 unfolding object order files words bytes le leAt part sectionAt allocated loaded hasBytes addresses tabulate placedAt valueIn entryAt first read put overwritten pieces planOf relocated relaOf countingRela isAllocated siteAt after applied sumAt relocationAt decision table lookup among bytesOf patched symbolValue residue signed
 differs zero h e = let z : _≡_ {A = ℕ} 0xA5 0x78 = e in omega arith

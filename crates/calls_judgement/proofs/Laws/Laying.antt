@@ -117,7 +117,7 @@ module _ (object order : List ℕ) (counts : OrderHeader) (len : ℕ) (f : Fitti
   pub ends-low : highest object (addresses order) (base order) (sectionCount object) < 4294967296
   ends-low = omega (arith, highest-inside object (addresses order) (base order) len (f .placeable .placing), length-short)
 
--- the one thing that the history asks of a judgement
+-- the only thing that the history needs from a judgement
 pub lays-inside : LaysInside judgement
 lays-inside object order len ps e =
     let f = plan-fits object order len ps e in

@@ -36,17 +36,17 @@ module _ (s : List ℕ) (at : ℕ) where
   unfolding isCall
   ends-inside e = leb-true (callEnd s at) (length s) (and-right (eqb (kindAt s at) FIT || eqb (kindAt s at) TAKE_BACK) (leb (callEnd s at) (length s)) e)
 
-  -- there is none that ends past them
+  -- there is no call that ends past the bytes
   pub none-past : length s < callEnd s at → isCall s at ≡ false
   unfolding isCall
   none-past h = rw (lt-leb (callEnd s at) (length s) h, and-false)
 
-  -- of a fit its end decides
+  -- for a fit, its end decides
   pub fit-decides : kindAt s at ≡ FIT → isCall s at ≡ leb (callEnd s at) (length s)
   unfolding isCall
   fit-decides e = rw (eq-eqb (kindAt s at) FIT e)
 
-  -- of a kind that is no fit's, inside the bytes, the kind decides
+  -- for any other kind that lies inside the bytes, the kind decides
   pub kind-decides : (kind : ℕ) → kindAt s at ≡ kind → (kind ≡ FIT → ⊥) → at + 4 ≤ length s → isCall s at ≡ eqb kind TAKE_BACK
   unfolding isCall
   kind-decides kind e n h =
@@ -77,7 +77,7 @@ module _ (s : List ℕ) where
   unfolding isList
   not-list-end n = rw (ne-eqb (callStart s (callCount s)) (length s) n, and-false)
 
-  -- of a list: each call is one, and they end where the bytes end
+  -- in a list, a call stands at every start, and the calls end where the bytes end
   pub list-call : isList s ≡ true → (i : ℕ) → i < callCount s → isCall s (callStart s i) ≡ true
   unfolding isList
   list-call e =

@@ -42,7 +42,7 @@ module _ (installs : InstallCall) (rollsBack : RollbackCall) (s : List ℕ) (f :
   abbrev step : Files → Call → Outcome Files
   step = calling installs rollsBack
 
-  -- the outcome of the next one
+  -- the outcome of the next call
   abbrev pub nextOutcome : ℕ → Outcome Files
   nextOutcome i = step (leftBy installs rollsBack s f i) (callAt s (callStart s i))
 

@@ -1,4 +1,4 @@
--- A list that was run: demand 3 holds of its answers and of what it left.
+-- For a list that was run, demand 3 holds for its answers and for what it left.
 use mathlib.Core.Path.{_≡_, refl, sym, ap, _∙_, subst}
 use mathlib.Core.Bool.{Bool, true, false, cond, _&&_}
 use mathlib.Core.List.{List, [], _∷_, _++_}
@@ -21,7 +21,7 @@ use Rattle.calls_demands.specs.Demands.{AnyList, AfterCalls, ourInstall, ourRol
 use Rattle.calls_demands.proofs.Laws.Promised.{ours-keep}
 use Rattle.fitter.specs.Replayed.{Demand3Of}
 
--- what `read_list` says decides
+-- what `read_list` says decides whether the bytes are a list
 pub malformed-is : (b : Bool) (n : ℕ) → cond b (Calls n) Malformed ≡ Malformed → b ≡ false
 malformed-is true n e =
     let z : _≡_ {A = ℕ} 0 1 = cc in
@@ -47,7 +47,7 @@ module _ (s room : List ℕ) (f : Files) (start : Start f) where
   got : List Answer
   got = answers (calling ourInstall ourRollback) f (callsOf s)
 
-  -- where it was run, by what the replay is
+  -- if it was run, by the definition of the replay
   run-holds : (b : Bool) → isList s && leb (callCount s) (length room) ≡ b → (a : List ℕ) (g : Files) → _≡_ {A = Replay} (record { ran = 1; answers = a; after = g })
       (cond b
       (record { ran = 1; answers = sets room 0 (codes (answers (calling ourInstall ourRollback) f (callsOf s))); after = run (calling ourInstall ourRollback) f (callsOf s) })

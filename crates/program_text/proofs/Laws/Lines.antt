@@ -18,7 +18,7 @@ use Rattle.program_text.specs.Lines.{Appended, decimalIn, decimal, line}
 
 -- ---- appended bytes
 
--- a store of bytes behind the first of a list
+-- bytes stored after the first part of a list
 pub appended : (before : List ℕ) (at : ℕ) (bytes : List ℕ) → at + length bytes ≤ length before
     → Appended before at bytes (at + length bytes) (sets before at bytes)
 appended before at bytes h =
@@ -29,7 +29,7 @@ appended before at bytes h =
 pub counts : (n : ℕ) (s : List ℕ) → n ≤ length s → Counts n s
 counts n s h = (h, sym (length-take-le n s h))
 
--- the same of what a copy left
+-- the same for what a copy left
 pub appended-read : {before : List ℕ} {at : ℕ} {bytes after : List ℕ} → at + length bytes ≤ length before → after ≡ sets before at (part bytes 0 (length bytes))
     → Counts (at + length bytes) after × Appended before at bytes (at + length bytes) after
 appended-read {before} {at} {bytes} {after} h e =
@@ -40,7 +40,7 @@ appended-read {before} {at} {bytes} {after} h e =
 pub two : {s₀ s₁ s₂ a b : List ℕ} {n r : ℕ} → Appended s₀ 0 a n s₁ → Appended s₁ n b r s₂ → take r s₂ ≡ a ++ b
 two {b = b} p q = q .text ∙ ap (λ (l : List ℕ). l ++ b) (p .text)
 
--- what is appended is equal to another text
+-- appended bytes may be replaced by an equal text
 pub appended-as : {before a b after : List ℕ} {at r : ℕ} → a ≡ b → Appended before at a r after → Appended before at b r after
 appended-as e p = rw (← e) p
 
@@ -73,7 +73,7 @@ fewest-most n k h f = go (leb k 20) refl
 
 -- ---- the line of an answer
 
--- four pieces, each behind the one before
+-- four pieces, each after the one before
 pub line-of : (number place : ℕ) {s₀ s₁ s₂ s₃ s₄ : List ℕ} {r₁ r₂ r₃ r₄ : ℕ}
     → Appended s₀ 0 (decimal number) r₁ s₁ → Appended s₁ r₁ (32 ∷ []) r₂ s₂
     → Appended s₂ r₂ (decimal place) r₃ s₃ → Appended s₃ r₃ (10 ∷ []) r₄ s₄

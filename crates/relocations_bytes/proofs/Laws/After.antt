@@ -1,4 +1,4 @@
--- One relocation changes the bytes that it touches, and no other.
+-- One relocation changes only the bytes that it touches.
 use mathlib.Core.Logic.{_⊎_, inl, inr, ⊎-elim}
 use mathlib.Core.Path.{_≡_, refl, sym, ap, _∙_}
 use mathlib.Core.Bool.{Bool, true, false, not, _&&_}
@@ -39,7 +39,7 @@ module _ (object order addresses : List ℕ) (x : Site) where
   length-after zero = refl
   length-after (suc j) = length-applied j (after object order addresses x j) ∙ length-after j
 
-  -- a number that ends before what relocation j touches, or begins after it
+  -- a number that ends before the bytes that relocation j touches, or begins after them, stays the same
   pub applied-other : (j n at : ℕ) (s : List ℕ) → (at + n ≤ offset object x j) ⊎ (end object x j ≤ at) → leAt n (applied object order addresses x j s) at ≡ leAt n s at
   applied-other j n at s away = go (decisionAt object x j) refl
     where

@@ -56,7 +56,7 @@ object type w addend =
 abbrev laid : ℕ → ℕ → ℕ → ℕ → ℤ
 laid type w a p = pos (leAt 8 (relocated (object type w a) [] (0 ∷ p ∷ []) 1) 0)
 
--- the number of the rule that it breaks, 0 where it breaks none
+-- the number of the first rule that it breaks, or 0 if it breaks none
 abbrev gives : ℕ → ℕ → ℕ → ℕ → ℤ
 gives type w a p = pos (number (findingOf (object type w a) [] (0 ∷ p ∷ []) 0))
 

@@ -39,7 +39,7 @@ use Rattle.relocations_bytes.specs.Wholes.{Halves}
 use Rattle.relocations_bytes.specs.Requires.{Checked}
 use Rattle.relocations_bytes.proofs.Laws.ReadBack.{read-back}
 
--- what is read of each, added up
+-- the two values that are read, added up
 pub add-up : (w : ℕ) (f g : Field) (b v d : ℕ) → d < 2 ^ w → extended w (read (layout f) b) ≡ highPart w d → signed 12 (read (layout g) v) ≡ low w d → AddUp w f b g v d
 add-up w f g b v d h p q = halves-whole w d _ _ h p q
 

@@ -1,4 +1,4 @@
--- The bytes of a relocation are known by what is read out of them.
+-- The bytes of a relocation are determined by what is read out of them.
 use mathlib.Core.Path.{_≡_, sym, ap, ap₂, _∙_}
 use mathlib.Core.Bool.{true, _&&_}
 use Prim.Native.Nat.{ℕ, _+_, _/_, _%_, _^_, _≤_, _<_}
@@ -26,11 +26,11 @@ use Rattle.relocations_bytes.specs.Promises.{Said}
 use Rattle.relocations_bytes.proofs.Laws.Said.{suits, store-suits}
 use Rattle.relocations_bytes.proofs.Laws.ReadBack.{radix}
 
--- a number of so many bits is known by what it spells
+-- a number of n bits is determined by its signed value
 signed-known : (n u v : ℕ) (z : ℤ) → u < 2 ^ n → v < 2 ^ n → signed n u ≡ z → signed n v ≡ z → u ≡ v
 signed-known n u v z hu hv e d = sym (residue-signed n u hu) ∙ ap (residue n) (e ∙ sym d) ∙ residue-signed n v hv
 
--- of a CALL: its two halves are known by their sum
+-- the two halves of a CALL are determined by their sum
 high-unit : (w : ℕ) → read formatU w % 4096 ≡ 0
 unfolding read
 high-unit w = omega arith
@@ -75,7 +75,7 @@ read-known w h Add f b v t p d z e x y = x ∙ sym y
 read-known w h Sub f b v t p d z e x y = x ∙ sym y
 read-known w h Set f b v t p d z e x y = x ∙ sym y
 
--- and so the bytes
+-- and so the bytes are determined too
 pub bytes-known : (w : ℕ) → 32 ≤ w → (kind : ℕ) (c : Calculation) (f : Field) (form : Form) (n : ℕ) → decision kind ≡ Store c f form n → (b v : ℕ) → b < 256 ^ n → v < 256 ^ n
     → (t p d : ℕ) (z : ℤ) → Said w c f b t p d z → Said w c f v t p d z → outside (layout f) b ≡ outside (layout f) v → b ≡ v
 bytes-known w h kind c f form n e b v hb hv t p d z x y o =

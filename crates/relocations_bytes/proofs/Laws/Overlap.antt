@@ -1,4 +1,4 @@
--- What the rule of overlap gives: two non-markers of a site lie apart, or stack.
+-- What the overlap rule gives: two non-markers of a site lie apart, or they stack.
 use mathlib.Core.Logic.{_⊎_, inl, inr, ⊎-elim}
 use mathlib.Core.Path.{_≡_, refl, sym, ap, _∙_}
 use mathlib.Core.Bool.{Bool, true, false, not, cond, _&&_, _||_}
@@ -84,7 +84,7 @@ same-stack s t c e f g a b m n p q some same =
 
 -- ---- the relocations of a site that keep check 9
 
--- both are of a stack, at one place
+-- both belong to a stack, at the same place
 pub record Shares (object : List ℕ) (x : Site) (i j : ℕ) : Type 0 where
   pub place : offset object x i ≡ offset object x j
   pub some : 0 < stackWidth (decisionAt object x i)
@@ -102,7 +102,7 @@ shares object x i j e =
       width = eqb-true _ _ (and-right (a && b) c e);
     }
 
--- the end of one that shares a place is the other's
+-- two relocations that share their place have the same end
 same-end : (object : List ℕ) (x : Site) (i j : ℕ) → Shares object x i j → isStore (decisionAt object x i) ≡ true → isStore (decisionAt object x j) ≡ true → end object x i ≡ end object x j
 same-end object x i j s p q = go (decisionAt object x i) refl (decisionAt object x j) refl p q
   where
@@ -155,7 +155,7 @@ module _ (object : List ℕ) (x : Site) (n : ℕ) (kept : (j : ℕ) → j < n �
   abbrev pub Apart : ℕ → ℕ → Type 0
   Apart i j = (end object x i ≤ offset object x j) ⊎ Shares object x i j
 
-  -- against the previous non-marker
+  -- compared with the previous non-marker
   direct : (j k : ℕ) → j < n → isStore (decisionAt object x j) ≡ true → previous object x j ≡ Entry k → Apart k j
   unfolding noOverlap
   direct j k l s e =
@@ -163,7 +163,7 @@ module _ (object : List ℕ) (x : Site) (n : ℕ) (kept : (j : ℕ) → j < n �
       let here : leb (end object x k) (offset object x j) || sharesPlace object x k j ≡ true = rw (s, e) at clear in
       ⊎-elim (λ a. inl (leb-true _ _ a)) (λ b. inr (shares object x k j b)) (one-of-two _ _ here)
 
-  -- the theorem: rule 9 compares with the previous one alone, and that suffices for all
+  -- the theorem: rule 9 compares only with the previous non-marker, and that is enough for all earlier ones
   pub apart : (b i j : ℕ) → j < b → i < j → j < n → isStore (decisionAt object x i) ≡ true → isStore (decisionAt object x j) ≡ true → Apart i j
   apart zero i j h l m s t = absurd (omega arith)
   apart (suc b) i j h l m s t =

@@ -28,7 +28,7 @@ narrow-sum j k v y z e = sym (plus-residue j k v y) ∙ ap (plus k v) e ∙ plus
 narrow-difference : (j k v : ℕ) (y z : ℤ) → residue (j + k) y ≡ residue (j + k) z → residue k (pos v -ℤ y) ≡ residue k (pos v -ℤ z)
 narrow-difference j k v y z e = sym (minus-residue j k v y) ∙ ap (minus k v) e ∙ minus-residue j k v z
 
--- how many bits of 64 a field's value leaves
+-- how many of 64 bits a field's value leaves unused
 abbrev rest : Field → ℕ
 rest U = 32
 rest I = 52
@@ -59,7 +59,7 @@ whole (Data W16) = refl
 whole (Data W32) = refl
 whole (Data W64) = refl
 
--- addresses of w bits, which 64 hold
+-- addresses of w bits, where w is at most 64
 module _ (w : ℕ) (h : w ≤ 64) where
   cut : (y z : ℤ) → residue 64 y ≡ residue 64 z → residue w y ≡ residue w z
   cut y z q = sym (narrowed 64 w y h) ∙ ap (λ n. n % 2 ^ w) q ∙ narrowed 64 w z h

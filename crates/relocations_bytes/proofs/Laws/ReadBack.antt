@@ -75,7 +75,7 @@ outside-patched : (w : ℕ) (c : Calculation) (f : Field) (b : ℕ) (x : ℤ) (p
 unfolding patched
 outside-patched w c f b x p d = outside-put (layout f) b _
 
--- a decision of no stack has no width, and one of a stack has one
+-- a decision that belongs to no stack has width 0, and one that belongs to a stack has a width above 0
 no-width : (c : Calculation) (f : Field) (form : Form) (n : ℕ) → stacks c ≡ false → stackWidth (Store c f form n) ≡ 0
 no-width c f form n e = rw e
 
@@ -94,7 +94,7 @@ data-some Cb e = never e
 data-some Cj e = never e
 data-some Call e = never e
 
--- one decision says two things of its parts
+-- what two facts about a decision say about its parts
 reaches-of : (w : ℕ) (d : Decision) (c : Calculation) (f : Field) (form : Form) (n t p : ℕ) → d ≡ Store c f form n → distanceWell w d t p ≡ true → reachesWell w c f t p ≡ true
 reaches-of w d c f form n t p e h = sym (ap (λ d. distanceWell w d t p) e) ∙ h
 
@@ -149,7 +149,7 @@ module _ (object order addresses : List ℕ) (x : Site) (k : Checked object orde
               after-other : (m j : ℕ) → (m < j → ⊥) → (m ≡ j → ⊥) → j < m
               after-other m j a b = omega arith
 
-  -- what stays apart changes nothing here
+  -- a relocation that lies apart changes nothing here
   away-same : (m : ℕ) → Away m → leAt n (now (suc m)) at ≡ leAt n (now m) at
   unfolding after
   away-same m a = applied-other object order addresses x m n at (now m) a
@@ -158,7 +158,7 @@ module _ (object order addresses : List ℕ) (x : Site) (k : Checked object orde
   unfolding after
   marker-same m s = ap (λ l. leAt n l at) (applied-marker object order addresses x m (now m) s)
 
-  -- what a relocation that shares the place stores, read at once
+  -- what a relocation that shares the place stores, read right after it
   stored-here : (m : ℕ) (b : Calculation) (g : Form) → decisionAt object x m ≡ Store b f g n → offset object x m ≡ at
       → leAt n (now (suc m)) at ≡ patched w b f (leAt n (now m) at) (sumAt object order addresses x m) (P object x m) (pairDistance object order addresses x m)
   unfolding after
@@ -245,7 +245,7 @@ module _ (object order addresses : List ℕ) (x : Site) (k : Checked object orde
       value : read (layout f) (leAt n (now m) at) ≡ residue (valueBits f) (stackAt object order addresses x at v₀ m)
       rest : outside (layout f) (leAt n (now m) at) ≡ outside (layout f) (leAt n (found object x) at)
 
-    -- where nothing is stored here, the stack's number stays
+    -- if nothing is stored here, the stack's number stays the same
     unchanged : (m : ℕ) → leAt n (now (suc m)) at ≡ leAt n (now m) at → stackAt object order addresses x at v₀ (suc m) ≡ stackAt object order addresses x at v₀ m → Holds m → Holds (suc m)
     unchanged m same stays held =
         record {
@@ -286,7 +286,7 @@ module _ (object order addresses : List ℕ) (x : Site) (k : Checked object orde
         go Align q t = never t
         go Refused q t = never t
 
-    -- one more of the stack
+    -- one more relocation of the stack
     taken : (m : ℕ) (b : Calculation) (y : Form) → decisionAt object x m ≡ Store b f y n → offset object x m ≡ at → stacks b ≡ true → Holds m → Holds (suc m)
     unfolding stackAt
     taken m b y q o t held =

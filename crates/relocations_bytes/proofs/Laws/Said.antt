@@ -1,4 +1,4 @@
--- What a relocation stored is what document 01's table says, read by the manual's fields.
+-- What a relocation has stored, read by the manual's fields, is what document 01's table says.
 use mathlib.Core.Path.{_≡_, refl, sym, ap, _∙_}
 use mathlib.Core.Bool.{Bool, true, false, _&&_}
 use Prim.Native.Nat.{ℕ, _+_, _*_, _/_, _%_, _^_, _≤_, _<_}
@@ -57,7 +57,7 @@ isCall Cj = false
 isCall Call = true
 isCall (Data width) = false
 
--- a field whose value has so many bits, and is a multiple of a unit
+-- a field whose value has n bits, and is a multiple of u
 abbrev hasBits : ℕ → ℕ → Field → Bool
 hasBits u n f = eqb (unit f) u && eqb (valueBits f) n
 
@@ -99,7 +99,7 @@ Near w Add t p = Unit {0}
 Near w Sub t p = Unit {0}
 Near w Set t p = Unit {0}
 
--- at 32 bits all are, and no rule asks for it
+-- at 32 bits every number is near enough, so no rule asks for it
 pub near-32 : (c : Calculation) (t p : ℕ) → Near 32 c t p
 near-32 BothHalves t p = high-spelt-32 (minus 32 t p)
 near-32 HighPcRelative t p = high-spelt-32 (minus 32 t p)
@@ -124,7 +124,7 @@ module _ (f : Field) (b : ℕ) where
       let whole : v % unit f ≡ 0 = ap (λ k. v % k) unit-is ∙ m in
       reads-back f b v whole ∙ ap (λ k. v % 2 ^ k) bits-are
 
-  -- any value, of a field of units
+  -- any value, if the field's unit is 1
   plain-back : (n v : ℕ) → hasBits 1 n f ≡ true → read (layout f) (put (layout f) b v) ≡ v % 2 ^ valueBits f
   plain-back n v e =
       let unit-is : unit f ≡ 1 = eqb-true _ _ (and-left (eqb (unit f) 1) (eqb (valueBits f) n) e) in
@@ -154,7 +154,7 @@ jump-back (Data width) w b z h e r = never e
 
 -- ---- the pair of a CALL
 
--- a word of 32 bits, k below bit 12 and h above, below another one
+-- a number whose low 32 bits are a word with k in its low 12 bits and h above them, and whose upper bits are another word n
 high-digit : (k h n : ℕ) → k < 4096 → h < 1048576 → (k + 4096 * h + 4294967296 * n) / 4096 % 1048576 ≡ h
 high-digit k h n p q = omega arith
 

@@ -48,7 +48,7 @@ use Rattle.relocations_bytes.specs.Requires.{Checked}
 use Rattle.relocations_bytes.proofs.Laws.Patches.{same-patch}
 
 module _ (object order addresses : List ℕ) (x : Site) (j : ℕ) (r : Relocation) (v : SymbolValue) (re : r ≡ entry object x j) (ve : v ≡ symbolValue object order addresses (r .symbol)) where
-  -- by the relocation r and the value v that were read
+  -- stated for the relocation r and the value v that the code has read
   same-value : v ≡ valueAt object order addresses x j
   same-value = ve ∙ ap (λ e. symbolValue object order addresses (e .symbol)) re
 
@@ -69,13 +69,13 @@ module _ (object order addresses : List ℕ) (x : Site) (j : ℕ) (r : Relocatio
       ∙ ap (λ v. residue w (pos (T w (S v) (signed 64 (r .addend))) -ℤ pos m)) same-value
       ∙ ap (λ e. residue w (pos (T w (S (valueAt object order addresses x j)) (signed 64 (e .addend))) -ℤ pos (x .address .0 + e .offset .0))) re
 
--- the symbol of relocation j, by the table h and the relocation r that were read
+-- the symbol of relocation j, stated for the table h and the relocation r that the code has read
 pub symbol-read : (object : List ℕ) (x : Site) (j : ℕ) (r : Relocation) (h : Section) (y : Symbol) → r ≡ entry object x j → h ≡ sectionAt object (symbolTable object)
     → y ≡ symbolAt object h (r .symbol) → y ≡ symbol object x j
 symbol-read object x j r h y re he ye =
     ye ∙ ap (λ h. symbolAt object h (r .symbol)) he ∙ ap (λ r. symbolAt object (sectionAt object (symbolTable object)) (r .symbol)) re
 
--- P of a store, which adding modulo 2^w gives
+-- P of a store; addition modulo 2^w gives it
 pub place-read : (object : List ℕ) (x : Site) (j : ℕ) (r : Relocation) (p : ℕ) → r ≡ entry object x j → p ≡ plus (addressWidth object) (x .address .0) (r .offset .0) → SoundSite object x
     → end object x j ≤ x .target .size → isStore (decisionAt object x j) ≡ true → p ≡ P object x j
 unfolding plus
@@ -101,7 +101,8 @@ module _ (object order addresses : List ℕ) (x : Site) (j : ℕ) where
       go Align q = refl
       go Refused q = refl
 
-  -- by what the code works out: b the bytes as one number, y S + A in two's complement, p P, d the pair's distance, u what is stored
+  -- Stated for what the code works out: b is the bytes as one number, y is S + A in two's complement, p is P, d is the pair's distance, and u
+  -- is what is stored.
   pub applied-read : (c : Calculation) (f : Field) (form : Form) (n : ℕ) (s : List ℕ) (b y p d u at : ℕ) → decisionAt object x j ≡ Store c f form n
       → at ≡ offset object x j → b ≡ leAt n s at → y < 2 ^ 64 → y ≡ residue 64 (sumAt object order addresses x j) → p ≡ P object x j
       → (takesPair c ≡ true → d ≡ pairDistance object order addresses x j) → u ≡ patched (addressWidth object) c f b (signed 64 y) p d
@@ -148,7 +149,7 @@ pub relocated-none : (object order addresses : List ℕ) (t : ℕ) → sectionCo
 unfolding relocated
 relocated-none object order addresses t h = rw (le-ltb _ _ h)
 
--- what its site finds in the object is the section itself
+-- the bytes that its site finds in the object are those of the section
 pub found-target : (object addresses : List ℕ) (t : ℕ) → relaOf object t < sectionCount object → found object (siteAt object addresses (relaOf object t)) ≡ bytesOf object (sectionAt object t)
 unfolding siteAt
 found-target object addresses t h = ap (λ i. bytesOf object (sectionAt object i)) (rela-found object t h .1)

@@ -23,7 +23,7 @@ use Rattle.relocations_decisions.specs.Widths.{isDataField}
 use Rattle.relocations_bytes.specs.Patches.{calculated, patched}
 use Rattle.relocations_bytes.specs.Promises.{stackStep}
 
--- a number reduced in between is reduced in the end
+-- reducing in between does not change the reduced result
 residue-again : (w : ℕ) (z : ℤ) → residue w (pos (residue w z)) ≡ residue w z
 unfolding residue
 residue-again w z = mod-eq-of-lt (residue-lt w z)
@@ -37,7 +37,7 @@ difference-again w z x =
     mod-unique (2 ^ w) (residue w (pos (residue w z) -ℤ x)) (residue w (z -ℤ x)) (residue w x) (residue-lt w (pos (residue w z) -ℤ x)) (residue-lt w (z -ℤ x))
     (residue-sub w (pos (residue w z)) x ∙ residue-again w z ∙ sym (residue-sub w z x))
 
--- one more of a stack
+-- one more relocation of a stack
 step-again : (w : ℕ) (c : Calculation) (bits v : ℕ) (z x : ℤ) (p d : ℕ) → stacks c ≡ true → v ≡ residue bits z → calculated w c bits v x p d ≡ residue bits (stackStep c z x)
 step-again w Add bits v z x p d s e = ap (λ n. residue bits (pos n +ℤ x)) e ∙ sum-again bits z x
 step-again w Sub bits v z x p d s e = ap (λ n. residue bits (pos n -ℤ x)) e ∙ difference-again bits z x
@@ -51,7 +51,7 @@ step-again w HighAbsolute bits v z x p d s e = never s
 step-again w LowAbsolute bits v z x p d s e = never s
 step-again w LowOfPair bits v z x p d s e = never s
 
--- a data field's value has no more than its bits
+-- the value of a data field has at most as many bits as the field
 data-lt : (n : Width) (w : ℕ) → read (dataLayout n) w < 2 ^ bitsOf n
 data-lt W6 w = rw (read-six w) (mod-lt w (pow-pos 6))
 data-lt W8 w = rw (read-whole 7 w) (mod-lt w (pow-pos 8))
@@ -81,7 +81,7 @@ data-back Cb w v e l = never e
 data-back Cj w v e l = never e
 data-back Call w v e l = never e
 
--- a field that holds a whole number modulo its width holds the next one after the next of the stack
+-- if a field holds the stack's number modulo 2 to the power of its width, it still does after the next relocation of the stack
 pub stacked : (w : ℕ) (c : Calculation) (f : Field) (b : ℕ) (z x : ℤ) (p d : ℕ) → stacks c ≡ true → isDataField f ≡ true → read (layout f) b ≡ residue (valueBits f) z
     → read (layout f) (patched w c f b x p d) ≡ residue (valueBits f) (stackStep c z x)
 unfolding patched

@@ -1,4 +1,4 @@
--- What every line of the table of relocation types keeps.
+-- What holds for every line of the table of relocation types.
 use mathlib.Core.Path.{_≡_, refl, sym, ap, _∙_}
 use mathlib.Core.Bool.{Bool, true, false, cond, _&&_, _||_}
 use mathlib.Core.List.{List, [], _∷_}
@@ -20,7 +20,7 @@ use Rattle.relocations_types.specs.Types.{Line, table, among, lookup, decision}
 use Rattle.relocations_decisions.specs.Effects.{touched}
 use Rattle.relocations_decisions.specs.Widths.{onData}
 
--- a test that holds on each line, and of a refusal, holds of every decision
+-- a test that holds for each line and for a refusal holds for every decision
 unfoldable pub holds : (Decision → Bool) → List Line → Bool
 holds p [] = p Refused
 holds p (l ∷ ls) = p (l .decisionAt) && holds p ls
@@ -58,7 +58,7 @@ fieldBytes Cj = 2
 fieldBytes Call = 8
 fieldBytes (Data width) = dataBytes width
 
--- a store touches the bytes of its field, which are 1, 2, 4 or 8, and ADD, SUB and SET are on data
+-- a store touches the bytes of its field, which are 1, 2, 4 or 8, and ADD, SUB and SET have data fields only
 abbrev pub wellStored : Decision → Bool
 wellStored (Store c f form n) = isWidth n && eqb n (fieldBytes f) && onData c f
 wellStored Marker = true

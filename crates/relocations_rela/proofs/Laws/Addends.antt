@@ -19,7 +19,7 @@ use Rattle.relocations_rela.specs.declared.sites.Site.{Site}
 use Rattle.relocations_rela.specs.Sites.{A}
 use Rattle.relocations_rela.specs.Shape.{addendWell}
 
--- the lower half of the numbers of w bits are themselves, and the others negative
+-- a number in the lower half of the numbers of w bits keeps its value, and the others are negative
 pub signed-low : (w a : ℕ) → 2 * a < 2 ^ w → signed w a ≡ pos a
 unfolding signed
 signed-low w a h = rw (lt-ltb (2 * a) (2 ^ w) h)
@@ -28,7 +28,7 @@ pub signed-high : (w a : ℕ) → 2 ^ w ≤ 2 * a → a < 2 ^ w → signed w a �
 unfolding signed
 signed-high w a h b = rw (le-ltb (2 * a) (2 ^ w) h) (sub-back a (2 ^ w) b)
 
--- A is the signed word that stands third in the relocation's entry: the code keeps it in 64 bits, and that loses nothing
+-- A is the third word of the relocation's entry, as a signed number. The code keeps it in 64 bits, and that loses nothing.
 wider : (u : ℕ) → u < 2 ^ 32 → signed 64 (residue 64 (signed 32 u)) ≡ signed 32 u
 wider u h = go (decLt (2 * u) (2 ^ 32))
   where

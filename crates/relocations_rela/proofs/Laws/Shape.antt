@@ -17,7 +17,7 @@ use Rattle.relocations_rela.specs.Shape.{end, neverFalls, staysInside, p
 use Rattle.relocations_rela.proofs.Laws.Addends.{padding-refused}
 
 module _ (object : List ℕ) (x : Site) where
-  -- the previous non-marker comes before
+  -- the previous non-marker has a lower number
   pub previous-below : (j k : ℕ) → previous object x j ≡ Entry k → k < j
   unfolding previous
   previous-below zero k e =
@@ -31,7 +31,7 @@ module _ (object : List ℕ) (x : Site) where
           omega arith
       go false q rest = omega (arith, rest q)
 
-  -- the offset of the relocation before it, by the number of this one
+  -- the rule with the relocation before it written as j - 1
   pub never-falls-after : (j : ℕ) → (j ≡ 0 → ⊥) → neverFalls object x j ≡ leb (offset object x (j - 1)) (offset object x j)
   unfolding neverFalls
   never-falls-after zero h = absurd (h refl)
@@ -66,7 +66,7 @@ module _ (object : List ℕ) (x : Site) (j : ℕ) (kept : shapeWell object x j �
   unfolding shapeWell
   shape-addend = search (and-left, and-right)
 
--- ALIGN's addend is small
+-- the addend of an ALIGN is at most 4,094
 pub padded : (object : List ℕ) (x : Site) (j : ℕ) → shapeWell object x j ≡ true → decisionAt object x j ≡ Align → entry object x j .addend < 2 ^ 64 → entry object x j .addend ≤ 4094
 padded object x j kept e b = go (decLt 4094 (entry object x j .addend))
   where

@@ -25,7 +25,7 @@ pub found-length : (object : List ℕ) (x : Site) → SoundSite object x → len
 unfolding bytesOf
 found-length object x f = length-part object (x .target .offset .0) (x .target .size) (f .bytes)
 
--- a store that stays inside has its bytes there
+-- the bytes of a store that stays inside are there
 pub store-inside : (object : List ℕ) (x : Site) (j : ℕ) → SoundSite object x → offset object x j + touched (decisionAt object x j) ≤ x .target .size
     → (n : ℕ) → touched (decisionAt object x j) ≡ n → offset object x j + n ≤ length (found object x)
 store-inside object x j f inside n e = omega (arith, found-length object x f)
@@ -54,7 +54,7 @@ module _ (object addresses : List ℕ) (f : SoundObject object) (i : ℕ) (h : i
         placed = p .ends t (rela .target-there) (loaded-allocated t (rela .target-loaded));
       }
 
-  -- its relocations are those that are counted
+  -- it has as many relocations as are counted for its section
   pub count-is : count (siteAt object addresses i) ≡ relocationsIn object i
   unfolding siteAt relocationsIn
   count-is = rw e

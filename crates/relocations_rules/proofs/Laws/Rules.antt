@@ -64,7 +64,7 @@ pair-symbol object x j v e n = go (decisionAt object x j) refl (isResolved v) e 
 
 -- ---- check 11
 
--- of a store, by the bytes l and the relocation r that were read
+-- for a store, stated for the bytes l and the relocation r that the code has read
 pub form-read : (object : List ℕ) (x : Site) (j : ℕ) (c : Calculation) (f : Field) (form : Form) (n : ℕ) (l : List ℕ) (r : Relocation) → decisionAt object x j ≡ Store c f form n
     → l ≡ found object x → r ≡ entry object x j → standsWell form (x .address .0 + r .offset .0) (leAt n l (r .offset .0)) ≡ formWell object x j
 unfolding formWell
@@ -75,7 +75,7 @@ form-read object x j c f form n l r e p q =
 
 -- ---- check 13
 
--- of a store, P is in memory, so that adding modulo 2^w gives it
+-- P of a store lies in memory, so addition modulo 2^w gives it
 pub place-below : (object : List ℕ) (x : Site) (j : ℕ) → SoundSite object x → end object x j ≤ x .target .size → isStore (decisionAt object x j) ≡ true → P object x j < 2 ^ addressWidth object
 place-below object x j f inside s = go (decisionAt object x j) refl s inside
   where
@@ -97,7 +97,7 @@ in-reach-is object x j t f inside = go (decisionAt object x j) refl
     go Align q = refl
     go Refused q = refl
 
--- by the relocation r that was read, and what was worked out from it
+-- stated for the relocation r that the code has read, and for what it has worked out from it
 pub reach-read : (object : List ℕ) (x : Site) (j : ℕ) (r : Relocation) (d : Decision) (v w : SymbolValue) (t p : ℕ) → SoundSite object x → end object x j ≤ x .target .size
     → r ≡ entry object x j → d ≡ decision (r .kind) → v ≡ w → t ≡ T (addressWidth object) (S v) (signed 64 (r .addend)) → p ≡ plus (addressWidth object) (x .address .0) (r .offset .0)
     → distanceWell (addressWidth object) d t p ≡ distanceWell (addressWidth object) (decisionAt object x j) (T (addressWidth object) (S w) (A object x j)) (P object x j)

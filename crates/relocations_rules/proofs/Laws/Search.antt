@@ -31,7 +31,7 @@ use Rattle.relocations_rules.specs.Search.{finding, findingOf, isBroken,
 -- ---- the number of an entry
 
 module _ (object : List ℕ) (i j : ℕ) (h : i < sectionCount object) (l : j < relocationsIn object i) where
-  -- it is counted
+  -- it is below the number of all relocations
   pub counted : relocationsBelow object i + j < relocationCount object
   unfolding sum
   counted = omega (arith, sum-mono (relocationsIn object) (suc i) (sectionCount object) h)
@@ -69,7 +69,7 @@ module _ (object order addresses : List ℕ) where
       let is : first (λ k. isBroken (findingOf object order addresses k)) n ≡ n = first-is _ n n (omega arith) all (λ h. absurd (omega arith)) in
       rw (is, le-ltb n n (omega arith))
 
-  -- where they pass, no relocation breaks a rule
+  -- if they pass, no relocation breaks a rule
   pub passed-kept : relocationCheck object order addresses ≡ Passed → (k : ℕ) → k < relocationCount object → findingOf object order addresses k ≡ Kept
   unfolding relocationCheck
   passed-kept e k h = kept (findingOf object order addresses k) (first-below p (relocationCount object) k (go (ltb (first p (relocationCount object)) (relocationCount object)) refl e))

@@ -1,4 +1,4 @@
--- Check 8 gives what the rules of relocations ask of a placement.
+-- Check 8 ensures what the rules of relocations need from a placement.
 use mathlib.Core.Path.{_≡_}
 use mathlib.Core.Bool.{Bool, true, _&&_}
 use mathlib.Core.List.{List}

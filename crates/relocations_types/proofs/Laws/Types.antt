@@ -45,7 +45,7 @@ covered t (x ∷ xs) ys c n = go (eqb t x) refl (covered t xs ys (and-right (amo
 
 -- ---- the arms of a match on a number
 
--- a number that is in none of the arms' lists, the last arm's first
+-- a number that is in none of the arms' lists, which come with the last arm first
 abbrev pub Passed : List (List ℕ) → ℕ → Type 0
 Passed [] t = Unit {0}
 Passed (ks ∷ kss) t = Passed kss t × (OneOf ks t → ⊥)
@@ -91,7 +91,7 @@ lookup-none t (l ∷ ls) n =
     let apart = or-none (among t (l .types)) (among t (typesOf ls)) (sym (among-append t (l .types) (typesOf ls)) ∙ n) in
     rw (apart .0) (lookup-none t ls (apart .1))
 
--- the arms of `decide` that name numbers, the last first
+-- the arms of `decide` that name numbers, with the last one first
 abbrev pub arms : List (List ℕ)
 arms =
     (56 ∷ [])
@@ -123,7 +123,7 @@ arms =
     ∷ (0 ∷ 51 ∷ [])
     ∷ []
 
--- a number of none of these arms is CALL's, CALL_PLT's, or refused
+-- a number in none of these arms is that of CALL or CALL_PLT, or it is refused
 pub others-refused : (t : ℕ) → Passed arms t → (OneOf (18 ∷ 19 ∷ []) t → ⊥) → decision t ≡ Refused
 unfolding decision typesOf table covers among joined
 others-refused t p n =

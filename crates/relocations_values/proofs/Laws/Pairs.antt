@@ -55,7 +55,7 @@ module _ (p : ℕ → Bool) where
 
 -- ---- what the search gives
 
--- of the first k relocations: none where at is n, else at alone
+-- what is known about the first k relocations: if `at` is n, none is a pair; otherwise only `at` is
 pub record Searched (p : ℕ → Bool) (n at k : ℕ) : Type 0 where
   pub fits : at ≤ n
   pub none : n ≤ at → (i : ℕ) → i < k → p i ≡ false
@@ -83,7 +83,7 @@ module _ (object : List ℕ) (x : Site) (value : SectionOffset) where
       ne-eqb (howMany (isPair object x value) (count x)) 1 (λ z. omega (arith, two-hold (isPair object x value) (count x) a b l m e f)) in
       rw many
 
--- one relocation more, where it is not a second one
+-- one more relocation, if it is not a second pair
 pub searched-more : (p : ℕ → Bool) (n at k : ℕ) → k < n → Searched p n at k → (p k && ltb at n) ≡ false → Searched p n (cond (p k) k at) (k + 1)
 searched-more p n at k h s e = go (p k) refl e
   where
