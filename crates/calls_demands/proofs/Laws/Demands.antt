@@ -11,7 +11,7 @@ use borrow.Author.Tests.{leb-true, le-leb, eqb-true, eqb-false}
 use Rattle.numbers_definitions.proofs.Laws.Tests.{clash}
 use Rattle.order_format.specs.Orders.{base, wellFormed}
 use Rattle.elf_read.specs.Headers.{addressWidth}
-use Rattle.order_format.specs.Windows.{lengthAllowed, windowAllowed}
+use Rattle.order_format.specs.Windows.{maxImage, lengthAllowed, windowAllowed}
 use Rattle.order_lookup.specs.Addresses.{addresses}
 use Rattle.elf_check.specs.declared.ObjectCheck.{ObjectCheck}
 use Rattle.elf_check.specs.declared.ObjectCheck.the-variants.{Passed, BadHeader, BadSection}
@@ -282,7 +282,7 @@ done-leaves object order f e = go (sound (f .journal) (length (f .image))) refl 
 
 pub rollback-told : (f : Files) → Told (rollbackTable f) (rollback f .answer)
 unfolding rollbackTable rollback lengthAllowed
-rollback-told f = go (sound (f .journal) len) refl (leb len 65536) refl (eqb (count (f .journal)) 0) refl
+rollback-told f = go (sound (f .journal) len) refl (leb len maxImage) refl (eqb (count (f .journal)) 0) refl
   where
     len : ℕ
     len = length (f .image)
@@ -291,22 +291,22 @@ rollback-told f = go (sound (f .journal) len) refl (leb len 65536) refl (eqb (co
     last = one 16 (0 < count (f .journal)) none
 
     rest : Checks
-    rest = one 3 (len ≤ 65536) last
+    rest = one 3 (len ≤ maxImage) last
 
-    go : (a : Bool) → sound (f .journal) len ≡ a → (b : Bool) → leb len 65536 ≡ b → (c : Bool) → eqb (count (f .journal)) 0 ≡ c
+    go : (a : Bool) → sound (f .journal) len ≡ a → (b : Bool) → leb len maxImage ≡ b → (c : Bool) → eqb (count (f .journal)) 0 ≡ c
         → Told (one 1 (Sound (f .journal) len) rest)
         (cond (not a) (refuse journalUnsound f) (cond (not b) (refuse windowBroken f) (cond c (refuse noneStands f) (succeed (rolledBack f)))) .answer)
     go false p b q c r = broken-once 1 rest (λ s. clash (sound (f .journal) len) p (sound-test (f .journal) len s))
     go true p false q c r =
         later 1 (rule 1 (λ _. Sound (f .journal) len) nil) rest windowBroken (at-once 1 (test-sound (f .journal) len p))
-        (broken-once 3 last (λ s. clash (leb len 65536) q (le-leb len 65536 s)))
+        (broken-once 3 last (λ s. clash (leb len maxImage) q (le-leb len maxImage s)))
     go true p true q true r =
         later 1 (rule 1 (λ _. Sound (f .journal) len) nil) rest noneStands (at-once 1 (test-sound (f .journal) len p))
-        (later 1 (rule 3 (λ _. len ≤ 65536) nil) last noneStands (at-once 3 (leb-true len 65536 q))
+        (later 1 (rule 3 (λ _. len ≤ maxImage) nil) last noneStands (at-once 3 (leb-true len maxImage q))
         (broken-once 16 none (λ s. absurd (omega (arith, eqb-true (count (f .journal)) 0 r)))))
     go true p true q false r =
         let some : count (f .journal) ≡ 0 → ⊥ = eqb-false (count (f .journal)) 0 r in
-        inl (refl, (at-once 1 (test-sound (f .journal) len p), (at-once 3 (leb-true len 65536 q), (at-once 16 (omega arith), tt))))
+        inl (refl, (at-once 1 (test-sound (f .journal) len p), (at-once 3 (leb-true len maxImage q), (at-once 16 (omega arith), tt))))
 
 -- ---- demand 1
 
@@ -367,10 +367,10 @@ releases-of f h1 =
     let h16 = h3 .1 in
     let len = length (f .image) in
     let s : Sound (f .journal) len = holds-once 1 (h1 .0) in
-    let short : len ≤ 65536 = holds-once 3 (h3 .0) in
+    let short : len ≤ maxImage = holds-once 3 (h3 .0) in
     let some : 0 < count (f .journal) = holds-once 16 (h16 .0) in
     let after-is : succeed (rolledBack f) ≡ rollback f =
-    done-with f (sound-test (f .journal) len s) (le-leb len 65536 short) (rolledBack f) (λ z. omega arith) refl in
+    done-with f (sound-test (f .journal) len s) (le-leb len maxImage short) (rolledBack f) (λ z. omega arith) refl in
     subst (Released f) (ap (λ o. o .after) after-is)
     (releases (f .image) (f .journal) (undoable (f .image) (f .journal) s some) (omega (arith, held-small (f .journal) len s short)))
 

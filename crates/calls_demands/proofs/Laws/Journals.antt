@@ -18,7 +18,7 @@ use Rattle.calls_demands.proofs.Laws.Lists.{same-number}
 module _ (j l : List ℕ) (bj : Bytes j) (bl : Bytes l) (same-length : length j ≡ length l) (long : oldAt ≤ length j)
     (count-same : count j ≡ count l) (held-same : held j ≡ held l) (entries-same : (i : ℕ) → i < maxEntries → entry j i ≡ entry l i)
     (rest-same : (b : ℕ) → oldAt ≤ b → getD j b 0 ≡ getD l b 0) where
-  entry-byte : (b : ℕ) → 4 ≤ b → b < 132 → getD j b 0 ≡ getD l b 0
+  entry-byte : (b : ℕ) → 4 ≤ b → b < heldAt → getD j b 0 ≡ getD l b 0
   unfolding entry
   entry-byte b h k =
       let i : ℕ = (b - 4) / 8 in
@@ -31,9 +31,9 @@ module _ (j l : List ℕ) (bj : Bytes j) (bl : Bytes l) (same-length : length j 
       go (no r) start size = same-number j l (entryAt ((b - 4) / 8) + 4) 4 b bj bl (omega arith) (omega arith) size (omega arith) (omega arith)
 
   byte-same : (b : ℕ) → getD j b 0 ≡ getD l b 0
-  byte-same b = go (decLt b 4) (decLt b 132) (decLt b 136)
+  byte-same b = go (decLt b 4) (decLt b heldAt) (decLt b oldAt)
     where
-      go : Dec (b < 4) → Dec (b < 132) → Dec (b < 136) → getD j b 0 ≡ getD l b 0
+      go : Dec (b < 4) → Dec (b < heldAt) → Dec (b < oldAt) → getD j b 0 ≡ getD l b 0
       go (yes h) d e = same-number j l countAt 4 b bj bl (omega arith) (omega arith) count-same (omega arith) (omega arith)
       go (no g) (yes h) e = entry-byte b (omega arith) h
       go (no g) (no h) (yes k) = same-number j l heldAt 4 b bj bl (omega arith) (omega arith) held-same (omega arith) (omega arith)

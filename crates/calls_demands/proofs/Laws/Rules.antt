@@ -15,7 +15,7 @@ use Rattle.elf_read.specs.Sections.{sectionAt, allocated, isAllocated}
 use Rattle.elf_header.specs.Headers.{headerAllowed, tableAllowed}
 use Rattle.order_format.specs.Orders.{placementCount, placement, externalCount, external, ascending, wellFormed}
 use Rattle.order_lookup.specs.Values.{isGiven, externalValue}
-use Rattle.order_format.specs.Windows.{lengthAllowed, windowAllowed}
+use Rattle.order_format.specs.Windows.{maxImage, lengthAllowed, windowAllowed}
 use Rattle.order_lookup.specs.Addresses.{placedAt}
 use Rattle.order_format.proofs.Laws.Sound.{wellFormed-sound, sound-wellFormed}
 use Rattle.plan_pieces.specs.declared.Span.{Span}
@@ -91,8 +91,8 @@ pub window-well : (w start len : ℕ) → windowAllowed w start len ≡ true →
 unfolding windowAllowed lengthAllowed
 window-well w start len e =
     record {
-      short = leb-true _ _ (and-left (leb len 65536) (leb (start + len) (2 ^ w)) e);
-      ends = leb-true _ _ (and-right (leb len 65536) (leb (start + len) (2 ^ w)) e);
+      short = leb-true _ _ (and-left (leb len maxImage) (leb (start + len) (2 ^ w)) e);
+      ends = leb-true _ _ (and-right (leb len maxImage) (leb (start + len) (2 ^ w)) e);
     }
 
 pub well-window : (w start len : ℕ) → WindowWell w start len → windowAllowed w start len ≡ true

@@ -14,7 +14,7 @@ use Rattle.numbers_definitions.proofs.Laws.Tests.{and-left}
 use Rattle.numbers_definitions.proofs.Laws.Lists.{length-part}
 use Rattle.order_format.specs.declared.OrderHeader.{OrderHeader}
 use Rattle.order_format.specs.Orders.{base}
-use Rattle.order_format.specs.Windows.{lengthAllowed, windowAllowed}
+use Rattle.order_format.specs.Windows.{maxImage, lengthAllowed, windowAllowed}
 use Rattle.order_lookup.specs.Addresses.{addresses}
 use Rattle.elf_read.specs.Headers.{sectionCount}
 use Rattle.elf_read.specs.Sections.{sectionAt, loaded}
@@ -53,9 +53,9 @@ module _ (object order : List ℕ) (counts : OrderHeader) (len : ℕ) (f : Fitti
   unfolding windowAllowed
   length-fits = and-left (lengthAllowed len) _ (f .placeable .named .readable .window)
 
-  pub length-short : len ≤ 65536
+  pub length-short : len ≤ maxImage
   unfolding lengthAllowed
-  length-short = leb-true len 65536 length-fits
+  length-short = leb-true len maxImage length-fits
 
   pub bytes-inside : (t : ℕ) → t < sectionCount object → hasBytes (sectionAt object t) ≡ true
       → (base order ≤ getD (addresses order) t 0) × (getD (addresses order) t 0 - base order + sectionAt object t .size ≤ len)

@@ -10,7 +10,7 @@ use lib.Dec.{eqb·suc-zero}
 use borrow.Author.Tests.{le-leb}
 use Rattle.numbers_definitions.specs.Bytes.{part}
 use Rattle.numbers_definitions.proofs.Laws.Lists.{length-part}
-use Rattle.order_format.specs.Windows.{lengthAllowed}
+use Rattle.order_format.specs.Windows.{maxImage, lengthAllowed}
 use Rattle.plan_pieces.specs.Plans.{Piece, Verdict, refused, plan, Judge, LaysInside, Inside, spanOf}
 use Rattle.journal_format.specs.Journals.{maxEntries, oldAt, count, held, entries, blank, total, Sound, sound, noRoom}
 use Rattle.journal_history.specs.Calls.{journalFull, Files, Outcome, refuse, succeed, installed, settle, install, rolledBack, rollback, Call, Install, Rollback, calling, call}
@@ -37,7 +37,7 @@ filesOf base xs free rest = record { image = laid base xs; journal = journalOf (
 
 -- `free` and `rest` are what they should be, for standing installs that the judgement planned
 pub record Shape (judge : Judge) (base : List ℕ) (room : ℕ) (xs : List Standing) (free : ℕ) (rest : List ℕ) : Type 0 where
-  pub short : length base ≤ 65536
+  pub short : length base ≤ maxImage
   pub slots : length (spans xs) + free ≡ maxEntries
   pub space : oldAt + total (spans xs) + length rest ≡ room
   pub stands : Stands judge base room xs
@@ -206,9 +206,9 @@ module _ (judge : Judge) (lays : LaysInside judge) (base : List ℕ) (room : ℕ
       unfolding told calling install
       install-agrees = rw (test-files, length-laid base xs) (settled (judge object order (length base)) refl)
 
-  allowed : length base ≤ 65536 → lengthAllowed (length base) ≡ true
+  allowed : length base ≤ maxImage → lengthAllowed (length base) ≡ true
   unfolding lengthAllowed
-  allowed h = le-leb (length base) 65536 h
+  allowed h = le-leb (length base) maxImage h
 
   rollback-agrees : (xs : List Standing) (free : ℕ) (rest : List ℕ) → Shape judge base room xs free rest
       → Agreed judge (told judge (over xs) Rollback) (call judge (filesOf base xs free rest) Rollback)

@@ -8,7 +8,7 @@ use lib.ListN.{length, getD}
 use lib.Dec.{eqb, ltb}
 use borrow.Author.Tests.{leb-true, ltb-false, eqb-false}
 use Rattle.numbers_definitions.proofs.Laws.Tests.{neither-left, neither-right}
-use Rattle.order_format.specs.Windows.{lengthAllowed}
+use Rattle.order_format.specs.Windows.{maxImage, lengthAllowed}
 use Rattle.plan_pieces.specs.declared.Span.{Span}
 use Rattle.plan_pieces.specs.Answers.{Answer}
 use Rattle.plan_pieces.specs.Plans.{Piece, refused, plan, Judge, Inside, overwritten, spanOf}
@@ -28,11 +28,11 @@ room-left n k size len e = (
 )
 
 -- the k of a sound journal is small if the image is short
-pub held-small : (j : List ℕ) (len : ℕ) → Sound j len → len ≤ 65536 → held j ≤ 65536 * maxEntries
+pub held-small : (j : List ℕ) (len : ℕ) → Sound j len → len ≤ maxImage → held j ≤ maxImage * maxEntries
 held-small j len s short =
-    let size : (i : ℕ) → i < length (entries j) → getD (entries j) i blank .size ≤ 65536 =
+    let size : (i : ℕ) → i < length (entries j) → getD (entries j) i blank .size ≤ maxImage =
     λ i l. let some : i < maxEntries = omega (arith, entries-length j) in rw (entries-at j i some) (omega (arith, s .inside i some)) in
-    omega (arith, s .held-is, entries-length j, total-le 65536 (entries j) size)
+    omega (arith, s .held-is, entries-length j, total-le maxImage (entries j) size)
 
 module _ (judge : Judge) (object order : List ℕ) (f : Files) where
   pub unsound : sound (f .journal) (length (f .image)) ≡ false → refuse journalUnsound f ≡ install judge object order f
@@ -62,7 +62,7 @@ pub savable : (image j : List ℕ) (s : Span) → sound j (length image) ≡ tru
 unfolding lengthAllowed
 savable image j s ok allowed room inside =
     let k : Sound j (length image) = test-sound j (length image) ok in
-    let short : length image ≤ 65536 = leb-true (length image) 65536 allowed in
+    let short : length image ≤ maxImage = leb-true (length image) maxImage allowed in
     let left = room-left (count j) (held j) (s .size) (length j) room in
     let few : count j ≤ maxEntries = k .few in
     record {

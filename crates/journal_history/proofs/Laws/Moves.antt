@@ -7,6 +7,7 @@ use lib.ListN.{length, length-append, replicate, length-replicate}
 use lib.Seq.{sets, take-at, drop-at}
 use Rattle.numbers_definitions.specs.Bytes.{part}
 use Rattle.numbers_definitions.proofs.Laws.Lists.{length-part}
+use Rattle.order_format.specs.Windows.{maxImage}
 use Rattle.plan_pieces.specs.declared.Span.{Span}
 use Rattle.plan_pieces.specs.Plans.{Piece, overwritten, spanOf}
 use Rattle.journal_format.specs.Journals.{maxEntries, oldAt, count, held, entry, total}
@@ -25,7 +26,7 @@ old-bytes ss free o p r at n slots ea en =
     let whole : journalOf ss free (o ++ p ++ r) ≡ front ++ (p ++ r) = simp append-assoc in
     rw (whole, drop-at front (p ++ r) at (length-journal ss free o slots ∙ ea)) (take-at p r n en)
 
-module _ (image : List ℕ) (ss : List Span) (free : ℕ) (o p r : List ℕ) (len : ℕ) (slots : length ss + suc free ≡ maxEntries) (short : len ≤ 65536)
+module _ (image : List ℕ) (ss : List Span) (free : ℕ) (o p r : List ℕ) (len : ℕ) (slots : length ss + suc free ≡ maxEntries) (short : len ≤ maxImage)
     (holds : length o ≡ total ss) where
   -- an install onto the stack ss; p are the bytes of the journal that the old bytes replace
   pub pushed : (ps : List Piece) → AllIn len ss → spanOf ps .start + spanOf ps .size ≤ length image → length p ≡ spanOf ps .size

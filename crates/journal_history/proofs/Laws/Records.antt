@@ -10,6 +10,7 @@ use lib.Seq.{sets, length-sets}
 use Rattle.numbers_definitions.specs.Bytes.{bytes, part}
 use Rattle.numbers_definitions.proofs.Laws.Bytes.{length-bytes}
 use Rattle.numbers_definitions.proofs.Laws.Lists.{length-part, part-stored, getD-sets-other}
+use Rattle.order_format.specs.Windows.{maxImage}
 use Rattle.plan_pieces.specs.declared.Span.{Span}
 use Rattle.plan_pieces.specs.Plans.{Piece, piece, overwritten, spanOf}
 use Rattle.journal_format.specs.Journals.{maxEntries, entrySize, countAt, entryAt, heldAt, oldAt, count, held, entry, blank, entryBytes}
@@ -32,7 +33,7 @@ other-entry i n out = go (decLt i n)
 
 -- ---- a save: old bytes, entry, k, n
 
-module _ (image j : List ℕ) (s : Span) (v : Savable image j s) (short : length image ≤ 65536) where
+module _ (image j : List ℕ) (s : Span) (v : Savable image j s) (short : length image ≤ maxImage) where
   abbrev old : List ℕ
   old = part image (s .start) (s .size)
 
@@ -111,7 +112,7 @@ module _ (image j : List ℕ) (s : Span) (v : Savable image j s) (short : length
       (inl (omega arith), (inr (rw (length-entry s) (omega arith)), (inr (rw length-bytes (omega arith)), (inr (rw length-bytes (omega arith)), tt))))
 
 -- an install's plan is laid, and its span recorded
-pub installed-appends : (ps : List Piece) (f : Files) → Savable (f .image) (f .journal) (spanOf ps) → length (f .image) ≤ 65536 → Appended f (installed ps f) (spanOf ps)
+pub installed-appends : (ps : List Piece) (f : Files) → Savable (f .image) (f .journal) (spanOf ps) → length (f .image) ≤ maxImage → Appended f (installed ps f) (spanOf ps)
 unfolding installed
 installed-appends ps f v short =
     let image = f .image in

@@ -10,6 +10,7 @@ use Rattle.numbers_definitions.specs.Bytes.{leAt, bytes}
 use Rattle.numbers_definitions.specs.First.{tabulate}
 use Rattle.numbers_definitions.proofs.Laws.Bytes.{le-zero}
 use Rattle.numbers_definitions.proofs.Laws.First.{tabulate-same}
+use Rattle.order_format.specs.Windows.{maxImage}
 use Rattle.plan_pieces.specs.declared.Span.{Span}
 use Rattle.plan_pieces.specs.Plans.{piece, overwritten}
 use Rattle.journal_format.specs.Journals.{maxEntries, entrySize, countAt, entryAt, heldAt, oldAt, count, held, entry, entries, blank, entryBytes, total, Sound}
@@ -32,11 +33,11 @@ all-in-at len [] h i = omega arith
 all-in-at len (s ∷ ss) h zero = h .0
 all-in-at len (s ∷ ss) h (suc i) = all-in-at len ss (h .1) i
 
-small : (len : ℕ) (ss : List Span) → len ≤ 65536 → AllIn len ss → Small ss
+small : (len : ℕ) (ss : List Span) → len ≤ maxImage → AllIn len ss → Small ss
 small len [] h k = tt
 small len (s ∷ ss) h k = (omega arith, omega arith, small len ss h (k .1))
 
-total-le-all : (len : ℕ) (ss : List Span) → len ≤ 65536 → AllIn len ss → total ss ≤ 65536 * length ss
+total-le-all : (len : ℕ) (ss : List Span) → len ≤ maxImage → AllIn len ss → total ss ≤ maxImage * length ss
 unfolding total
 total-le-all len [] h k = omega arith
 total-le-all len (s ∷ ss) h k = omega (arith, total-le-all len ss h (k .1))
@@ -80,7 +81,7 @@ module _ (ss : List Span) (free : ℕ) (tail : List ℕ) (slots : length ss + fr
   unfolding journalOf
   count-journal = count-spelt (length ss) (ss ++ replicate free blank) (total ss) tail full (omega arith)
 
-  module _ (len : ℕ) (short : len ≤ 65536) (ins : AllIn len ss) where
+  module _ (len : ℕ) (short : len ≤ maxImage) (ins : AllIn len ss) where
     pub held-journal : held (journalOf ss free tail) ≡ total ss
     unfolding journalOf
     held-journal = held-spelt (length ss) (ss ++ replicate free blank) (total ss) tail full (omega (arith, total-le-all len ss short ins))
