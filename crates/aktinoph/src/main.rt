@@ -9,11 +9,6 @@
 ghost use mathlib.Core.Path.{_≡_};
 ghost use mathlib.Core.Bool.{_||_};
 ghost use lib.Dec.{ltb};
-ghost use lib.ListN.{take};
-ghost use Rattle.io.specs.Counts.{Counts};
-ghost use Rattle.program_text.specs.Lines.{line};
-ghost use Rattle.plan_pieces.specs.Answers.{Answer};
-ghost use Rattle.calls_demands.specs.Codes.{Reads};
 use program_files::MAX_FILE;
 use program_files::ROOM;
 use program_files::replace_both;
@@ -130,17 +125,9 @@ fn any_long(object: usize, order: usize, image: usize, ledger: usize) -> bool
     (object > MAX_FILE) | (order > MAX_FILE) | (image > MAX_FILE) | (ledger > MAX_FILE)
 }
 
-// The line of the answer in a code. The number is in the low eight bits, the place in the upper 32.
-fn line_of(code: u64, out: &mut [u8; 42]) -> usize
-    ensures { λ r. ⌜ Counts r (now (out .exit)) ⌝ }
-    ensures { λ r. ⌜ ((answer : Answer) → Reads code answer → take r (now (out .exit)) ≡ line answer) ⌝ }
-{
-    program_text::answer_line(code % 256, code / 4294967296, out)
-}
-
 fn print_answer(code: u64) {
     let mut line = [0u8; 42];
-    let n = line_of(code, &mut line);
+    let n = program_text::line_of(code, &mut line);
     print(&line[..n]);
 }
 

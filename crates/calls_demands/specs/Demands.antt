@@ -12,7 +12,7 @@ use Rattle.plan_pieces.specs.declared.Span.{Span}
 use Rattle.plan_pieces.specs.Plans.{spanOf}
 use Rattle.journal_format.specs.Journals.{count, Sound}
 use Rattle.plan_pieces.specs.Answers.{Answer, done}
-use Rattle.journal_history.specs.Calls.{Files, install, rollback, Call, InstallCall, RollbackCall, calling, answers, run}
+use Rattle.journal_history.specs.Calls.{Files, Call, InstallCall, RollbackCall, calling, answers, run}
 use Rattle.journal_history.specs.Histories.{Standing, laid, Start, historyOf, Kind, FilesAre, CallsAre, Holds}
 use Rattle.journal_history.specs.Records.{Appended, Released}
 use Rattle.calls_judgement.specs.Judgement.{judgement}
@@ -103,11 +103,3 @@ pub record Meets (installs : InstallCall) (rollsBack : RollbackCall) : Type 0 wh
 pub record Promised (installs : InstallCall) (rollsBack : RollbackCall) : Type 0 where
   pub each : Meets installs rollsBack
   pub every-list : Demand3 AnyList installs rollsBack
-
--- ---- the two calls of this fitter, which the contracts of the exported functions name: `Promised.ours-keep` is the claim
-
-abbrev pub ourInstall : InstallCall
-ourInstall = install judgement
-
-abbrev pub ourRollback : RollbackCall
-ourRollback = rollback

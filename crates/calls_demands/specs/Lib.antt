@@ -3,3 +3,4 @@ pub mod First
 pub mod Laid
 pub mod Demands
 pub mod Codes
+pub mod Ours

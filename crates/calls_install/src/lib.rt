@@ -6,7 +6,7 @@ ghost use Rattle.journal_format.specs.Journals.{sound};
 ghost use Rattle.journal_history.specs.Calls.{files};
 ghost use Rattle.calls_judgement.specs.Requires.{Fitting};
 ghost use Rattle.calls_judge.specs.Answers.{answerOf};
-ghost use Rattle.calls_demands.specs.Demands.{ourInstall, ourRollback};
+ghost use Rattle.calls_demands.specs.Ours.{ourInstall, ourRollback};
 use calls_judge::Answer;
 use calls_judge::is_done;
 use calls_judge::judge;

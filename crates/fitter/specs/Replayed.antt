@@ -7,7 +7,8 @@ use Rattle.plan_pieces.specs.Answers.{Answer}
 use Rattle.journal_history.specs.Calls.{Files}
 use Rattle.calls_replay.specs.Lists.{callCount, callsOf}
 use Rattle.calls_replay.specs.Replays.{codes}
-use Rattle.calls_demands.specs.Demands.{AnyList, AfterCalls, ourInstall, ourRollback}
+use Rattle.calls_demands.specs.Demands.{AnyList, AfterCalls}
+use Rattle.calls_demands.specs.Ours.{ourInstall, ourRollback}
 
 -- The first places hold the codes of the answers in order, and demand 3 holds for these answers and for what is left.
 pub record Demand3Of (calls : List ℕ) (start : Files) (places : List ℕ) (left : Files) : Type 0 where

@@ -9,7 +9,7 @@ ghost use Rattle.journal_history.specs.Histories.{Start};
 ghost use Rattle.calls_replay.specs.Lists.{callCount, callAt, isCall, isList};
 ghost use Rattle.calls_replay.specs.Replays.{replay as «the-replay»};
 ghost use Rattle.calls_replay.specs.Requires.{leftBy, codesOf};
-ghost use Rattle.calls_demands.specs.Demands.{ourInstall, ourRollback};
+ghost use Rattle.calls_demands.specs.Ours.{ourInstall, ourRollback};
 ghost use Rattle.calls_demands.specs.Codes.{Returned};
 ghost use Rattle.fitter.specs.Replayed.{Demand3Of};
 use calls_install::install;

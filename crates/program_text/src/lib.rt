@@ -4,6 +4,7 @@ ghost use mathlib.Core.List.{_++_};
 ghost use Prim.Native.Nat.{_+_, _≤_};
 ghost use lib.ListN.{length, take};
 ghost use Rattle.io.specs.Counts.{Counts};
+ghost use Rattle.plan_pieces.specs.Answers.{Answer, Reads};
 ghost use Rattle.program_text.specs.Commands.{Asks};
 ghost use Rattle.program_text.specs.Lines.{Appended, decimal, line};
 
@@ -63,6 +64,14 @@ pub fn answer_line(number: u64, place: u64, out: &mut [u8; 42]) -> usize
     let b = append(out, a, b" ");
     let c = append_decimal(out, b, place);
     append(out, c, b"\n")
+}
+
+// The line of the answer in a code. The number is in the low eight bits, the place in the upper 32.
+pub fn line_of(code: u64, out: &mut [u8; 42]) -> usize
+    ensures { λ r. ⌜ Counts r (now (out .exit)) ⌝ }
+    ensures { λ r. ⌜ ((answer : Answer) → Reads code answer → take r (now (out .exit)) ≡ line answer) ⌝ }
+{
+    answer_line(code % 256, code / 4294967296, out)
 }
 
 // The name of a new file beside the one at `path`: the path, and then the tag.

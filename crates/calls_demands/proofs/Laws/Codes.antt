@@ -5,7 +5,7 @@ use mathlib.Core.List.{List}
 use Prim.Native.Nat.{ℕ, _^_, _≤_, _<_}
 use native.Mathlib.Omega.{arith}
 use lib.ListN.{length}
-use Rattle.plan_pieces.specs.Answers.{Answer, done, packed}
+use Rattle.plan_pieces.specs.Answers.{Answer, done, packed, Reads}
 use Rattle.elf_read.specs.Headers.{sectionCount}
 use Rattle.elf_read.specs.Entries.{relocationCount}
 use Rattle.elf_check.specs.Requires.{SoundObject}
@@ -14,8 +14,9 @@ use Rattle.elf_check.proofs.Laws.Bounds.{relocations-few}
 use Rattle.journal_history.specs.Calls.{Files}
 use Rattle.calls_demands.specs.Rules.{HeaderWell, TableWell}
 use Rattle.calls_demands.specs.First.{rule, nil, Checks, HoldBelow, FirstBroken, table}
-use Rattle.calls_demands.specs.Demands.{rollbackTable, ourInstall, ourRollback}
-use Rattle.calls_demands.specs.Codes.{Reads, FitGives, TakeBackGives}
+use Rattle.calls_demands.specs.Demands.{rollbackTable}
+use Rattle.calls_demands.specs.Ours.{ourInstall, ourRollback}
+use Rattle.calls_demands.specs.Codes.{FitGives, TakeBackGives}
 use Rattle.calls_demands.proofs.Laws.First.{Told, PlacesBelow, named-number, named-place}
 use Rattle.calls_demands.proofs.Laws.Rules.{well-header}
 use Rattle.calls_demands.proofs.Laws.Told.{told}

@@ -45,7 +45,8 @@ use Rattle.calls_judgement.proofs.Laws.Laying.{length-fits, length-short, plan-
 use Rattle.calls_demands.specs.Rules.{Rules}
 use Rattle.calls_demands.specs.First.{nil, rule, Checks, none, one, HoldBelow, AllHold, FirstBroken, table}
 use Rattle.calls_demands.specs.Laid.{IsSpan, Laid}
-use Rattle.calls_demands.specs.Demands.{rollbackTable, Demand1, Demand2, Journalled, StandAsLaid, Demand3, ourInstall, ourRollback}
+use Rattle.calls_demands.specs.Demands.{rollbackTable, Demand1, Demand2, Journalled, StandAsLaid, Demand3}
+use Rattle.calls_demands.specs.Ours.{ourInstall, ourRollback}
 use Rattle.calls_demands.proofs.Laws.First.{none-broken, one-first, Numbers, named-number, Told, later, at-once, broken-once}
 use Rattle.calls_demands.proofs.Laws.Told.{told}
 use Rattle.calls_demands.proofs.Laws.Laid.{laid-well}

@@ -11,7 +11,8 @@ use Rattle.journal_history.specs.Calls.{journalFull, Files, Outcome, refuse, su
 use Rattle.journal_history.specs.Histories.{Standing, History, begin, countOf, heldOf, stand, fall, told, Start, historyOf, AsTold, Alike, alone, standingAlone, Kind, FilesAre, CallIs, CallsAre}
 use Rattle.journal_history.proofs.Laws.Corollaries.{either}
 use Rattle.calls_judgement.specs.Judgement.{judgement}
-use Rattle.calls_demands.specs.Demands.{AreBytes, Meets, Demand3, ourInstall, ourRollback}
+use Rattle.calls_demands.specs.Demands.{AreBytes, Meets, Demand3}
+use Rattle.calls_demands.specs.Ours.{ourInstall, ourRollback}
 use Rattle.calls_demands.proofs.Laws.Demands.{demand-3}
 use Rattle.calls_demands.proofs.Laws.Octets.{ours-meets}
 use Rattle.calls_demands.proofs.Laws.Only.{one-install, one-rollback}

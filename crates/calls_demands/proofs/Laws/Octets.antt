@@ -34,7 +34,8 @@ use Rattle.relocations_bytes.specs.Patches.{patched}
 use Rattle.relocations_bytes.specs.Sections.{stored, sumAt, pairDistance, applied, after, relaOf, relocated}
 use Rattle.calls_judgement.specs.Judgement.{planOf, judgement}
 use Rattle.calls_judgement.proofs.Laws.Judgement.{plan-fits}
-use Rattle.calls_demands.specs.Demands.{AreBytes, Meets, ourInstall, ourRollback}
+use Rattle.calls_demands.specs.Demands.{AreBytes, Meets}
+use Rattle.calls_demands.specs.Ours.{ourInstall, ourRollback}
 use Rattle.calls_demands.proofs.Laws.Lists.{bytes-part}
 use Rattle.calls_demands.proofs.Laws.Demands.{demand-1, demand-2, journalled}
 

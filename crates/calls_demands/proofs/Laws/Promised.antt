@@ -1,6 +1,7 @@
 -- The claim: our two calls keep everything that is promised. The contracts of `install`, `rollback`, `aktinoph_fit`, `aktinoph_take_back` and
 -- `aktinoph_replay` name these two calls.
-use Rattle.calls_demands.specs.Demands.{AnyList, Promised, ourInstall, ourRollback}
+use Rattle.calls_demands.specs.Demands.{AnyList, Promised}
+use Rattle.calls_demands.specs.Ours.{ourInstall, ourRollback}
 use Rattle.calls_demands.proofs.Laws.Demands.{demand-3}
 use Rattle.calls_demands.proofs.Laws.Octets.{ours-meets}
 

@@ -12,7 +12,8 @@ use Rattle.journal_history.proofs.Laws.History.{run-over, history-holds}
 use Rattle.journal_history.proofs.Laws.Corollaries.{rollback-undoes-install as undoes, room-serves-again as serves-again, install-done-again as done-again}
 use Rattle.calls_judgement.specs.Judgement.{planOf, judgement}
 use Rattle.calls_judgement.proofs.Laws.Laying.{lays-inside}
-use Rattle.calls_demands.specs.Demands.{AnyList, ourInstall, ourRollback}
+use Rattle.calls_demands.specs.Demands.{AnyList}
+use Rattle.calls_demands.specs.Ours.{ourInstall, ourRollback}
 use Rattle.calls_demands.proofs.Laws.Demands.{done-leaves}
 
 abbrev our : Files → Call → Outcome Files

@@ -63,7 +63,8 @@ use Rattle.placing_span.specs.Pieces.{pieces}
 use Rattle.calls_judgement.specs.Judgement.{planOf, judgement}
 use Rattle.calls_demands.specs.Rules.{Rules, WindowWell, HeaderWell, TableWell, PlacedAsAllocated, ValuedIfUndefined, PlacedIfAllocated, site, entryOf, valueOf}
 use Rattle.calls_demands.specs.Laid.{Covers, IsSpan, siteOf, bytesAt, Laid}
-use Rattle.calls_demands.specs.Demands.{Promised, ourInstall, ourRollback}
+use Rattle.calls_demands.specs.Demands.{Promised}
+use Rattle.calls_demands.specs.Ours.{ourInstall, ourRollback}
 use Rattle.calls_demands.proofs.Laws.Rules.{order-well, window-well, header-well, table-well, valued, placed-well}
 use Rattle.calls_demands.proofs.Laws.Relocations.{shape-well, symbol-well, form-well, pair-well, reach-well, boundary-well}
 use Rattle.calls_demands.proofs.Laws.Sample.{words}

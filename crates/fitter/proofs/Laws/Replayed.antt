@@ -17,7 +17,8 @@ use Rattle.calls_replay.specs.declared.List.the-variants.{Malformed, Calls}
 use Rattle.calls_replay.specs.Lists.{callCount, isList, callsOf}
 use Rattle.calls_replay.specs.Replays.{Replay, codes, replay}
 use Rattle.calls_replay.proofs.Laws.Replays.{codes-length}
-use Rattle.calls_demands.specs.Demands.{AnyList, AfterCalls, ourInstall, ourRollback}
+use Rattle.calls_demands.specs.Demands.{AnyList, AfterCalls}
+use Rattle.calls_demands.specs.Ours.{ourInstall, ourRollback}
 use Rattle.calls_demands.proofs.Laws.Promised.{ours-keep}
 use Rattle.fitter.specs.Replayed.{Demand3Of}
 

@@ -6,7 +6,7 @@ use native.Mathlib.Omega.{arith}
 use Rattle.journal_history.specs.Calls.{Files}
 use Rattle.calls_replay.specs.Lists.{callCount, isList}
 use Rattle.calls_replay.proofs.Laws.Replays.{not-run}
-use Rattle.calls_demands.specs.Demands.{ourInstall, ourRollback}
+use Rattle.calls_demands.specs.Ours.{ourInstall, ourRollback}
 use Rattle.fitter.proofs.Laws.Replayed.{malformed-is, listed-is, replay-holds}
 use borrow.Author.Needs.{needs}
 use Rattle.fitter.proofs.aktinoph_replay.Statement.{statement}

@@ -9,7 +9,7 @@ use Rattle.calls_replay.specs.Lists.{FIT, kindAt, objectLength, orderLength, ca
 use Rattle.calls_replay.specs.Requires.{FitInside}
 use Rattle.calls_replay.proofs.Laws.Lists.{ends-inside, end-of-fit}
 use Rattle.calls_replay.proofs.Laws.Replays.{call-fit, call-other}
-use Rattle.calls_demands.specs.Demands.{ourInstall, ourRollback}
+use Rattle.calls_demands.specs.Ours.{ourInstall, ourRollback}
 use borrow.Author.Needs.{needs}
 use Rattle.fitter.proofs.make_call.Statement.{statement}
 use Rattle.fitter.proofs.make_call.Tie as tie

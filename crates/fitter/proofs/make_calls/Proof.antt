@@ -12,7 +12,7 @@ use Rattle.calls_replay.specs.Replays.{codes}
 use Rattle.calls_replay.specs.Requires.{leftBy, codesOf}
 use Rattle.calls_replay.proofs.Laws.Lists.{start-next, list-call}
 use Rattle.calls_replay.proofs.Laws.Replays.{left-made, codes-made}
-use Rattle.calls_demands.specs.Demands.{ourInstall, ourRollback}
+use Rattle.calls_demands.specs.Ours.{ourInstall, ourRollback}
 use borrow.Author.Needs.{needs}
 use Rattle.fitter.proofs.make_calls.Statement.{statement}
 use Rattle.fitter.proofs.make_calls.Tie as tie

@@ -5,7 +5,7 @@ use lib.Seq.{sets}
 use Rattle.journal_history.specs.Calls.{Files}
 use Rattle.calls_replay.specs.Requires.{leftBy, codesOf}
 use Rattle.calls_replay.proofs.Laws.Replays.{no-places, ran}
-use Rattle.calls_demands.specs.Demands.{ourInstall, ourRollback}
+use Rattle.calls_demands.specs.Ours.{ourInstall, ourRollback}
 use borrow.Author.Needs.{needs}
 use Rattle.fitter.proofs.replay_list.Statement.{statement}
 use Rattle.fitter.proofs.replay_list.Tie as tie

@@ -1,10 +1,10 @@
--- `aktinoph::line_of` meets its contract: number and place are read out of the one number.
+-- `program_text::line_of` meets its contract: number and place are read out of the one number.
 use mathlib.Core.Path.{ap, _∙_}
 use Rattle.plan_pieces.specs.Answers.{Answer}
 use Rattle.program_text.specs.Lines.{line}
 use borrow.Author.Needs.{needs}
-use Rattle.aktinoph.proofs.line_of.Statement.{statement}
-use Rattle.aktinoph.proofs.line_of.Tie as tie
+use Rattle.program_text.proofs.line_of.Statement.{statement}
+use Rattle.program_text.proofs.line_of.Tie as tie
 
 returns : tie.Need-returns
 returns c = (
