@@ -5,6 +5,7 @@ use mathlib.Core.List.{List}
 use Prim.Native.Nat.{ℕ, _^_, _≤_, _<_}
 use native.Mathlib.Omega.{arith}
 use lib.ListN.{length}
+use Rattle.plan_pieces.proofs.Laws.Answers.{unpacked}
 use Rattle.plan_pieces.specs.Answers.{Answer, done, packed, Reads}
 use Rattle.elf_read.specs.Headers.{sectionCount}
 use Rattle.elf_read.specs.Entries.{relocationCount}
@@ -72,11 +73,6 @@ places object order f = (
 rollback-places : (f : Files) → PlacesBelow (2 ^ 32) (rollbackTable f)
 unfolding rollbackTable
 rollback-places f = (omega arith, λ h1. (omega arith, λ h3. (omega arith, λ h16. tt)))
-
--- ---- a small number and a place of 32 bits are read out again
-
-unpacked : (a : Answer) → a .number < 256 → a .place < 2 ^ 32 → Reads (packed a) a
-unpacked a n p = record { number-is = omega arith; place-is = omega arith; rest-is = omega arith; fits = omega arith }
 
 place-of : (c : Checks) (a : Answer) → PlacesBelow (2 ^ 32) c → Told c a → a .place < 2 ^ 32
 place-of c a b (inl t) = omega (arith, ap (λ x. x .place) (t .0))
