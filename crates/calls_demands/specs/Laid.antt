@@ -12,10 +12,11 @@ use Rattle.order_format.specs.Orders.{base}
 use Rattle.order_lookup.specs.Addresses.{addresses}
 use Rattle.plan_pieces.specs.declared.Span.{Span}
 use Rattle.placing_check.specs.Placing.{hasBytes}
-use Rattle.instructions_fields.specs.declared.Field.{Field}
 use Rattle.instructions_fields.specs.declared.Field.the-variants.{U}
-use Rattle.instructions_riscv.specs.declared.forms.Form.{Form}
-use Rattle.relocations_types.specs.declared.Calculation.the-variants.{HighAbsolute, LowAbsolute, LowOfPair}
+use Rattle.relocations_types.specs.declared.Operand.the-variants.{Absolute, Paired}
+use Rattle.relocations_types.specs.declared.Part.the-variants.{High, Low}
+use Rattle.relocations_types.specs.declared.Calculation.the-variants.{Of}
+use Rattle.relocations_types.specs.declared.Rule.{Rule}
 use Rattle.relocations_types.specs.declared.Decision.the-variants.{Store}
 use Rattle.relocations_rela.specs.declared.sites.Site.{Site}
 use Rattle.relocations_rela.specs.Sites.{siteAt, count, decisionAt, offset}
@@ -84,10 +85,10 @@ module _ (object order : List ℕ) where
     pub fields : (i j : ℕ) → IsRelocation i j → ReadsBack object order (addresses order) (siteOf i) (sectionIn after (sectionAt object i .info)) j
     -- "the high half and the low half laid for one address .. add up to it modulo 2^32" (2^w, where addresses have w bits): 26 with 27 or
     -- 28, in any two sections
-    pub addresses-whole : (h i l j : ℕ) → IsRelocation h i → IsRelocation l j → (f g : Field) (a b : Form) (m n : ℕ)
-        → decisionAt object (siteOf h) i ≡ Store HighAbsolute f a m → decisionAt object (siteOf l) j ≡ Store LowAbsolute g b n → target h i ≡ target l j
-        → AddUp (addressWidth object) f (bytesAt after h i m) g (bytesAt after l j n) (target h i)
+    pub addresses-whole : (h i l j : ℕ) → IsRelocation h i → IsRelocation l j → (a b : Rule) → decisionAt object (siteOf h) i ≡ Store a → decisionAt object (siteOf l) j ≡ Store b
+        → a .calculation ≡ Of High Absolute → b .calculation ≡ Of Low Absolute → target h i ≡ target l j
+        → AddUp (addressWidth object) (a .field) (bytesAt after h i (a .size)) (b .field) (bytesAt after l j (b .size)) (target h i)
     -- ".. or distance": 24 or 25 with the one 23 that is its pair
-    pub distances-whole : (i j : ℕ) → IsRelocation i j → (g : Field) (b : Form) (n : ℕ) → decisionAt object (siteOf i) j ≡ Store LowOfPair g b n
+    pub distances-whole : (i j : ℕ) → IsRelocation i j → (b : Rule) → decisionAt object (siteOf i) j ≡ Store b → b .calculation ≡ Of Low Paired
         → (k : ℕ) × (k < count (siteOf i)) × (pairOf object (siteOf i) (symbol object (siteOf i) j .value) ≡ At k)
-        × AddUp (addressWidth object) U (bytesAt after i k 4) g (bytesAt after i j n) (distanceAt object order (addresses order) (siteOf i) k)
+        × AddUp (addressWidth object) U (bytesAt after i k 4) (b .field) (bytesAt after i j (b .size)) (distanceAt object order (addresses order) (siteOf i) k)

@@ -10,12 +10,14 @@ use Rattle.numbers_definitions.specs.Bytes.{leAt}
 use Rattle.numbers_definitions.specs.Whole.{minus}
 use Rattle.numbers_definitions.specs.Powers.{ceilPower}
 use Rattle.instructions_fields.specs.declared.Field.{Field}
-use Rattle.instructions_riscv.specs.declared.forms.Form.{Form}
 use Rattle.instructions_riscv.specs.Forms.{hasForm}
 use Rattle.instructions_riscv.specs.declared.ranges.Range.{Range}
 use Rattle.instructions_riscv.specs.Ranges.{distance, rangeOf}
 use Rattle.relocations_types.specs.declared.Calculation.{Calculation}
-use Rattle.relocations_types.specs.declared.Calculation.the-variants.{Absolute, PcRelative, Distance, BothHalves, HighPcRelative, HighAbsolute, LowAbsolute, LowOfPair, Add, Sub, Set}
+use Rattle.relocations_types.specs.declared.Calculation.the-variants.{Of, Add, Sub, Set}
+use Rattle.relocations_types.specs.declared.Part.{Part}
+use Rattle.relocations_types.specs.declared.Part.the-variants.{Whole, Distance, High, Low, BothHalves}
+use Rattle.relocations_types.specs.declared.Rule.{Rule}
 use Rattle.relocations_types.specs.declared.Decision.the-variants.{Align, Store}
 use Rattle.elf_read.specs.Headers.{addressWidth, sectionTable, sectionCount, maxSections}
 use Rattle.elf_read.specs.Sections.{sectionAt, allocated, isAllocated, symbolTable}
@@ -34,7 +36,7 @@ use Rattle.placing_symbols.specs.declared.SymbolValue.{SymbolValue}
 use Rattle.relocations_rela.specs.declared.sites.Site.{Site}
 use Rattle.relocations_rela.specs.declared.shape.Previous.the-variants.{Entry}
 use Rattle.relocations_rela.specs.Sites.{siteAt, count, entry, decisionAt, offset, A, P, found}
-use Rattle.relocations_decisions.specs.Effects.{isStore, isRefused, stackWidth, needsPair}
+use Rattle.relocations_decisions.specs.Decisions.{isStore, isRefused, stackWidth, needsPair}
 use Rattle.relocations_rela.specs.Shape.{end, previous}
 use Rattle.relocations_values.specs.Values.{valueAt, targetAt}
 use Rattle.relocations_values.specs.Pairs.{isPair, howMany}
@@ -174,8 +176,8 @@ pub record SymbolWell (object : List ℕ) (x : Site) (j : ℕ) (value : SymbolVa
 
 abbrev pub FormWell : List ℕ → Site → ℕ → Type 0
 FormWell object x j =
-    (c : Calculation) (f : Field) (form : Form) (n : ℕ) → decisionAt object x j ≡ Store c f form n → isData form ≡ false
-    → (P object x j % 2 ≡ 0) × (hasForm form (leAt n (found object x) (offset object x j)) (leAt n (found object x) (offset object x j) / 2 ^ 32) ≡ true)
+    (r : Rule) → decisionAt object x j ≡ Store r → isData (r .form) ≡ false
+    → (P object x j % 2 ≡ 0) × (hasForm (r .form) (leAt (r .size) (found object x) (offset object x j)) (leAt (r .size) (found object x) (offset object x j) / 2 ^ 32) ≡ true)
 
 -- ---- 12 "not exactly one partner": "There must be exactly one PCREL_HI20 record whose offset equals that value, among the same RELA row's
 -- records."
@@ -191,21 +193,21 @@ pub record InReach (r : Range) (z : ℤ) : Type 0 where
   pub in-range : Within (r .back) (r .ahead) z
 
 -- 18, 19: "T - P modulo 2^32, which is even". No other type has such a rule.
+abbrev pub PartReachable : ℕ → Part → Field → ℕ → ℕ → Type 0
+PartReachable w Whole f t p = Unit {0}
+PartReachable w Distance f t p = InReach (rangeOf f) (distance t p)
+PartReachable w High f t p = Unit {0}
+PartReachable w Low f t p = Unit {0}
+PartReachable w BothHalves f t p = Even (pos (minus w t p))
+
 abbrev pub Reachable : ℕ → Calculation → Field → ℕ → ℕ → Type 0
-Reachable w Distance f t p = InReach (rangeOf f) (distance t p)
-Reachable w BothHalves f t p = Even (pos (minus w t p))
-Reachable w Absolute f t p = Unit {0}
-Reachable w PcRelative f t p = Unit {0}
-Reachable w HighPcRelative f t p = Unit {0}
-Reachable w HighAbsolute f t p = Unit {0}
-Reachable w LowAbsolute f t p = Unit {0}
-Reachable w LowOfPair f t p = Unit {0}
+Reachable w (Of part operand) f t p = PartReachable w part f t p
 Reachable w Add f t p = Unit {0}
 Reachable w Sub f t p = Unit {0}
 Reachable w Set f t p = Unit {0}
 
 abbrev pub ReachWell : List ℕ → Site → ℕ → ℕ → Type 0
-ReachWell object x j t = (c : Calculation) (f : Field) (form : Form) (n : ℕ) → decisionAt object x j ≡ Store c f form n → Reachable (addressWidth object) c f t (P object x j)
+ReachWell object x j t = (r : Rule) → decisionAt object x j ≡ Store r → Reachable (addressWidth object) (r .calculation) (r .field) t (P object x j)
 
 -- ---- 14 "padding not on its boundary": "P + A a multiple of the smallest power of two at least A + 2"
 

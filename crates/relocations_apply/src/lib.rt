@@ -14,11 +14,11 @@ ghost use Rattle.order_format.specs.Orders.{reading};
 ghost use Rattle.placing_symbols.specs.Requires.{SymbolsOf};
 ghost use Rattle.relocations_rela.specs.Sites.{count, entry, found};
 ghost use Rattle.relocations_values.specs.Values.{S};
-ghost use Rattle.relocations_decisions.specs.Effects.{takesPair};
+ghost use Rattle.relocations_decisions.specs.Decisions.{takesPair};
 ghost use Rattle.relocations_rules.specs.Search.{relocationCheck};
 ghost use Rattle.relocations_rela.specs.Requires.{There, InTable, Placed};
 ghost use Rattle.relocations_decisions.specs.Widths.{isDataField, onData};
-ghost use Rattle.relocations_bytes.specs.Patches.{highPart, lowPart, patched};
+ghost use Rattle.relocations_bytes.specs.Patches.{highPart, lowPart, operandOf, partOf, patched};
 ghost use Rattle.relocations_bytes.specs.Sections.{sumAt, distanceAt, pairDistance, applied, after, relaOf, relocated};
 ghost use Rattle.relocations_bytes.specs.Requires.{Checked};
 use instructions_encode::put_field;
@@ -43,6 +43,8 @@ use relocations_rela::sites::site_at;
 use relocations_rules::RelocationCheck;
 use relocations_types::Calculation;
 use relocations_types::Decision;
+use relocations_types::Operand;
+use relocations_types::Part;
 use relocations_types::decide;
 use relocations_values::pairs::Pair;
 use relocations_values::pairs::hi20_pair;
@@ -86,23 +88,41 @@ fn data_width(field: Field) -> Width
     }
 }
 
+// The operand. t is T, p is P, and d is the paired high half's T - P.
+fn operand_of(operand: Operand, t: Address, p: Address, d: u32) -> u32
+    ensures { λ r. ⌜ r ≡ operandOf 32 operand (t .0) (p .0) d ⌝ }
+{
+    match operand {
+        Operand::Absolute => t.0,
+        Operand::PcRelative => numbers_arithmetic::sub32(t.0, p.0 as u64),
+        Operand::Paired => d,
+    }
+}
+
+// A part of an operand, as its field takes it.
+fn part_of(part: Part, v: u32) -> u64
+    ensures { λ r. ⌜ r ≡ partOf 32 part v ⌝ }
+{
+    match part {
+        Part::Whole => v as u64,
+        Part::Distance => v as u64,
+        Part::High => high_part(v),
+        Part::Low => low_part(v),
+        Part::BothHalves => both_halves(v),
+    }
+}
+
 // The touched bytes after a relocation. w is these bytes before it, x is S + A in two's complement, p is P, and d is
 // the paired high half's T - P.
 fn patch(calculation: Calculation, field: Field, w: u64, x: u64, p: Address, d: u32) -> u64
     requires { ⌜ onData calculation field ≡ true ⌝ }
     ensures { λ r. ⌜ r ≡ patched 32 calculation field w (signed 64 x) (p .0) d ⌝ }
 {
-    let t = Address((x % 0x1_0000_0000) as u32);
-    let distance = numbers_arithmetic::sub32(t.0, p.0 as u64);
     match calculation {
-        Calculation::Absolute => put_field(field, w, t.0 as u64),
-        Calculation::PcRelative => put_field(field, w, distance as u64),
-        Calculation::Distance => put_field(field, w, distance as u64),
-        Calculation::BothHalves => put_field(field, w, both_halves(distance)),
-        Calculation::HighPcRelative => put_field(field, w, high_part(distance)),
-        Calculation::HighAbsolute => put_field(field, w, high_part(t.0)),
-        Calculation::LowAbsolute => put_field(field, w, low_part(t.0)),
-        Calculation::LowOfPair => put_field(field, w, low_part(d)),
+        Calculation::Of(part, operand) => {
+            let t = Address((x % 0x1_0000_0000) as u32);
+            put_field(field, w, part_of(part, operand_of(operand, t, p, d)))
+        }
         Calculation::Add => add(data_width(field), w, x),
         Calculation::Sub => sub(data_width(field), w, x),
         Calculation::Set => set(data_width(field), w, x),
@@ -211,7 +231,10 @@ fn apply(
     let here = elf_read::read_relocation(object, site.rela, j);
     let at = here.offset.0 as usize;
     match decide(here.kind) {
-        Decision::Store(calculation, field, _, n) => {
+        Decision::Store(rule) => {
+            let calculation = rule.calculation;
+            let field = rule.field;
+            let n = rule.size;
             let x = sum_at(object, order, counts, symbols, addresses, site, j);
             let d = distance_for(
                 calculation,

@@ -11,7 +11,9 @@ use Rattle.instructions_fields.specs.declared.Field.{Field}
 use Rattle.instructions_fields.specs.Layouts.{formatU, formatI, read, outside}
 use Rattle.instructions_fields.specs.Fields.{layout, valueBits}
 use Rattle.relocations_types.specs.declared.Calculation.{Calculation}
-use Rattle.relocations_types.specs.declared.Calculation.the-variants.{Absolute, PcRelative, Distance, BothHalves, HighPcRelative, HighAbsolute, LowAbsolute, LowOfPair, Add, Sub, Set}
+use Rattle.relocations_types.specs.declared.Calculation.the-variants.{Of, Add, Sub, Set}
+use Rattle.relocations_types.specs.declared.Part.{Part}
+use Rattle.relocations_types.specs.declared.Part.the-variants.{Whole, Distance, High, Low, BothHalves}
 use Rattle.relocations_types.specs.declared.Decision.{Decision}
 use Rattle.relocations_types.specs.declared.Decision.the-variants.{Marker, Align, Store, Refused}
 use Rattle.instructions_riscv.specs.Halves.{low}
@@ -20,27 +22,20 @@ use Rattle.relocations_rela.specs.declared.sites.Site.{Site}
 use Rattle.elf_read.specs.Headers.{addressWidth}
 use Rattle.relocations_rela.specs.Sites.{count, decisionAt, offset, P, found}
 use Rattle.relocations_values.specs.Values.{targetAt}
-use Rattle.relocations_bytes.specs.Patches.{highPart}
+use Rattle.relocations_bytes.specs.Patches.{highPart, operandOf}
 use Rattle.relocations_bytes.specs.Sections.{sumAt, pairDistance}
 
 -- ---- ADD, SUB and SET at one place
 
--- One of them, applied to what those before it left. Check 9 lets no other type share their place; the other lines only complete the match.
+-- One of them, applied to what those before it left. Check 9 lets no other type share their place; the last line only completes the match.
 abbrev pub stackStep : Calculation → ℤ → ℤ → ℤ
 stackStep Add v x = v +ℤ x
 stackStep Sub v x = v -ℤ x
 stackStep Set v x = x
-stackStep Absolute v x = v
-stackStep PcRelative v x = v
-stackStep Distance v x = v
-stackStep BothHalves v x = v
-stackStep HighPcRelative v x = v
-stackStep HighAbsolute v x = v
-stackStep LowAbsolute v x = v
-stackStep LowOfPair v x = v
+stackStep (Of part operand) v x = v
 
 abbrev pub stackOn : Decision → Bool → ℤ → ℤ → ℤ
-stackOn (Store c f form n) here v x = cond here (stackStep c v x) v
+stackOn (Store r) here v x = cond here (stackStep (r .calculation) v x) v
 stackOn Marker here v x = v
 stackOn Align here v x = v
 stackOn Refused here v x = v
@@ -58,22 +53,21 @@ stackAt object order addresses x at v (suc j) =
 abbrev pub extended : ℕ → ℕ → ℕ
 extended w u = residue w (signed 32 u)
 
-abbrev pub Said : ℕ → Calculation → Field → ℕ → ℕ → ℕ → ℕ → ℤ → Type 0
--- 1: the low 32 bits of T, which are as many as the field has
-Said w Absolute f b t p d total = read (layout f) b ≡ t % 2 ^ valueBits f
--- 57: likewise the low 32 bits of T - P, which is T - P modulo 2^32
-Said w PcRelative f b t p d total = read (layout f) b ≡ minus w t p % 2 ^ valueBits f
+-- a part of the operand v
+abbrev pub SaidPart : ℕ → Part → Field → ℕ → ℕ → ℕ → ℕ → Type 0
+-- 1, 57: the low 32 bits of T and of T - P, which are as many as the field has
+SaidPart w Whole f b v t p = read (layout f) b ≡ v % 2 ^ valueBits f
 -- 16, 17, 44, 45: the field, as a signed number, is the whole distance T - P
-Said w Distance f b t p d total = signed (valueBits f) (read (layout f) b) ≡ distance t p
--- 18, 19: the high half and the low half, each read out of its own instruction, add up to T - P modulo 2^32
-Said w BothHalves f b t p d total = residue w (signed 32 (read formatU b) +ℤ signed 12 (read formatI (b / 2 ^ 32))) ≡ minus w t p
+SaidPart w Distance f b v t p = signed (valueBits f) (read (layout f) b) ≡ distance t p
 -- 23, 26: the high half of T - P; of T
-Said w HighPcRelative f b t p d total = extended w (read (layout f) b) ≡ highPart w (minus w t p)
-Said w HighAbsolute f b t p d total = extended w (read (layout f) b) ≡ highPart w t
--- 27, 28: the low half of T, from -2,048 to 2,047
-Said w LowAbsolute f b t p d total = signed 12 (read (layout f) b) ≡ low w t
--- 24, 25: the low half of the paired high half's T - P
-Said w LowOfPair f b t p d total = signed 12 (read (layout f) b) ≡ low w d
+SaidPart w High f b v t p = extended w (read (layout f) b) ≡ highPart w v
+-- 27, 28: the low half of T, from -2,048 to 2,047; 24, 25: the low half of the paired high half's T - P
+SaidPart w Low f b v t p = signed 12 (read (layout f) b) ≡ low w v
+-- 18, 19: the high half and the low half, each read out of its own instruction, add up to T - P modulo 2^32
+SaidPart w BothHalves f b v t p = residue w (signed 32 (read formatU b) +ℤ signed 12 (read formatI (b / 2 ^ 32))) ≡ v
+
+abbrev pub Said : ℕ → Calculation → Field → ℕ → ℕ → ℕ → ℕ → ℤ → Type 0
+Said w (Of part operand) f b t p d total = SaidPart w part f b (operandOf w operand t p d) t p
 -- 33..40, 52..56: the number that the whole stack gives, modulo 2 to the power of the width
 Said w Add f b t p d total = read (layout f) b ≡ residue (valueBits f) total
 Said w Sub f b t p d total = read (layout f) b ≡ residue (valueBits f) total
@@ -82,9 +76,9 @@ Said w Set f b t p d total = read (layout f) b ≡ residue (valueBits f) total
 -- A store at an offset of a section that was `before` and is now `final`: what is read there, and that the bits outside the field are still
 -- the object's.
 abbrev pub Stored : ℕ → Decision → List ℕ → List ℕ → ℕ → ℕ → ℕ → ℕ → (ℕ → ℤ) → Type 0
-Stored w (Store c f form n) before final at t p d total =
-    Said w c f (leAt n final at) t p d (total (read (layout f) (leAt n before at)))
-    × (outside (layout f) (leAt n final at) ≡ outside (layout f) (leAt n before at))
+Stored w (Store r) before final at t p d total =
+    Said w (r .calculation) (r .field) (leAt (r .size) final at) t p d (total (read (layout (r .field)) (leAt (r .size) before at)))
+    × (outside (layout (r .field)) (leAt (r .size) final at) ≡ outside (layout (r .field)) (leAt (r .size) before at))
 Stored w Marker before final at t p d total = Unit {0}
 Stored w Align before final at t p d total = Unit {0}
 Stored w Refused before final at t p d total = Unit {0}

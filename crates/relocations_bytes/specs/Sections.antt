@@ -22,10 +22,10 @@ use Rattle.relocations_values.specs.Pairs.{pairOf}
 use Rattle.relocations_rules.specs.Rules.{symbol}
 use Rattle.relocations_bytes.specs.Patches.{patched}
 
--- A section's bytes after one relocation, where addresses have w bits. A store patches the n bytes at an offset, read as one number; every
+-- A section's bytes after one relocation, where addresses have w bits. A store patches the bytes at an offset, read as one number; every
 -- other decision changes nothing.
 abbrev pub stored : ℕ → Decision → ℕ → ℤ → ℕ → ℕ → List ℕ → List ℕ
-stored w (Store c f form n) at x p d s = sets s at (bytes n (patched w c f (leAt n s at) x p d))
+stored w (Store r) at x p d s = sets s at (bytes (r .size) (patched w (r .calculation) (r .field) (leAt (r .size) s at) x p d))
 stored w Marker at x p d s = s
 stored w Align at x p d s = s
 stored w Refused at x p d s = s

@@ -7,10 +7,11 @@ use Prim.Native.Nat.{ℕ, _<_}
 use lib.Dec.{leb, ltb}
 use Rattle.numbers_definitions.specs.Bytes.{leAt}
 use Rattle.numbers_definitions.specs.First.{everywhere}
-use Rattle.instructions_fields.specs.declared.Field.{Field}
 use Rattle.instructions_fields.specs.declared.Field.the-variants.{U}
-use Rattle.instructions_riscv.specs.declared.forms.Form.{Form}
-use Rattle.relocations_types.specs.declared.Calculation.the-variants.{HighAbsolute, LowAbsolute, LowOfPair}
+use Rattle.relocations_types.specs.declared.Operand.the-variants.{Absolute, Paired}
+use Rattle.relocations_types.specs.declared.Part.the-variants.{High, Low}
+use Rattle.relocations_types.specs.declared.Calculation.the-variants.{Of}
+use Rattle.relocations_types.specs.declared.Rule.{Rule}
 use Rattle.relocations_types.specs.declared.Decision.the-variants.{Store}
 use Rattle.relocations_rela.specs.declared.sites.Site.{Site}
 use Rattle.relocations_values.specs.declared.pairs.Pair.the-variants.{At}
@@ -33,10 +34,10 @@ untouched object x b = everywhere (λ j. not (touches object x j b)) (count x)
 -- "the high half and the low half laid for one address or distance add up to it modulo 2^32": modulo 2^w, where addresses have w bits
 pub record Halves (object order addresses : List ℕ) (x : Site) (final : List ℕ) : Type 0 where
   -- 26 with 27 or 28: for one address T, anywhere in the section
-  pub address : (i j : ℕ) → i < count x → j < count x → (f g : Field) (a b : Form) (m n : ℕ) → decisionAt object x i ≡ Store HighAbsolute f a m → decisionAt object x j ≡ Store LowAbsolute g b n
-      → targetAt object order addresses x i ≡ targetAt object order addresses x j
-      → AddUp (addressWidth object) f (leAt m final (offset object x i)) g (leAt n final (offset object x j)) (targetAt object order addresses x i)
+  pub address : (i j : ℕ) → i < count x → j < count x → (a b : Rule) → decisionAt object x i ≡ Store a → decisionAt object x j ≡ Store b
+      → a .calculation ≡ Of High Absolute → b .calculation ≡ Of Low Absolute → targetAt object order addresses x i ≡ targetAt object order addresses x j
+      → AddUp (addressWidth object) (a .field) (leAt (a .size) final (offset object x i)) (b .field) (leAt (b .size) final (offset object x j)) (targetAt object order addresses x i)
   -- 23 with 24 or 25: the low half has exactly one pair, and the two halves add up to the distance of that pair
-  pub distance : (j : ℕ) → j < count x → (g : Field) (b : Form) (n : ℕ) → decisionAt object x j ≡ Store LowOfPair g b n
+  pub distance : (j : ℕ) → j < count x → (b : Rule) → decisionAt object x j ≡ Store b → b .calculation ≡ Of Low Paired
       → (k : ℕ) × (k < count x) × (pairOf object x (symbol object x j .value) ≡ At k)
-      × AddUp (addressWidth object) U (leAt 4 final (offset object x k)) g (leAt n final (offset object x j)) (distanceAt object order addresses x k)
+      × AddUp (addressWidth object) U (leAt 4 final (offset object x k)) (b .field) (leAt (b .size) final (offset object x j)) (distanceAt object order addresses x k)

@@ -8,8 +8,8 @@ ghost use Rattle.numbers_definitions.specs.Whole.{signed};
 ghost use Rattle.elf_check.specs.Requires.{SoundObject};
 ghost use Rattle.placing_symbols.specs.Requires.{SymbolsOf};
 ghost use Rattle.relocations_rela.specs.Sites.{entry, decisionAt, offset};
-ghost use Rattle.relocations_decisions.specs.Effects.{touched, needsPair};
-ghost use Rattle.relocations_rules.specs.Rules.{isResolved, inTarget, symbolWell, isData, standsWell, formWell, isOne, pairWell, reachesWell, distanceWell, boundaryWell};
+ghost use Rattle.relocations_decisions.specs.Decisions.{touched, needsPair};
+ghost use Rattle.relocations_rules.specs.Rules.{isResolved, inTarget, symbolWell, isData, standsWell, formWell, isOne, pairWell, partReaches, reachesWell, distanceWell, boundaryWell};
 ghost use Rattle.relocations_rela.specs.Requires.{There, InTable};
 ghost use Rattle.numbers_bytes.specs.Widths.{isWidth};
 use instructions_fields::Field;
@@ -27,6 +27,7 @@ use relocations_decisions::needs_pair;
 use relocations_rela::sites::Site;
 use relocations_types::Calculation;
 use relocations_types::Decision;
+use relocations_types::Part;
 use relocations_types::decide;
 use relocations_values::pairs::Pair;
 use relocations_values::pairs::hi20_pair;
@@ -113,9 +114,10 @@ pub fn is_form_well(object: &[u8], site: Site, j: usize) -> bool
 {
     let here = elf_read::read_relocation(object, site.rela, j);
     match decide(here.kind) {
-        Decision::Store(_, _, form, n) => {
+        Decision::Store(rule) => {
+            let form = rule.form;
             let bytes = elf_read::section_bytes(object, site.target);
-            has_form_at(bytes, site.address, here.offset, n, form)
+            has_form_at(bytes, site.address, here.offset, rule.size, form)
         }
         Decision::Marker => true,
         Decision::Align => true,
@@ -145,19 +147,25 @@ pub fn is_paired(object: &[u8], symbols: Symbols, site: Site, j: usize) -> bool
     is_one(hi20_pair(object, site, symbol.value))
 }
 
+// Whether a part and its field allow the distance from p to t.
+fn part_reaches(part: Part, field: Field, t: Address, p: Address) -> bool
+    ensures { λ r. ⌜ r ≡ partReaches 32 part field (t .0) (p .0) ⌝ }
+{
+    match part {
+        Part::Whole => true,
+        Part::Distance => in_reach(range_of(field), t, p),
+        Part::High => true,
+        Part::Low => true,
+        Part::BothHalves => numbers_arithmetic::sub32(t.0, p.0 as u64) % 2 == 0,
+    }
+}
+
 // Whether a calculation and its field allow the distance from p to t.
 fn reaches_well(calculation: Calculation, field: Field, t: Address, p: Address) -> bool
     ensures { λ r. ⌜ r ≡ reachesWell 32 calculation field (t .0) (p .0) ⌝ }
 {
     match calculation {
-        Calculation::Distance => in_reach(range_of(field), t, p),
-        Calculation::BothHalves => numbers_arithmetic::sub32(t.0, p.0 as u64) % 2 == 0,
-        Calculation::Absolute => true,
-        Calculation::PcRelative => true,
-        Calculation::HighPcRelative => true,
-        Calculation::HighAbsolute => true,
-        Calculation::LowAbsolute => true,
-        Calculation::LowOfPair => true,
+        Calculation::Of(part, _) => part_reaches(part, field, t, p),
         Calculation::Add => true,
         Calculation::Sub => true,
         Calculation::Set => true,
@@ -169,7 +177,11 @@ pub fn is_in_reach(decision: Decision, t: Address, p: Address) -> bool
     ensures { λ r. ⌜ r ≡ distanceWell 32 decision (t .0) (p .0) ⌝ }
 {
     match decision {
-        Decision::Store(calculation, field, _, _) => reaches_well(calculation, field, t, p),
+        Decision::Store(rule) => {
+            let calculation = rule.calculation;
+            let field = rule.field;
+            reaches_well(calculation, field, t, p)
+        }
         Decision::Marker => true,
         Decision::Align => true,
         Decision::Refused => true,
@@ -184,7 +196,7 @@ pub fn is_on_boundary(decision: Decision, start: Address, at: SectionOffset, add
     let p = start.0 as u64 + at.0 as u64;
     match decision {
         Decision::Align => (p + addend) % numbers_arithmetic::ceil_power(addend as u32 + 2) == 0,
-        Decision::Store(_, _, _, _) => true,
+        Decision::Store(_) => true,
         Decision::Marker => true,
         Decision::Refused => true,
     }

@@ -1,2 +1,2 @@
-pub mod Effects
+pub mod Decisions
 pub mod Widths

@@ -3,7 +3,7 @@ use mathlib.Core.Bool.{Bool, true, false, not, _||_}
 use Rattle.instructions_fields.specs.declared.Field.{Field}
 use Rattle.instructions_fields.specs.declared.Field.the-variants.{U, I, S, B, J, Cb, Cj, Call, Data}
 use Rattle.relocations_types.specs.declared.Calculation.{Calculation}
-use Rattle.relocations_decisions.specs.Effects.{stacks}
+use Rattle.relocations_decisions.specs.Decisions.{stacks}
 
 -- a field of data
 abbrev pub isDataField : Field → Bool

@@ -1,18 +1,21 @@
 // What the rules need to know about a type's decision.
 ghost use mathlib.Core.Path.{_≡_};
 ghost use Rattle.instructions_fields.specs.Fields.{valueBits};
-ghost use Rattle.relocations_decisions.specs.Effects.{isStore, isRefused, touched, stacks, stackWidth, takesPair, needsPair};
+ghost use Rattle.relocations_decisions.specs.Decisions.{isStore, isRefused, touched, stacks, stackBits, stackWidth, isPaired, takesPair, needsPair, isHighOfPair, givesPair};
 use instructions_fields::Field;
 use instructions_fields::Width;
 use relocations_types::Calculation;
 use relocations_types::Decision;
+use relocations_types::Operand;
+use relocations_types::Role;
+use relocations_types::Rule;
 
 // Whether bytes are stored (document 01: a non-marker).
 pub fn is_store(decision: Decision) -> bool
     ensures { λ r. ⌜ r ≡ isStore decision ⌝ }
 {
     match decision {
-        Decision::Store(_, _, _, _) => true,
+        Decision::Store(_) => true,
         Decision::Marker => false,
         Decision::Align => false,
         Decision::Refused => false,
@@ -24,7 +27,7 @@ pub fn is_refused(decision: Decision) -> bool
 {
     match decision {
         Decision::Refused => true,
-        Decision::Store(_, _, _, _) => false,
+        Decision::Store(_) => false,
         Decision::Marker => false,
         Decision::Align => false,
     }
@@ -35,7 +38,7 @@ pub fn bytes_touched(decision: Decision) -> usize
     ensures { λ r. ⌜ r ≡ touched decision ⌝ }
 {
     match decision {
-        Decision::Store(_, _, _, n) => n,
+        Decision::Store(rule) => rule.size,
         Decision::Marker => 0,
         Decision::Align => 0,
         Decision::Refused => 0,
@@ -47,14 +50,7 @@ fn is_stacked(calculation: Calculation) -> bool
     ensures { λ r. ⌜ r ≡ stacks calculation ⌝ }
 {
     match calculation {
-        Calculation::Absolute => false,
-        Calculation::PcRelative => false,
-        Calculation::Distance => false,
-        Calculation::BothHalves => false,
-        Calculation::HighPcRelative => false,
-        Calculation::HighAbsolute => false,
-        Calculation::LowAbsolute => false,
-        Calculation::LowOfPair => false,
+        Calculation::Of(_, _) => false,
         Calculation::Add => true,
         Calculation::Sub => true,
         Calculation::Set => true,
@@ -84,21 +80,37 @@ fn value_bits(field: Field) -> u32
     }
 }
 
+// The width of an ADD, SUB or SET in bits, or 0 for any other calculation.
+fn stack_bits(rule: Rule) -> u32
+    ensures { λ r. ⌜ r ≡ stackBits rule ⌝ }
+{
+    let calculation = rule.calculation;
+    let field = rule.field;
+    if is_stacked(calculation) {
+        return value_bits(field);
+    }
+    0
+}
+
 // The width of an ADD, SUB or SET in bits, or 0 for any other type.
 pub fn stack_width(decision: Decision) -> u32
     ensures { λ r. ⌜ r ≡ stackWidth decision ⌝ }
 {
     match decision {
-        Decision::Store(calculation, field, _, _) => {
-            if is_stacked(calculation) {
-                value_bits(field)
-            } else {
-                0
-            }
-        }
+        Decision::Store(rule) => stack_bits(rule),
         Decision::Marker => 0,
         Decision::Align => 0,
         Decision::Refused => 0,
+    }
+}
+
+fn is_paired(operand: Operand) -> bool
+    ensures { λ r. ⌜ r ≡ isPaired operand ⌝ }
+{
+    match operand {
+        Operand::Absolute => false,
+        Operand::PcRelative => false,
+        Operand::Paired => true,
     }
 }
 
@@ -107,14 +119,7 @@ pub fn takes_pair(calculation: Calculation) -> bool
     ensures { λ r. ⌜ r ≡ takesPair calculation ⌝ }
 {
     match calculation {
-        Calculation::Absolute => false,
-        Calculation::PcRelative => false,
-        Calculation::Distance => false,
-        Calculation::BothHalves => false,
-        Calculation::HighPcRelative => false,
-        Calculation::HighAbsolute => false,
-        Calculation::LowAbsolute => false,
-        Calculation::LowOfPair => true,
+        Calculation::Of(_, operand) => is_paired(operand),
         Calculation::Add => false,
         Calculation::Sub => false,
         Calculation::Set => false,
@@ -125,7 +130,34 @@ pub fn needs_pair(decision: Decision) -> bool
     ensures { λ r. ⌜ r ≡ needsPair decision ⌝ }
 {
     match decision {
-        Decision::Store(calculation, _, _, _) => takes_pair(calculation),
+        Decision::Store(rule) => {
+            let calculation = rule.calculation;
+            takes_pair(calculation)
+        }
+        Decision::Marker => false,
+        Decision::Align => false,
+        Decision::Refused => false,
+    }
+}
+
+fn is_high_of_pair(role: Role) -> bool
+    ensures { λ r. ⌜ r ≡ isHighOfPair role ⌝ }
+{
+    match role {
+        Role::Plain => false,
+        Role::HighOfPair => true,
+    }
+}
+
+// Whether it is a PCREL_HI20, with which a PCREL_LO12 pairs.
+pub fn gives_pair(decision: Decision) -> bool
+    ensures { λ r. ⌜ r ≡ givesPair decision ⌝ }
+{
+    match decision {
+        Decision::Store(rule) => {
+            let role = rule.role;
+            is_high_of_pair(role)
+        }
         Decision::Marker => false,
         Decision::Align => false,
         Decision::Refused => false,

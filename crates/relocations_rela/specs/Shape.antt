@@ -11,7 +11,7 @@ use Rattle.relocations_rela.specs.declared.sites.Site.{Site}
 use Rattle.relocations_rela.specs.declared.shape.Previous.{Previous}
 use Rattle.relocations_rela.specs.declared.shape.Previous.the-variants.{Nothing, Entry}
 use Rattle.relocations_rela.specs.Sites.{offset, decisionAt, A}
-use Rattle.relocations_decisions.specs.Effects.{isStore, isRefused, touched, stackWidth, takesPair}
+use Rattle.relocations_decisions.specs.Decisions.{isStore, isRefused, touched, stackWidth, takesPair}
 
 -- "Record offsets never fall."
 unfoldable pub neverFalls : List ℕ → Site → ℕ → Bool
@@ -49,7 +49,7 @@ noOverlap object x j = not (isStore (decisionAt object x j)) || clears object x 
 -- The addend rules, at an offset in a section of some size. ALIGN: "A even, 0 to 4,094, offset + A inside the row"; 24, 25: "A must be 0".
 abbrev pub addendWell : Decision → ℕ → ℕ → ℤ → Bool
 addendWell Align at size a = within 0 4094 a && even a && leb (at + natAbs a) size
-addendWell (Store c f form n) at size a = not (takesPair c) || eqb (natAbs a) 0
+addendWell (Store r) at size a = not (takesPair (r .calculation)) || eqb (natAbs a) 0
 addendWell Marker at size a = true
 addendWell Refused at size a = true
 

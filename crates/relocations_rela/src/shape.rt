@@ -2,7 +2,7 @@
 ghost use mathlib.Core.Path.{_≡_};
 ghost use mathlib.Core.Bool.{cond};
 ghost use Rattle.numbers_definitions.specs.Whole.{signed};
-ghost use Rattle.relocations_decisions.specs.Effects.{isStore};
+ghost use Rattle.relocations_decisions.specs.Decisions.{isStore};
 ghost use Rattle.relocations_rela.specs.Shape.{neverFalls, previous as «the-previous», clears, addendWell, shapeWell};
 ghost use Rattle.relocations_rela.specs.Requires.{There};
 use super::sites::Site;
@@ -75,7 +75,7 @@ fn is_addend_allowed(decision: Decision, at: SectionOffset, size: u32, addend: u
 {
     match decision {
         Decision::Align => is_padding(at, size, addend),
-        Decision::Store(_, _, _, _) => !needs_pair(decision) | (addend == 0),
+        Decision::Store(_) => !needs_pair(decision) | (addend == 0),
         Decision::Marker => true,
         Decision::Refused => true,
     }

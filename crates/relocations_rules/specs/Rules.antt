@@ -16,7 +16,9 @@ use Rattle.instructions_fields.specs.declared.Field.{Field}
 use Rattle.instructions_riscv.specs.declared.forms.Form.{Form}
 use Rattle.instructions_riscv.specs.declared.forms.Form.the-variants.{Any, Lui, Auipc, Jal, Branch, LowI, LowS, CallPair, CBranch, CJump}
 use Rattle.relocations_types.specs.declared.Calculation.{Calculation}
-use Rattle.relocations_types.specs.declared.Calculation.the-variants.{Absolute, PcRelative, Distance, BothHalves, HighPcRelative, HighAbsolute, LowAbsolute, LowOfPair, Add, Sub, Set}
+use Rattle.relocations_types.specs.declared.Calculation.the-variants.{Of, Add, Sub, Set}
+use Rattle.relocations_types.specs.declared.Part.{Part}
+use Rattle.relocations_types.specs.declared.Part.the-variants.{Whole, Distance, High, Low, BothHalves}
 use Rattle.relocations_types.specs.declared.Decision.{Decision}
 use Rattle.relocations_types.specs.declared.Decision.the-variants.{Marker, Align, Store, Refused}
 use Rattle.instructions_riscv.specs.Forms.{hasForm}
@@ -25,7 +27,7 @@ use Rattle.relocations_rela.specs.declared.sites.Site.{Site}
 use Rattle.relocations_values.specs.declared.pairs.Pair.{Pair}
 use Rattle.relocations_values.specs.declared.pairs.Pair.the-variants.{At, NotOne}
 use Rattle.relocations_rela.specs.Sites.{entry, offset, decisionAt, P, found}
-use Rattle.relocations_decisions.specs.Effects.{isStore, needsPair}
+use Rattle.relocations_decisions.specs.Decisions.{isStore, needsPair}
 use Rattle.relocations_values.specs.Pairs.{pairOf}
 
 -- ---- check 10
@@ -68,7 +70,7 @@ unfoldable pub standsWell : Form → ℕ → ℕ → Bool
 standsWell form p w = isData form || (eqb (p % 2) 0 && hasForm form w (w / 2 ^ 32))
 
 abbrev pub asksWell : Decision → ℕ → List ℕ → ℕ → Bool
-asksWell (Store c f form n) p s at = standsWell form p (leAt n s at)
+asksWell (Store r) p s at = standsWell (r .form) p (leAt (r .size) s at)
 asksWell Marker p s at = true
 asksWell Align p s at = true
 asksWell Refused p s at = true
@@ -88,22 +90,23 @@ pairWell object x j = not (needsPair (decisionAt object x j)) || isOne (pairOf o
 
 -- ---- check 13, for addresses of w bits, t, which is T, and p, which is P
 
--- 16, 17, 44, 45: "the distance is the whole number T - P", "even", and in the field's range; 18, 19: "T - P modulo 2^32, which is even"
+-- of a part: 16, 17, 44, 45: "the distance is the whole number T - P", "even", and in the field's range; 18, 19: "T - P modulo 2^32, which is
+-- even"
+abbrev pub partReaches : ℕ → Part → Field → ℕ → ℕ → Bool
+partReaches w Whole f t p = true
+partReaches w Distance f t p = reaches (rangeOf f) (distance t p)
+partReaches w High f t p = true
+partReaches w Low f t p = true
+partReaches w BothHalves f t p = even (pos (minus w t p))
+
 abbrev pub reachesWell : ℕ → Calculation → Field → ℕ → ℕ → Bool
-reachesWell w Distance f t p = reaches (rangeOf f) (distance t p)
-reachesWell w BothHalves f t p = even (pos (minus w t p))
-reachesWell w Absolute f t p = true
-reachesWell w PcRelative f t p = true
-reachesWell w HighPcRelative f t p = true
-reachesWell w HighAbsolute f t p = true
-reachesWell w LowAbsolute f t p = true
-reachesWell w LowOfPair f t p = true
+reachesWell w (Of part operand) f t p = partReaches w part f t p
 reachesWell w Add f t p = true
 reachesWell w Sub f t p = true
 reachesWell w Set f t p = true
 
 abbrev pub distanceWell : ℕ → Decision → ℕ → ℕ → Bool
-distanceWell w (Store c f form n) t p = reachesWell w c f t p
+distanceWell w (Store r) t p = reachesWell w (r .calculation) (r .field) t p
 distanceWell w Marker t p = true
 distanceWell w Align t p = true
 distanceWell w Refused t p = true
@@ -112,6 +115,6 @@ distanceWell w Refused t p = true
 
 abbrev pub boundaryWell : Decision → ℕ → ℤ → Bool
 boundaryWell Align p a = eqb ((p + natAbs a) % ceilPower 32 (natAbs a + 2)) 0
-boundaryWell (Store c f form n) p a = true
+boundaryWell (Store r) p a = true
 boundaryWell Marker p a = true
 boundaryWell Refused p a = true

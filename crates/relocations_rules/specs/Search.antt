@@ -1,7 +1,7 @@
 -- "Records go by RELA row, then file order, each through 9 to 14 before the next."
 use Prim.Native.Nat.{ℕ}
 use mathlib.Core.Bool.{Bool, true, false, cond}
-use mathlib.Core.List.{List}
+use mathlib.Core.List.{List, [], _∷_, _++_}
 use lib.Dec.{ltb}
 use Rattle.numbers_definitions.specs.First.{first}
 use Rattle.elf_read.specs.Headers.{addressWidth}
@@ -26,17 +26,40 @@ number NoPair = 12
 number OutOfReach = 13
 number OffBoundary = 14
 
--- the first of 9 to 14 that relocation j of a site breaks
-unfoldable pub finding : List ℕ → List ℕ → List ℕ → Site → ℕ → Finding
-finding object order addresses x j =
-    let value = valueAt object order addresses x j in
-    cond (shapeWell object x j)
-    (cond (symbolWell object x j value)
-    (cond (formWell object x j)
-    (cond (pairWell object x j)
-    (cond (distanceWell (addressWidth object) (decisionAt object x j) (targetAt object order addresses x j) (P object x j))
-    (cond (boundaryWell (decisionAt object x j) (P object x j) (A object x j)) Kept OffBoundary)
-    OutOfReach) NoPair) BadForm) BadSymbol) BadShape
+-- a check of one relocation: what is found where it is broken, and whether it is kept
+pub record Check : Type 0 where
+  pub broken : Finding
+  pub kept : Bool
+
+abbrev check : Finding → Bool → Check
+check f b = record { broken = f; kept = b }
+
+-- the first check of a list that is broken, if one is
+unfoldable pub firstBroken : List Check → Finding
+firstBroken [] = Kept
+firstBroken (c ∷ cs) = cond (c .kept) (firstBroken cs) (c .broken)
+
+-- "each through 9 to 14 before the next", in two runs
+module _ (object order addresses : List ℕ) (x : Site) (j : ℕ) where
+  -- 9 to 12
+  abbrev pub earlier : List Check
+  earlier =
+      check BadShape (shapeWell object x j)
+      ∷ check BadSymbol (symbolWell object x j (valueAt object order addresses x j))
+      ∷ check BadForm (formWell object x j)
+      ∷ check NoPair (pairWell object x j)
+      ∷ []
+
+  -- 13 and 14
+  abbrev pub later : List Check
+  later =
+      check OutOfReach (distanceWell (addressWidth object) (decisionAt object x j) (targetAt object order addresses x j) (P object x j))
+      ∷ check OffBoundary (boundaryWell (decisionAt object x j) (P object x j) (A object x j))
+      ∷ []
+
+  -- the first of 9 to 14 that relocation j of a site breaks
+  unfoldable pub finding : Finding
+  finding = firstBroken (earlier ++ later)
 
 -- what relocation number k breaks, "counted from 0 over all"
 unfoldable pub findingOf : List ℕ → List ℕ → List ℕ → ℕ → Finding

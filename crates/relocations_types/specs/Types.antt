@@ -6,17 +6,46 @@ use lib.Dec.{eqb}
 use Rattle.instructions_fields.specs.declared.Width.the-variants.{W6, W8, W16, W32, W64}
 use Rattle.instructions_fields.specs.declared.Field.the-variants.{U, I, S, B, J, Cb, Cj, Call, Data}
 use Rattle.instructions_riscv.specs.declared.forms.Form.the-variants.{Any, Lui, Auipc, Jal, Branch, LowI, LowS, CallPair, CBranch, CJump}
-use Rattle.relocations_types.specs.declared.Calculation.the-variants.{Absolute, PcRelative, Distance, BothHalves, HighPcRelative, HighAbsolute, LowAbsolute, LowOfPair, Add, Sub, Set}
+use Rattle.instructions_fields.specs.declared.Width.{Width}
+use Rattle.instructions_fields.specs.declared.Field.{Field}
+use Rattle.instructions_riscv.specs.declared.forms.Form.{Form}
+use Rattle.relocations_types.specs.declared.Operand.{Operand}
+use Rattle.relocations_types.specs.declared.Operand.the-variants.{Absolute, PcRelative, Paired}
+use Rattle.relocations_types.specs.declared.Part.{Part}
+use Rattle.relocations_types.specs.declared.Part.the-variants.{Whole, Distance, High, Low, BothHalves}
+use Rattle.relocations_types.specs.declared.Calculation.{Calculation}
+use Rattle.relocations_types.specs.declared.Calculation.the-variants.{Of, Add, Sub, Set}
+use Rattle.relocations_types.specs.declared.Role.the-variants.{Plain, HighOfPair}
 use Rattle.relocations_types.specs.declared.Decision.{Decision}
 use Rattle.relocations_types.specs.declared.Decision.the-variants.{Marker, Align, Store, Refused}
 
--- a line of the table: types, and what they do
+-- a line of the table: types, and what they ask for
 pub record Line : Type 0 where
   pub types : List ℕ
   pub decisionAt : Decision
 
 abbrev line : List ℕ → Decision → Line
 line ts d = record { types = ts; decisionAt = d }
+
+-- a part of an operand, into n bytes that hold a field and have a form
+abbrev pub of : Part → Operand → Field → Form → ℕ → Decision
+of part operand f form n = Store (record { calculation = Of part operand; field = f; form = form; size = n; role = Plain })
+
+-- a data word
+abbrev pub word : Operand → Decision
+word operand = of Whole operand (Data W32) Any 4
+
+-- a distance
+abbrev pub jump : Field → Form → ℕ → Decision
+jump f form n = of Distance PcRelative f form n
+
+-- the high half that a PCREL_LO12 pairs with
+abbrev pub pairing : Decision
+pairing = Store (record { calculation = Of High PcRelative; field = U; form = Auipc; size = 4; role = HighOfPair })
+
+-- ADD, SUB or SET, on n bytes of data
+abbrev pub stacking : Calculation → Width → ℕ → Decision
+stacking c width n = Store (record { calculation = c; field = Data width; form = Any; size = n; role = Plain })
 
 unfoldable pub table : List Line
 table =
@@ -25,42 +54,42 @@ table =
     -- ALIGN: marker
     ∷ line (43 ∷ []) Align
     -- 32, 32_PCREL
-    ∷ line (1 ∷ []) (Store Absolute (Data W32) Any 4)
-    ∷ line (57 ∷ []) (Store PcRelative (Data W32) Any 4)
+    ∷ line (1 ∷ []) (word Absolute)
+    ∷ line (57 ∷ []) (word PcRelative)
     -- BRANCH, JAL
-    ∷ line (16 ∷ []) (Store Distance B Branch 4)
-    ∷ line (17 ∷ []) (Store Distance J Jal 4)
+    ∷ line (16 ∷ []) (jump B Branch 4)
+    ∷ line (17 ∷ []) (jump J Jal 4)
     -- RVC_BRANCH, RVC_JUMP
-    ∷ line (44 ∷ []) (Store Distance Cb CBranch 2)
-    ∷ line (45 ∷ []) (Store Distance Cj CJump 2)
+    ∷ line (44 ∷ []) (jump Cb CBranch 2)
+    ∷ line (45 ∷ []) (jump Cj CJump 2)
     -- CALL, CALL_PLT
-    ∷ line (18 ∷ 19 ∷ []) (Store BothHalves Call CallPair 8)
+    ∷ line (18 ∷ 19 ∷ []) (of BothHalves PcRelative Call CallPair 8)
     -- PCREL_HI20, HI20
-    ∷ line (23 ∷ []) (Store HighPcRelative U Auipc 4)
-    ∷ line (26 ∷ []) (Store HighAbsolute U Lui 4)
+    ∷ line (23 ∷ []) pairing
+    ∷ line (26 ∷ []) (of High Absolute U Lui 4)
     -- LO12_I, LO12_S
-    ∷ line (27 ∷ []) (Store LowAbsolute I LowI 4)
-    ∷ line (28 ∷ []) (Store LowAbsolute S LowS 4)
+    ∷ line (27 ∷ []) (of Low Absolute I LowI 4)
+    ∷ line (28 ∷ []) (of Low Absolute S LowS 4)
     -- PCREL_LO12_I, PCREL_LO12_S
-    ∷ line (24 ∷ []) (Store LowOfPair I LowI 4)
-    ∷ line (25 ∷ []) (Store LowOfPair S LowS 4)
+    ∷ line (24 ∷ []) (of Low Paired I LowI 4)
+    ∷ line (25 ∷ []) (of Low Paired S LowS 4)
     -- ADD8, ADD16, ADD32, ADD64
-    ∷ line (33 ∷ []) (Store Add (Data W8) Any 1)
-    ∷ line (34 ∷ []) (Store Add (Data W16) Any 2)
-    ∷ line (35 ∷ []) (Store Add (Data W32) Any 4)
-    ∷ line (36 ∷ []) (Store Add (Data W64) Any 8)
+    ∷ line (33 ∷ []) (stacking Add W8 1)
+    ∷ line (34 ∷ []) (stacking Add W16 2)
+    ∷ line (35 ∷ []) (stacking Add W32 4)
+    ∷ line (36 ∷ []) (stacking Add W64 8)
     -- SUB8, SUB16, SUB32, SUB64
-    ∷ line (37 ∷ []) (Store Sub (Data W8) Any 1)
-    ∷ line (38 ∷ []) (Store Sub (Data W16) Any 2)
-    ∷ line (39 ∷ []) (Store Sub (Data W32) Any 4)
-    ∷ line (40 ∷ []) (Store Sub (Data W64) Any 8)
+    ∷ line (37 ∷ []) (stacking Sub W8 1)
+    ∷ line (38 ∷ []) (stacking Sub W16 2)
+    ∷ line (39 ∷ []) (stacking Sub W32 4)
+    ∷ line (40 ∷ []) (stacking Sub W64 8)
     -- SUB6, SET6
-    ∷ line (52 ∷ []) (Store Sub (Data W6) Any 1)
-    ∷ line (53 ∷ []) (Store Set (Data W6) Any 1)
+    ∷ line (52 ∷ []) (stacking Sub W6 1)
+    ∷ line (53 ∷ []) (stacking Set W6 1)
     -- SET8, SET16, SET32
-    ∷ line (54 ∷ []) (Store Set (Data W8) Any 1)
-    ∷ line (55 ∷ []) (Store Set (Data W16) Any 2)
-    ∷ line (56 ∷ []) (Store Set (Data W32) Any 4)
+    ∷ line (54 ∷ []) (stacking Set W8 1)
+    ∷ line (55 ∷ []) (stacking Set W16 2)
+    ∷ line (56 ∷ []) (stacking Set W32 4)
     ∷ []
 
 -- whether a number is in a list

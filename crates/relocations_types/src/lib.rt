@@ -1,30 +1,56 @@
 // The decision from a relocation's type number to its calculation, field and width, or a refusal.
 ghost use mathlib.Core.Path.{_≡_};
-ghost use Rattle.relocations_types.specs.Types.{decision};
+ghost use Rattle.relocations_types.specs.Types.{of as «of-operand», word as «the-word», jump as «the-jump», pairing as «the-pairing», stacking as «the-stacking», decision};
 use instructions_fields::Field;
 use instructions_fields::Width;
 use instructions_riscv::forms::Form;
 
-// What is stored. T is the symbol's value with the addend, and P is the place's address.
-pub enum Calculation {
+// What is calculated with. T is the symbol's value with the addend, and P is the place's address.
+pub enum Operand {
     // T
     Absolute,
     // T - P
     PcRelative,
-    // T - P as a whole number, within the field's range
+    // the paired high half's T - P
+    Paired,
+}
+
+// Which part of it is stored.
+pub enum Part {
+    // all of it
+    Whole,
+    // all of it, as a number that lies in the field's range
     Distance,
-    // both halves of T - P
+    High,
+    Low,
+    // both halves, one in each of two instructions
     BothHalves,
-    // the high half of T - P, and of T
-    HighPcRelative,
-    HighAbsolute,
-    // the low half of T, and of the paired high half's T - P
-    LowAbsolute,
-    LowOfPair,
+}
+
+// What is stored.
+pub enum Calculation {
+    Of(Part, Operand),
     // the present value plus S + A, the present value minus S + A, and S + A alone
     Add,
     Sub,
     Set,
+}
+
+// What a relocation is to others.
+pub enum Role {
+    Plain,
+    // the high half that a PCREL_LO12 pairs with
+    HighOfPair,
+}
+
+// What a type that stores bytes asks for: a calculation, the field that its result goes into, the form that the
+// instruction there must have, how many bytes are touched, and its role.
+pub struct Rule {
+    pub calculation: Calculation,
+    pub field: Field,
+    pub form: Form,
+    pub size: usize,
+    pub role: Role,
 }
 
 // What a type number asks for.
@@ -33,10 +59,61 @@ pub enum Decision {
     Marker,
     // no bytes, but padding that must end on a boundary
     Align,
-    // a calculation, the field that its result goes into, the form that the instruction there must have, and how
-    // many bytes are touched
-    Store(Calculation, Field, Form, usize),
+    Store(Rule),
     Refused,
+}
+
+// A part of an operand.
+fn of(part: Part, operand: Operand, field: Field, form: Form, size: usize) -> Decision
+    ensures { λ r. ⌜ r ≡ «of-operand» part operand field form size ⌝ }
+{
+    Decision::Store(Rule {
+        calculation: Calculation::Of(part, operand),
+        field,
+        form,
+        size,
+        role: Role::Plain,
+    })
+}
+
+// A data word.
+fn word(operand: Operand) -> Decision
+    ensures { λ r. ⌜ r ≡ «the-word» operand ⌝ }
+{
+    of(Part::Whole, operand, Field::Data(Width::W32), Form::Any, 4)
+}
+
+// A distance.
+fn jump(field: Field, form: Form, size: usize) -> Decision
+    ensures { λ r. ⌜ r ≡ «the-jump» field form size ⌝ }
+{
+    of(Part::Distance, Operand::PcRelative, field, form, size)
+}
+
+// The high half that a PCREL_LO12 pairs with.
+fn pairing() -> Decision
+    ensures { λ r. ⌜ r ≡ «the-pairing» ⌝ }
+{
+    Decision::Store(Rule {
+        calculation: Calculation::Of(Part::High, Operand::PcRelative),
+        field: Field::U,
+        form: Form::Auipc,
+        size: 4,
+        role: Role::HighOfPair,
+    })
+}
+
+// ADD, SUB or SET on data.
+fn stacking(calculation: Calculation, width: Width, size: usize) -> Decision
+    ensures { λ r. ⌜ r ≡ «the-stacking» calculation width size ⌝ }
+{
+    Decision::Store(Rule {
+        calculation,
+        field: Field::Data(width),
+        form: Form::Any,
+        size,
+        role: Role::Plain,
+    })
 }
 
 pub fn decide(number: u8) -> Decision
@@ -45,37 +122,38 @@ pub fn decide(number: u8) -> Decision
     match number {
         0 | 51 => Decision::Marker,
         43 => Decision::Align,
-        1 => Decision::Store(Calculation::Absolute, Field::Data(Width::W32), Form::Any, 4),
-        57 => Decision::Store(
-            Calculation::PcRelative,
-            Field::Data(Width::W32),
-            Form::Any,
-            4,
+        1 => word(Operand::Absolute),
+        57 => word(Operand::PcRelative),
+        16 => jump(Field::B, Form::Branch, 4),
+        17 => jump(Field::J, Form::Jal, 4),
+        44 => jump(Field::Cb, Form::CBranch, 2),
+        45 => jump(Field::Cj, Form::CJump, 2),
+        18 | 19 => of(
+            Part::BothHalves,
+            Operand::PcRelative,
+            Field::Call,
+            Form::CallPair,
+            8,
         ),
-        16 => Decision::Store(Calculation::Distance, Field::B, Form::Branch, 4),
-        17 => Decision::Store(Calculation::Distance, Field::J, Form::Jal, 4),
-        44 => Decision::Store(Calculation::Distance, Field::Cb, Form::CBranch, 2),
-        45 => Decision::Store(Calculation::Distance, Field::Cj, Form::CJump, 2),
-        18 | 19 => Decision::Store(Calculation::BothHalves, Field::Call, Form::CallPair, 8),
-        23 => Decision::Store(Calculation::HighPcRelative, Field::U, Form::Auipc, 4),
-        26 => Decision::Store(Calculation::HighAbsolute, Field::U, Form::Lui, 4),
-        27 => Decision::Store(Calculation::LowAbsolute, Field::I, Form::LowI, 4),
-        28 => Decision::Store(Calculation::LowAbsolute, Field::S, Form::LowS, 4),
-        24 => Decision::Store(Calculation::LowOfPair, Field::I, Form::LowI, 4),
-        25 => Decision::Store(Calculation::LowOfPair, Field::S, Form::LowS, 4),
-        33 => Decision::Store(Calculation::Add, Field::Data(Width::W8), Form::Any, 1),
-        34 => Decision::Store(Calculation::Add, Field::Data(Width::W16), Form::Any, 2),
-        35 => Decision::Store(Calculation::Add, Field::Data(Width::W32), Form::Any, 4),
-        36 => Decision::Store(Calculation::Add, Field::Data(Width::W64), Form::Any, 8),
-        37 => Decision::Store(Calculation::Sub, Field::Data(Width::W8), Form::Any, 1),
-        38 => Decision::Store(Calculation::Sub, Field::Data(Width::W16), Form::Any, 2),
-        39 => Decision::Store(Calculation::Sub, Field::Data(Width::W32), Form::Any, 4),
-        40 => Decision::Store(Calculation::Sub, Field::Data(Width::W64), Form::Any, 8),
-        52 => Decision::Store(Calculation::Sub, Field::Data(Width::W6), Form::Any, 1),
-        53 => Decision::Store(Calculation::Set, Field::Data(Width::W6), Form::Any, 1),
-        54 => Decision::Store(Calculation::Set, Field::Data(Width::W8), Form::Any, 1),
-        55 => Decision::Store(Calculation::Set, Field::Data(Width::W16), Form::Any, 2),
-        56 => Decision::Store(Calculation::Set, Field::Data(Width::W32), Form::Any, 4),
+        23 => pairing(),
+        26 => of(Part::High, Operand::Absolute, Field::U, Form::Lui, 4),
+        27 => of(Part::Low, Operand::Absolute, Field::I, Form::LowI, 4),
+        28 => of(Part::Low, Operand::Absolute, Field::S, Form::LowS, 4),
+        24 => of(Part::Low, Operand::Paired, Field::I, Form::LowI, 4),
+        25 => of(Part::Low, Operand::Paired, Field::S, Form::LowS, 4),
+        33 => stacking(Calculation::Add, Width::W8, 1),
+        34 => stacking(Calculation::Add, Width::W16, 2),
+        35 => stacking(Calculation::Add, Width::W32, 4),
+        36 => stacking(Calculation::Add, Width::W64, 8),
+        37 => stacking(Calculation::Sub, Width::W8, 1),
+        38 => stacking(Calculation::Sub, Width::W16, 2),
+        39 => stacking(Calculation::Sub, Width::W32, 4),
+        40 => stacking(Calculation::Sub, Width::W64, 8),
+        52 => stacking(Calculation::Sub, Width::W6, 1),
+        53 => stacking(Calculation::Set, Width::W6, 1),
+        54 => stacking(Calculation::Set, Width::W8, 1),
+        55 => stacking(Calculation::Set, Width::W16, 2),
+        56 => stacking(Calculation::Set, Width::W32, 4),
         2..=15 | 20..=22 | 29..=32 | 41..=42 | 46..=50 | 58..=255 => Decision::Refused,
     }
 }

@@ -9,14 +9,12 @@ use Rattle.numbers_definitions.specs.declared.SectionOffset.{SectionOffset}
 use Rattle.relocations_rela.specs.declared.sites.Site.{Site}
 use Rattle.relocations_values.specs.declared.pairs.Pair.{Pair}
 use Rattle.relocations_values.specs.declared.pairs.Pair.the-variants.{At, NotOne}
-use Rattle.relocations_rela.specs.Sites.{count, entry, offset}
-
-abbrev pub PCREL_HI20 : ℕ
-PCREL_HI20 = 23
+use Rattle.relocations_decisions.specs.Decisions.{givesPair}
+use Rattle.relocations_rela.specs.Sites.{count, offset, decisionAt}
 
 -- "PCREL_HI20 record whose offset equals that value"
 unfoldable pub isPair : List ℕ → Site → SectionOffset → ℕ → Bool
-isPair object x value k = eqb (entry object x k .kind) PCREL_HI20 && eqb (offset object x k) (value .0)
+isPair object x value k = givesPair (decisionAt object x k) && eqb (offset object x k) (value .0)
 
 -- how many of the numbers below n satisfy p
 unfoldable pub howMany : (ℕ → Bool) → ℕ → ℕ

@@ -5,10 +5,9 @@ ghost use Rattle.relocations_values.specs.Pairs.{isPair, pairOf};
 ghost use Rattle.relocations_rela.specs.Requires.{SoundSite, There};
 use elf_read::RELOCATION_SIZE;
 use numbers_definitions::SectionOffset;
+use relocations_decisions::gives_pair;
 use relocations_rela::sites::Site;
-
-// The type of a paired high half.
-pub const PCREL_HI20: u8 = 23;
+use relocations_types::decide;
 
 // The one PCREL_HI20 at an offset, or `NotOne` if there is not exactly one.
 pub enum Pair {
@@ -22,7 +21,7 @@ fn is_pair(object: &[u8], site: Site, offset: SectionOffset, k: usize) -> bool
     ensures { λ r. ⌜ r ≡ isPair (now (object .entry)) site offset k ⌝ }
 {
     let r = elf_read::read_relocation(object, site.rela, k);
-    (r.kind == PCREL_HI20) & (r.offset.0 == offset.0)
+    gives_pair(decide(r.kind)) & (r.offset.0 == offset.0)
 }
 
 // k if it is chosen, otherwise the one before.

@@ -5,6 +5,10 @@ use instructions_fields::Width;
 use instructions_riscv::forms::Form;
 use relocations_types::Calculation;
 use relocations_types::Decision;
+use relocations_types::Operand;
+use relocations_types::Part;
+use relocations_types::Role;
+use relocations_types::Rule;
 
 fn first(kind: u8, n: u64) {
     let text = [kind, b' '];
@@ -48,22 +52,43 @@ pub fn half(x: u32) {
     end();
 }
 
-// t: a type, and then 0 for a marker, 1 for ALIGN, 3 for a refusal, or 2 with calculation, field, form and bytes.
+// t: a type, and then 0 for a marker, 1 for ALIGN, 3 for a refusal, or 2 with its rule.
 pub fn decision(number: u8) {
     first(b't', number as u64);
     match relocations_types::decide(number) {
         Decision::Marker => then(0),
         Decision::Align => then(1),
-        Decision::Store(calculation, field, form, bytes) => {
-            then(2);
-            then(calculation_number(calculation));
-            then(field_number(field));
-            then(form_number(form));
-            then(bytes as u64);
-        }
+        Decision::Store(asked) => rule(asked),
         Decision::Refused => then(3),
     }
     end();
+}
+
+// A rule: calculation, field, form, bytes, and 1 for a high half that pairs.
+fn rule(asked: Rule) {
+    let calculation = asked.calculation;
+    let field = asked.field;
+    let form = asked.form;
+    let role = asked.role;
+    then(2);
+    calculated(calculation);
+    then(field_number(field));
+    then(form_number(form));
+    then(asked.size as u64);
+    then(role_number(role));
+}
+
+// A calculation: the part and the operand, or 5 for ADD, 6 for SUB, 7 for SET.
+fn calculated(calculation: Calculation) {
+    match calculation {
+        Calculation::Of(part, operand) => {
+            then(part_number(part));
+            then(operand_number(operand));
+        }
+        Calculation::Add => then(5),
+        Calculation::Sub => then(6),
+        Calculation::Set => then(7),
+    }
 }
 
 // d: a width, the field's word, S + A, and the word after ADD, SUB and SET.
@@ -105,19 +130,28 @@ pub fn forms(word: u64, next: u64) {
     end();
 }
 
-fn calculation_number(calculation: Calculation) -> u64 {
-    match calculation {
-        Calculation::Absolute => 0,
-        Calculation::PcRelative => 1,
-        Calculation::Distance => 2,
-        Calculation::BothHalves => 3,
-        Calculation::HighPcRelative => 4,
-        Calculation::HighAbsolute => 5,
-        Calculation::LowAbsolute => 6,
-        Calculation::LowOfPair => 7,
-        Calculation::Add => 8,
-        Calculation::Sub => 9,
-        Calculation::Set => 10,
+fn part_number(part: Part) -> u64 {
+    match part {
+        Part::Whole => 0,
+        Part::Distance => 1,
+        Part::High => 2,
+        Part::Low => 3,
+        Part::BothHalves => 4,
+    }
+}
+
+fn operand_number(operand: Operand) -> u64 {
+    match operand {
+        Operand::Absolute => 0,
+        Operand::PcRelative => 1,
+        Operand::Paired => 2,
+    }
+}
+
+fn role_number(role: Role) -> u64 {
+    match role {
+        Role::Plain => 0,
+        Role::HighOfPair => 1,
     }
 }
 

@@ -120,23 +120,24 @@ fn half_line(x: u64) -> String {
     format!("h {x:x} {:x} {low:x}", high_half(x))
 }
 
-/// The calculations of the program `tests_encodings`, which name the half too.
-fn calculation_number(patch: Patch) -> u32 {
-    use Calculation::*;
-    match (patch.calculation, patch.field) {
-        (Target, Field::Data { .. }) => 0,
-        (Distance, Field::Data { .. }) => 1,
-        (Distance, Field::B | Field::J | Field::CB | Field::CJ) => 2,
-        (Distance, Field::UThenI) => 3,
-        (Distance, Field::U) => 4,
-        (Target, Field::U) => 5,
-        (Target, Field::I | Field::S) => 6,
-        (PairDistance, Field::I | Field::S) => 7,
-        (Add, Field::Data { .. }) => 8,
-        (Subtract, Field::Data { .. }) => 9,
-        (Set, Field::Data { .. }) => 10,
-        _ => panic!("no type does this: {patch:?}"),
-    }
+/// The calculation as the program `tests_encodings` writes it: which part of which operand, or ADD, SUB or SET.
+fn calculation(patch: Patch) -> String {
+    let operand = match patch.calculation {
+        Calculation::Target => 0,
+        Calculation::Distance => 1,
+        Calculation::PairDistance => 2,
+        Calculation::Add => return "5".to_string(),
+        Calculation::Subtract => return "6".to_string(),
+        Calculation::Set => return "7".to_string(),
+    };
+    let part = match patch.field {
+        Field::Data { .. } => 0,
+        Field::B | Field::J | Field::CB | Field::CJ => 1,
+        Field::U => 2,
+        Field::I | Field::S => 3,
+        Field::UThenI => 4,
+    };
+    format!("{part:x} {operand:x}")
 }
 
 fn place_in<T: PartialEq>(all: &[T], one: T) -> usize {
@@ -149,11 +150,12 @@ fn type_line(kind: u64) -> String {
         Effect::Align => format!("t {kind:x} 1"),
         Effect::Refused => format!("t {kind:x} 3"),
         Effect::Patch(patch) => {
-            let calculation = calculation_number(patch);
+            let calculation = calculation(patch);
             let field = place_in(&FIELDS, patch.field);
             let form = place_in(&FORMS, patch.form);
             let bytes = patch.field.bytes();
-            format!("t {kind:x} 2 {calculation:x} {field:x} {form:x} {bytes:x}")
+            let pairs = u8::from(kind == 23);
+            format!("t {kind:x} 2 {calculation} {field:x} {form:x} {bytes:x} {pairs:x}")
         }
     }
 }

@@ -18,13 +18,14 @@ use Rattle.order_format.specs.declared.OrderHeader.{OrderHeader}
 use Rattle.order_lookup.specs.Addresses.{addresses}
 use Rattle.plan_pieces.specs.Plans.{overwritten}
 use Rattle.placing_check.specs.Placing.{hasBytes}
-use Rattle.relocations_types.specs.declared.Calculation.the-variants.{HighAbsolute, LowAbsolute}
+use Rattle.relocations_types.specs.declared.Operand.the-variants.{Absolute}
+use Rattle.relocations_types.specs.declared.Part.the-variants.{High, Low}
 use Rattle.relocations_types.specs.declared.Decision.{Decision}
 use Rattle.relocations_types.specs.declared.Decision.the-variants.{Marker, Align, Store, Refused}
 use Rattle.instructions_riscv.specs.Halves.{low}
 use Rattle.relocations_rela.specs.declared.sites.Site.{Site}
 use Rattle.relocations_rela.specs.Sites.{siteAt, count, entry, decisionAt, offset, P, found}
-use Rattle.relocations_decisions.specs.Effects.{isStore, touched}
+use Rattle.relocations_decisions.specs.Decisions.{isStore, touched}
 use Rattle.relocations_rela.specs.Shape.{end, staysInside}
 use Rattle.relocations_decisions.proofs.Laws.Decisions.{store-width, width-some}
 use Rattle.relocations_values.specs.Values.{targetAt}
@@ -36,7 +37,7 @@ use Rattle.relocations_bytes.specs.Wholes.{touches, untouched}
 use Rattle.relocations_bytes.proofs.Laws.Sections.{checked, rela-found, relocated-some, relocated-none, found-target}
 use Rattle.relocations_bytes.proofs.Laws.After.{untouched-own}
 use Rattle.relocations_bytes.proofs.Laws.ReadBack.{read-back}
-use Rattle.relocations_bytes.proofs.Laws.Halves.{add-up, says, halves-of}
+use Rattle.relocations_bytes.proofs.Laws.Halves.{add-up, part-said, halves-of}
 use Rattle.calls_judgement.specs.Judgement.{planOf}
 use Rattle.calls_judgement.specs.Requires.{Fitting}
 use Rattle.calls_judgement.proofs.Laws.Laying.{is-sound, is-placed}
@@ -68,7 +69,7 @@ nothing-read object order addresses x final j none = go (decisionAt object x j) 
     go : (d : Decision) → (isStore d ≡ true → ⊥)
         → Stored (addressWidth object) d (found object x) final (offset object x j) (targetAt object order addresses x j) (P object x j) (pairDistance object order addresses x j)
         (λ v. stackAt object order addresses x (offset object x j) v (count x))
-    go (Store c f form n) none = absurd (none refl)
+    go (Store r) none = absurd (none refl)
     go Marker none = tt
     go Align none = tt
     go Refused none = tt
@@ -133,13 +134,13 @@ module _ (object order : List ℕ) (counts : OrderHeader) (image : List ℕ) (fi
     -- a section of size 0 has no room for a store
     no-store : (j : ℕ) → j < count x → hasBytes (sectionAt object (sectionAt object i .info)) ≡ false → (d : Decision) → decisionAt object x j ≡ d → isStore d ≡ true → ⊥
     unfolding hasBytes siteAt staysInside
-    no-store j l e (Store k f form n) p s =
+    no-store j l e (Store r) p s =
         let h = sectionAt object (sectionAt object i .info) in
         let there = is-sound object order counts (length image) fit .sections i h-there .rela c .target-loaded in
         let empty : ltb 0 (h .size) ≡ false = rw there at e in
         let inside : end object x j ≤ h .size = shape-well object x j (kept-rules object order a x j (is-checked .kept j l) .shape) .inside in
-        let touches-n : touched (decisionAt object x j) ≡ n = ap touched p in
-        omega (arith, width-some n (store-width (entry object x j .kind) k f form n p), inside, ltb-false 0 (h .size) empty)
+        let touches-n : touched (decisionAt object x j) ≡ r .size = ap touched p in
+        omega (arith, width-some (r .size) (store-width (entry object x j .kind) r p), inside, ltb-false 0 (h .size) empty)
     no-store j l e Marker p s = clash false refl s
     no-store j l e Align p s = clash false refl s
     no-store j l e Refused p s = clash false refl s
@@ -166,10 +167,10 @@ module _ (object order : List ℕ) (counts : OrderHeader) (image : List ℕ) (fi
         others-same = installed-others object order counts image fit;
         own = own-byte;
         fields = λ i j r. back i (r .there) (r .counts) j (r .entry);
-        addresses-whole = λ p i q j r s f g b d m n e u same.
-            let high = says object order a (siteOf object order p) (sectionIn object order final (sectionAt object p .info)) (back p (r .there) (r .counts)) i (r .entry) (Store HighAbsolute f b m) e in
-            let low-half = says object order a (siteOf object order q) (sectionIn object order final (sectionAt object q .info)) (back q (s .there) (s .counts)) j (s .entry) (Store LowAbsolute g d n) u in
-            add-up (addressWidth object) f g (bytesAt object order final p i m) (bytesAt object order final q j n) (target object order p i) (residue-lt (addressWidth object) _) (high .0) (low-half .0 ∙ ap (low (addressWidth object)) (sym same));
-        distances-whole = λ i j r g b n e.
-            halves-of object order a (siteOf object order i) (sectionIn object order final (sectionAt object i .info)) (back i (r .there) (r .counts)) (is-checked i (r .there) (r .counts)) .distance j (r .entry) g b n e;
+        addresses-whole = λ p i q j r s g b e u high-is low-is same.
+            let high = part-said object order a (siteOf object order p) (sectionIn object order final (sectionAt object p .info)) (back p (r .there) (r .counts)) i (r .entry) g High Absolute e high-is in
+            let low-half = part-said object order a (siteOf object order q) (sectionIn object order final (sectionAt object q .info)) (back q (s .there) (s .counts)) j (s .entry) b Low Absolute u low-is in
+            add-up (addressWidth object) (g .field) (b .field) (bytesAt object order final p i (g .size)) (bytesAt object order final q j (b .size)) (target object order p i) (residue-lt (addressWidth object) _) high (low-half ∙ ap (low (addressWidth object)) (sym same));
+        distances-whole = λ i j r b e low-is.
+            halves-of object order a (siteOf object order i) (sectionIn object order final (sectionAt object i .info)) (back i (r .there) (r .counts)) (is-checked i (r .there) (r .counts)) .distance j (r .entry) b e low-is;
       }

@@ -92,9 +92,9 @@ all-snoc (piece a u ∷ ps) at v c b = (c .0, all-snoc ps at v (c .1) b)
 -- ---- what an install lays
 
 bytes-stored : (w : ℕ) (d : Decision) (at : ℕ) (x : ℤ) (p e : ℕ) (s : List ℕ) → Bytes s → Bytes (stored w d at x p e s)
-bytes-stored w (Store c f form n) at x p e s b =
-    let u : ℕ = patched w c f (leAt n s at) x p e in
-    bytes-sets s at (bytes n u) b (bytes-bytes n u)
+bytes-stored w (Store r) at x p e s b =
+    let u : ℕ = patched w (r .calculation) (r .field) (leAt (r .size) s at) x p e in
+    bytes-sets s at (bytes (r .size) u) b (bytes-bytes (r .size) u)
 bytes-stored w Marker at x p e s b = b
 bytes-stored w Align at x p e s b = b
 bytes-stored w Refused at x p e s b = b

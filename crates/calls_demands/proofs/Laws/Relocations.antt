@@ -17,7 +17,10 @@ use Rattle.instructions_riscv.specs.declared.forms.Form.{Form}
 use Rattle.instructions_riscv.specs.Forms.{hasForm}
 use Rattle.instructions_riscv.specs.Ranges.{distance, rangeOf, reaches}
 use Rattle.relocations_types.specs.declared.Calculation.{Calculation}
-use Rattle.relocations_types.specs.declared.Calculation.the-variants.{Absolute, PcRelative, Distance, BothHalves, HighPcRelative, HighAbsolute, LowAbsolute, LowOfPair, Add, Sub, Set}
+use Rattle.relocations_types.specs.declared.Calculation.the-variants.{Of, Add, Sub, Set}
+use Rattle.relocations_types.specs.declared.Part.{Part}
+use Rattle.relocations_types.specs.declared.Part.the-variants.{Whole, Distance, High, Low, BothHalves}
+use Rattle.relocations_types.specs.declared.Rule.{Rule}
 use Rattle.relocations_types.specs.declared.Decision.{Decision}
 use Rattle.relocations_types.specs.declared.Decision.the-variants.{Marker, Align, Store, Refused}
 use Rattle.placing_symbols.specs.declared.SymbolValue.{SymbolValue}
@@ -26,16 +29,16 @@ use Rattle.relocations_rela.specs.declared.sites.Site.{Site}
 use Rattle.relocations_rela.specs.declared.shape.Previous.{Previous}
 use Rattle.relocations_rela.specs.declared.shape.Previous.the-variants.{Nothing, Entry}
 use Rattle.relocations_rela.specs.Sites.{entry, decisionAt, offset, A, P, found}
-use Rattle.relocations_decisions.specs.Effects.{isStore, isRefused, takesPair, needsPair}
+use Rattle.relocations_decisions.specs.Decisions.{isStore, isRefused, takesPair, needsPair}
 use Rattle.relocations_rela.specs.Shape.{neverFalls, end, staysInside, previous, sharesPlace, clears, noOverlap, addendWell, shapeWell}
 use Rattle.relocations_values.specs.Pairs.{pairOf}
 use Rattle.relocations_values.specs.declared.pairs.Pair.the-variants.{At, NotOne}
-use Rattle.relocations_rules.specs.Rules.{isResolved, symbol, inTarget, symbolWell, isData, standsWell, asksWell, formWell, isOne, pairWell, reachesWell, distanceWell, boundaryWell}
-use Rattle.calls_demands.specs.Rules.{Within, Even, SharePlace, PaddingWell, ShapeWell, SymbolWell, FormWell, PairWell, Reachable, ReachWell, BoundaryWell}
+use Rattle.relocations_rules.specs.Rules.{isResolved, symbol, inTarget, symbolWell, isData, standsWell, asksWell, formWell, isOne, pairWell, partReaches, reachesWell, distanceWell, boundaryWell}
+use Rattle.calls_demands.specs.Rules.{Within, Even, SharePlace, PaddingWell, ShapeWell, SymbolWell, FormWell, PairWell, PartReachable, Reachable, ReachWell, BoundaryWell}
 
 -- 24 and 25 are not markers
 needs-store : (d : Decision) → needsPair d ≡ true → isStore d ≡ true
-needs-store (Store c f form n) e = refl
+needs-store (Store r) e = refl
 needs-store Marker e = never e
 needs-store Align e = never e
 needs-store Refused e = never e
@@ -116,13 +119,13 @@ module _ (object : List ℕ) (x : Site) where
       }
 
   no-addend-of : (d : Decision) (j : ℕ) → addendIs d j ≡ true → needsPair d ≡ true → natAbs (A object x j) ≡ 0
-  no-addend-of (Store c f form n) j e p = eqb-true _ _ (given (takesPair c) (eqb (natAbs (A object x j)) 0) e p)
+  no-addend-of (Store r) j e p = eqb-true _ _ (given (takesPair (r .calculation)) (eqb (natAbs (A object x j)) 0) e p)
   no-addend-of Marker j e p = never p
   no-addend-of Align j e p = never p
   no-addend-of Refused j e p = never p
 
   addend-back : (d : Decision) (j : ℕ) → (d ≡ Align → PaddingWell object x j) → (needsPair d ≡ true → natAbs (A object x j) ≡ 0) → addendIs d j ≡ true
-  addend-back (Store c f form n) j h g = implied (takesPair c) (eqb (natAbs (A object x j)) 0) (λ p. eq-eqb _ _ (g p))
+  addend-back (Store r) j h g = implied (takesPair (r .calculation)) (eqb (natAbs (A object x j)) 0) (λ p. eq-eqb _ _ (g p))
   addend-back Align j h g = let w = h refl in both _ _ (both _ _ (is-within 0 4094 (A object x j) (w .in-range)) (is-even (A object x j) (w .is-even))) (le-leb _ _ (w .inside))
   addend-back Marker j h g = refl
   addend-back Refused j h g = refl
@@ -177,8 +180,9 @@ module _ (object : List ℕ) (x : Site) where
 
   pub form-well : (j : ℕ) → formWell object x j ≡ true → FormWell object x j
   unfolding formWell standsWell
-  form-well j e c f form n is code =
-      let w : ℕ = leAt n (found object x) (offset object x j) in
+  form-well j e r is code =
+      let form : Form = r .form in
+      let w : ℕ = leAt (r .size) (found object x) (offset object x j) in
       let stands : standsWell form (P object x j) w ≡ true = ap (λ d. asksWell d (P object x j) (found object x) (offset object x j)) (sym is) ∙ e in
       let kept : (eqb (P object x j % 2) 0 && hasForm form w (w / 2 ^ 32)) ≡ true = rw code at stands in
       (eqb-true _ _ (and-left (eqb (P object x j % 2) 0) (hasForm form w (w / 2 ^ 32)) kept), and-right (eqb (P object x j % 2) 0) (hasForm form w (w / 2 ^ 32)) kept)
@@ -188,14 +192,14 @@ module _ (object : List ℕ) (x : Site) where
   well-form j h = go (decisionAt object x j) h
     where
       go : (d : Decision)
-          → ((c : Calculation) (f : Field) (form : Form) (n : ℕ) → d ≡ Store c f form n → isData form ≡ false
-          → (P object x j % 2 ≡ 0) × (hasForm form (leAt n (found object x) (offset object x j)) (leAt n (found object x) (offset object x j) / 2 ^ 32) ≡ true))
+          → ((r : Rule) → d ≡ Store r → isData (r .form) ≡ false
+          → (P object x j % 2 ≡ 0) × (hasForm (r .form) (leAt (r .size) (found object x) (offset object x j)) (leAt (r .size) (found object x) (offset object x j) / 2 ^ 32) ≡ true))
           → asksWell d (P object x j) (found object x) (offset object x j) ≡ true
-      go (Store c f form n) h = split (isData form) refl
+      go (Store r) h = split (isData (r .form)) refl
         where
-          split : (b : Bool) → isData form ≡ b → standsWell form (P object x j) (leAt n (found object x) (offset object x j)) ≡ true
+          split : (b : Bool) → isData (r .form) ≡ b → standsWell (r .form) (P object x j) (leAt (r .size) (found object x) (offset object x j)) ≡ true
           split true e = rw e
-          split false e = let k = h c f form n refl e in rw (e, eq-eqb (P object x j % 2) 0 (k .0)) (k .1)
+          split false e = let k = h r refl e in rw (e, eq-eqb (P object x j % 2) 0 (k .0)) (k .1)
       go Marker h = refl
       go Align h = refl
       go Refused h = refl
@@ -216,49 +220,49 @@ module _ (object : List ℕ) (x : Site) where
 
   -- ---- 13
 
-  reached : (w : ℕ) (c : Calculation) (f : Field) (t p : ℕ) → reachesWell w c f t p ≡ true → Reachable w c f t p
+  part-reached : (w : ℕ) (part : Part) (f : Field) (t p : ℕ) → partReaches w part f t p ≡ true → PartReachable w part f t p
   unfolding reaches
-  reached w Distance f t p e =
+  part-reached w Whole f t p e = tt
+  part-reached w Distance f t p e =
       let z : ℤ = distance t p in
       record {
         is-even = even-is z (and-left (even z) (within (rangeOf f .back) (rangeOf f .ahead) z) e);
         in-range = within-is (rangeOf f .back) (rangeOf f .ahead) z (and-right (even z) (within (rangeOf f .back) (rangeOf f .ahead) z) e);
       }
-  reached w BothHalves f t p e = even-is (pos (minus w t p)) e
-  reached w Absolute f t p e = tt
-  reached w PcRelative f t p e = tt
-  reached w HighPcRelative f t p e = tt
-  reached w HighAbsolute f t p e = tt
-  reached w LowAbsolute f t p e = tt
-  reached w LowOfPair f t p e = tt
+  part-reached w High f t p e = tt
+  part-reached w Low f t p e = tt
+  part-reached w BothHalves f t p e = even-is (pos (minus w t p)) e
+
+  reached : (w : ℕ) (c : Calculation) (f : Field) (t p : ℕ) → reachesWell w c f t p ≡ true → Reachable w c f t p
+  reached w (Of part operand) f t p e = part-reached w part f t p e
   reached w Add f t p e = tt
   reached w Sub f t p e = tt
   reached w Set f t p e = tt
 
-  reaches-back : (w : ℕ) (c : Calculation) (f : Field) (t p : ℕ) → Reachable w c f t p → reachesWell w c f t p ≡ true
+  part-back : (w : ℕ) (part : Part) (f : Field) (t p : ℕ) → PartReachable w part f t p → partReaches w part f t p ≡ true
   unfolding reaches
-  reaches-back w Distance f t p r =
+  part-back w Whole f t p r = refl
+  part-back w Distance f t p r =
       both _ _ (is-even (distance t p) (r .is-even)) (is-within (rangeOf f .back) (rangeOf f .ahead) (distance t p) (r .in-range))
-  reaches-back w BothHalves f t p r = is-even (pos (minus w t p)) r
-  reaches-back w Absolute f t p r = refl
-  reaches-back w PcRelative f t p r = refl
-  reaches-back w HighPcRelative f t p r = refl
-  reaches-back w HighAbsolute f t p r = refl
-  reaches-back w LowAbsolute f t p r = refl
-  reaches-back w LowOfPair f t p r = refl
+  part-back w High f t p r = refl
+  part-back w Low f t p r = refl
+  part-back w BothHalves f t p r = is-even (pos (minus w t p)) r
+
+  reaches-back : (w : ℕ) (c : Calculation) (f : Field) (t p : ℕ) → Reachable w c f t p → reachesWell w c f t p ≡ true
+  reaches-back w (Of part operand) f t p r = part-back w part f t p r
   reaches-back w Add f t p r = refl
   reaches-back w Sub f t p r = refl
   reaches-back w Set f t p r = refl
 
   pub reach-well : (j t : ℕ) → distanceWell (addressWidth object) (decisionAt object x j) t (P object x j) ≡ true → ReachWell object x j t
-  reach-well j t e c f form n is = reached (addressWidth object) c f t (P object x j) (ap (λ d. distanceWell (addressWidth object) d t (P object x j)) (sym is) ∙ e)
+  reach-well j t e r is = reached (addressWidth object) (r .calculation) (r .field) t (P object x j) (ap (λ d. distanceWell (addressWidth object) d t (P object x j)) (sym is) ∙ e)
 
   pub well-reach : (j t : ℕ) → ReachWell object x j t → distanceWell (addressWidth object) (decisionAt object x j) t (P object x j) ≡ true
   well-reach j t h = go (decisionAt object x j) h
     where
-      go : (d : Decision) → ((c : Calculation) (f : Field) (form : Form) (n : ℕ) → d ≡ Store c f form n → Reachable (addressWidth object) c f t (P object x j))
+      go : (d : Decision) → ((r : Rule) → d ≡ Store r → Reachable (addressWidth object) (r .calculation) (r .field) t (P object x j))
           → distanceWell (addressWidth object) d t (P object x j) ≡ true
-      go (Store c f form n) h = reaches-back (addressWidth object) c f t (P object x j) (h c f form n refl)
+      go (Store r) h = reaches-back (addressWidth object) (r .calculation) (r .field) t (P object x j) (h r refl)
       go Marker h = refl
       go Align h = refl
       go Refused h = refl
@@ -273,6 +277,6 @@ module _ (object : List ℕ) (x : Site) where
     where
       go : (d : Decision) → (d ≡ Align → (P object x j + natAbs (A object x j)) % ceilPower 32 (natAbs (A object x j) + 2) ≡ 0) → boundaryWell d (P object x j) (A object x j) ≡ true
       go Align h = eq-eqb _ _ (h refl)
-      go (Store c f form n) h = refl
+      go (Store r) h = refl
       go Marker h = refl
       go Refused h = refl

@@ -21,7 +21,7 @@ use Rattle.relocations_types.specs.declared.Decision.the-variants.{Marker, Alig
 use Rattle.relocations_rela.specs.declared.sites.Site.{Site}
 use Rattle.relocations_rela.specs.Sites.{siteAt, count, entry, decisionAt, offset, P, found}
 use Rattle.relocations_rela.specs.Shape.{end}
-use Rattle.relocations_decisions.specs.Effects.{touched}
+use Rattle.relocations_decisions.specs.Decisions.{touched}
 use Rattle.relocations_values.specs.Values.{targetAt}
 use Rattle.relocations_rules.proofs.Laws.Search.{kept-rules}
 use Rattle.relocations_bytes.specs.Sections.{pairDistance}
@@ -126,12 +126,13 @@ module _ (object order : List ℕ) where
             e (subst (λ u. ReadsBack object order (addresses order) x (sectionIn object order s u) j) (c .relocates) (l .fields i j (c .is)))
 
         go : (d : Decision) → decisionAt object x j ≡ d → getD sg b 0 ≡ getD sh b 0
-        go (Store k f form n) e =
+        go (Store r) e =
+            let n : ℕ = r .size in
             let ends : end object x j ≡ offset object x j + n = ap (λ d. offset object x j + touched d) e in
-            let a = says g lg (Store k f form n) e in
-            let z = says h lh (Store k f form n) e in
+            let a = says g lg (Store r) e in
+            let z = says h lh (Store r) e in
             same-number sg sh (offset object x j) n b bsg bsh (omega (arith, length-is g (lg .same-length), inside)) (omega (arith, length-is h (lh .same-length), inside))
-            (bytes-known (addressWidth object) (address-wide object) (entry object x j .kind) k f form n e _ _ (spelt-lt n sg (offset object x j) bsg) (spelt-lt n sh (offset object x j) bsh) _ _ _ _ (a .0) (z .0) (a .1 ∙ sym (z .1)))
+            (bytes-known (addressWidth object) (address-wide object) (entry object x j .kind) r e _ _ (spelt-lt n sg (offset object x j) bsg) (spelt-lt n sh (offset object x j) bsh) _ _ _ _ (a .0) (z .0) (a .1 ∙ sym (z .1)))
             (c .low) (omega (arith, c .high))
         go Marker e = let none : end object x j ≡ offset object x j + 0 = ap (λ d. offset object x j + touched d) e in absurd (omega (arith, c .low, c .high))
         go Align e = let none : end object x j ≡ offset object x j + 0 = ap (λ d. offset object x j + touched d) e in absurd (omega (arith, c .low, c .high))

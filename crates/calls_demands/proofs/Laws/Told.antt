@@ -46,7 +46,7 @@ use Rattle.relocations_rules.specs.declared.Finding.the-variants.{Kept, BadShap
 use Rattle.relocations_rules.specs.declared.RelocationCheck.the-variants.{Passed as AllKept, Broken}
 use Rattle.relocations_values.specs.Values.{valueAt, targetAt}
 use Rattle.relocations_rules.specs.Rules.{symbolWell, formWell, pairWell, distanceWell, boundaryWell}
-use Rattle.relocations_rules.specs.Search.{number, finding, findingOf, isBroken, relocationCheck}
+use Rattle.relocations_rules.specs.Search.{number, firstBroken, finding, findingOf, isBroken, relocationCheck}
 use Rattle.calls_judgement.specs.Requires.{Readable, Named, Placeable, Fitting}
 use Rattle.calls_judgement.specs.Judgement.{afterObject, afterFault, afterRelocations, planOf, judgement}
 use Rattle.calls_demands.specs.Rules.{OrderWell, WindowWell, HeaderWell, TableWell, PlacedAsAllocated, ValuedIfUndefined, PlacedIfAllocated, site, entryOf, Shape, SymbolResolves, FormIs, OnePair, Reaches, OnBoundary, Room}
@@ -80,7 +80,7 @@ module _ (object order : List ℕ) where
   Means k OffBoundary = BrokenAt line (says 14 k)
 
   means : (k : ℕ) → Means k (findingOf object order (addresses order) k)
-  unfolding findingOf finding
+  unfolding findingOf finding firstBroken
   means k = go (shapeWell object x j) refl (symbolWell object x j v) refl (formWell object x j) refl (pairWell object x j) refl (distanceWell (addressWidth object) d t (P object x j)) refl (boundaryWell d (P object x j) (A object x j)) refl
     where
       x : Site

@@ -25,6 +25,11 @@ use Rattle.instructions_riscv.specs.Halves.{high, low}
 use Rattle.instructions_riscv.specs.declared.forms.Form.the-variants.{LowI}
 use Rattle.instructions_riscv.specs.Forms.{hasForm}
 use Rattle.instructions_riscv.specs.Ranges.{reaches}
+use Rattle.relocations_types.specs.declared.Operand.the-variants.{Paired}
+use Rattle.relocations_types.specs.declared.Part.the-variants.{Low}
+use Rattle.relocations_types.specs.declared.Calculation.the-variants.{Of}
+use Rattle.relocations_types.specs.declared.Role.the-variants.{Plain}
+use Rattle.relocations_types.specs.declared.Rule.{Rule}
 use Rattle.relocations_types.specs.Types.{table, among, lookup, decision}
 use Rattle.elf_read.specs.Headers.{sectionCount}
 use Rattle.elf_read.specs.Sections.{sectionAt, allocated, loaded, symbolTable, countingRel, countingRela, relocationsIn, isAllocated}
@@ -54,7 +59,7 @@ use Rattle.relocations_values.specs.declared.pairs.Pair.the-variants.{At, NotOn
 use Rattle.relocations_values.specs.Pairs.{isPair, howMany, pairOf}
 use Rattle.relocations_rules.specs.declared.RelocationCheck.the-variants.{Passed}
 use Rattle.relocations_rules.specs.Rules.{inTarget, symbolWell, standsWell, formWell, pairWell}
-use Rattle.relocations_rules.specs.Search.{finding, findingOf, relocationCheck}
+use Rattle.relocations_rules.specs.Search.{firstBroken, finding, findingOf, relocationCheck}
 use Rattle.relocations_rules.proofs.Laws.Search.{passed-kept, kept-rules, Rules as Tests}
 use Rattle.relocations_bytes.specs.Patches.{patched}
 use Rattle.relocations_bytes.specs.Sections.{sumAt, distanceAt, relaOf, relocated, applied, after}
@@ -170,7 +175,7 @@ record Fine (code from : ℕ) : Type 0 where
   only-laid : (t b : ℕ) → Covers object (orderWith code) t b → (from ≤ b) × (b < from + 28)
 
 fine₁ : Fine 0x20000000 0
-unfolding object orderWith words bytes leAt le wellFormed ascending everywhere first entryAt windowAllowed lengthAllowed sectionAt allocated placedAt valueIn externalValue symbolTable symbolCount symbolAt isAllocated misplaced aligned unit endsInMemory endOf inWindow hasBytes loaded share apart addresses tabulate sum relocationsIn locationOf countingRela siteAt relocationAt bytesOf part decision table lookup among neverFalls staysInside previous sharesPlace noOverlap shapeWell ofSection symbolValue inTarget symbolWell hasForm standsWell formWell isPair howMany pairOf pairWell reaches within even residue signed plus minus finding findingOf relocationCheck
+unfolding object orderWith words bytes leAt le wellFormed ascending everywhere first entryAt windowAllowed lengthAllowed sectionAt allocated placedAt valueIn externalValue symbolTable symbolCount symbolAt isAllocated misplaced aligned unit endsInMemory endOf inWindow hasBytes loaded share apart addresses tabulate sum relocationsIn locationOf countingRela siteAt relocationAt bytesOf part decision table lookup among neverFalls staysInside previous sharesPlace noOverlap shapeWell ofSection symbolValue inTarget symbolWell hasForm standsWell formWell isPair howMany pairOf pairWell reaches within even residue signed plus minus finding firstBroken findingOf relocationCheck
 fine₁ = record { order-is = refl; window-is = refl; placed-are = refl; relocations-are = refl; only-laid = laid }
   where
     laid : (t b : ℕ) → Covers object order₁ t b → (0 ≤ b) × (b < 28)
@@ -183,7 +188,7 @@ fine₁ = record { order-is = refl; window-is = refl; placed-are = refl; relocat
     laid (suc (suc (suc (suc (suc (suc t)))))) b c = absurd (omega (arith, c .there, count-is))
 
 fine₂ : Fine 0x20000020 24
-unfolding object orderWith words bytes leAt le wellFormed ascending everywhere first entryAt windowAllowed lengthAllowed sectionAt allocated placedAt valueIn externalValue symbolTable symbolCount symbolAt isAllocated misplaced aligned unit endsInMemory endOf inWindow hasBytes loaded share apart addresses tabulate sum relocationsIn locationOf countingRela siteAt relocationAt bytesOf part decision table lookup among neverFalls staysInside previous sharesPlace noOverlap shapeWell ofSection symbolValue inTarget symbolWell hasForm standsWell formWell isPair howMany pairOf pairWell reaches within even residue signed plus minus finding findingOf relocationCheck
+unfolding object orderWith words bytes leAt le wellFormed ascending everywhere first entryAt windowAllowed lengthAllowed sectionAt allocated placedAt valueIn externalValue symbolTable symbolCount symbolAt isAllocated misplaced aligned unit endsInMemory endOf inWindow hasBytes loaded share apart addresses tabulate sum relocationsIn locationOf countingRela siteAt relocationAt bytesOf part decision table lookup among neverFalls staysInside previous sharesPlace noOverlap shapeWell ofSection symbolValue inTarget symbolWell hasForm standsWell formWell isPair howMany pairOf pairWell reaches within even residue signed plus minus finding firstBroken findingOf relocationCheck
 fine₂ = record { order-is = refl; window-is = refl; placed-are = refl; relocations-are = refl; only-laid = laid }
   where
     laid : (t b : ℕ) → Covers object order₂ t b → (24 ≤ b) × (b < 24 + 28)
@@ -347,11 +352,15 @@ abbrev place : Pair → ℕ
 place (At k) = k
 place NotOne = 0
 
+-- what the table says about the type of its PCREL_LO12
+abbrev low-half : Rule
+low-half = record { calculation = Of Low Paired; field = I; form = LowI; size = 4; role = Plain }
+
 -- demand 2 says so of each of the two, over any image
 says₁ : (before after : List ℕ) → Laid object order₁ before after → Says (part after 0 20) (part after 24 4) 0x12345FF8 0x2800 0x118
 unfolding object orderWith words bytes le leAt sum relocationsIn countingRela sectionAt allocated isAllocated siteAt relocationAt symbolTable symbolCount symbolAt ofSection decision table lookup among addresses tabulate placedAt valueIn externalValue entryAt first symbolValue bytesOf part residue signed plus minus isPair howMany pairOf distanceAt sumAt stackAt ReadsBack high low read
 says₁ before after l =
-    let halves = l .distances-whole 4 1 (record { there = omega arith; counts = refl; entry = omega arith }) I LowI 4 refl in
+    let halves = l .distances-whole 4 1 (record { there = omega arith; counts = refl; entry = omega arith }) low-half refl refl in
     let first : halves .0 ≡ 0 = sym (ap place (halves .2)) in
     record {
       pair = subst (λ k. AddUp 32 U (bytesAt object order₁ after 4 k 4) I (bytesAt object order₁ after 4 1 4) (distanceAt object order₁ (addresses order₁) (siteOf object order₁ 4) k)) first (halves .3);
@@ -363,7 +372,7 @@ says₁ before after l =
 says₂ : (before after : List ℕ) → Laid object order₂ before after → Says (part after 32 20) (part after 24 4) 0x12345FD8 0x27E0 0xF8
 unfolding object orderWith words bytes le leAt sum relocationsIn countingRela sectionAt allocated isAllocated siteAt relocationAt symbolTable symbolCount symbolAt ofSection decision table lookup among addresses tabulate placedAt valueIn externalValue entryAt first symbolValue bytesOf part residue signed plus minus isPair howMany pairOf distanceAt sumAt stackAt ReadsBack high low read
 says₂ before after l =
-    let halves = l .distances-whole 4 1 (record { there = omega arith; counts = refl; entry = omega arith }) I LowI 4 refl in
+    let halves = l .distances-whole 4 1 (record { there = omega arith; counts = refl; entry = omega arith }) low-half refl refl in
     let first : halves .0 ≡ 0 = sym (ap place (halves .2)) in
     record {
       pair = subst (λ k. AddUp 32 U (bytesAt object order₂ after 4 k 4) I (bytesAt object order₂ after 4 1 4) (distanceAt object order₂ (addresses order₂) (siteOf object order₂ 4) k)) first (halves .3);

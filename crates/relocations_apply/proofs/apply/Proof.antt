@@ -3,7 +3,7 @@ use mathlib.Core.Path.{sym, ap, _∙_}
 use native.Mathlib.Omega.{arith}
 use Rattle.relocations_types.specs.Types.{decision}
 use Rattle.relocations_rela.specs.Sites.{entry, offset}
-use Rattle.relocations_decisions.specs.Effects.{isStore, touched, needsPair}
+use Rattle.relocations_decisions.specs.Decisions.{isStore, touched, needsPair}
 use Rattle.relocations_decisions.proofs.Laws.Decisions.{store-width, store-data}
 use Rattle.relocations_rela.proofs.Laws.Sites.{found-length, store-inside}
 use Rattle.relocations_rela.proofs.Laws.Shape.{shape-inside}
@@ -26,7 +26,7 @@ distance-for-requires c κs =
     let o = a .order .now in
     let f = c .before .before .before .before .before .before .before .before .before .before .pre in
     let r = c .before .before .before .before .before .before .read-relocation .ensures in
-    let told = ap (λ r. decision (r .kind)) (sym r) ∙ sym (c .before .before .before .before .decide .ensures) ∙ c .before .before .calculation .given .1 in
+    let told = ap (λ r. decision (r .kind)) (sym r) ∙ sym (c .before .before .before .before .decide .ensures) ∙ c .before .before .rule .given .1 in
     let kept = kept-rules s o (a .addresses) (a .site) (a .j) (f .3 .kept (a .j) (f .4)) in (
       f .0,
       f .1,
@@ -44,10 +44,10 @@ read-bytes-requires c κs =
     let o = a .order .now in
     let f = c .before .before .before .before .before .before .before .before .before .before .before .before .pre in
     let r = c .before .before .before .before .before .before .before .before .read-relocation .ensures in
-    let told = ap (λ r. decision (r .kind)) (sym r) ∙ sym (c .before .before .before .before .before .before .decide .ensures) ∙ c .before .before .before .before .calculation .given .1 in
+    let told = ap (λ r. decision (r .kind)) (sym r) ∙ sym (c .before .before .before .before .before .before .decide .ensures) ∙ c .before .before .before .before .rule .given .1 in
     let kept = kept-rules s o (a .addresses) (a .site) (a .j) (f .3 .kept (a .j) (f .4)) in
     let inside = store-inside s (a .site) (a .j) (f .3 .site) (shape-inside s (a .site) (a .j) (kept .shape)) _ (ap touched told) in
-    (rw r (omega (arith, inside, found-length s (a .site) (f .3 .site))), store-width _ _ _ _ _ told)
+    (rw r (omega (arith, inside, found-length s (a .site) (f .3 .site))), store-width _ _ told)
 
 patch-requires : tie.Need-patch-requires
 patch-requires c κs =
@@ -56,9 +56,9 @@ patch-requires c κs =
     let o = a .order .now in
     let f = c .before .before .before .before .before .before .before .before .before .before .before .before .before .before .before .pre in
     let r = c .before .before .before .before .before .before .before .before .before .before .before .read-relocation .ensures in
-    let told = ap (λ r. decision (r .kind)) (sym r) ∙ sym (c .before .before .before .before .before .before .before .before .before .decide .ensures) ∙ c .before .before .before .before .before .before .before .calculation .given .1 in
+    let told = ap (λ r. decision (r .kind)) (sym r) ∙ sym (c .before .before .before .before .before .before .before .before .before .decide .ensures) ∙ c .before .before .before .before .before .before .before .rule .given .1 in
     let kept = kept-rules s o (a .addresses) (a .site) (a .j) (f .3 .kept (a .j) (f .4)) in
-    store-data _ _ _ _ _ told
+    store-data _ _ told
 
 write-bytes-requires : tie.Need-write-bytes-requires
 write-bytes-requires c κs =
@@ -67,10 +67,10 @@ write-bytes-requires c κs =
     let o = a .order .now in
     let f = c .before .before .before .before .before .before .before .before .before .before .before .before .before .before .before .before .pre in
     let r = c .before .before .before .before .before .before .before .before .before .before .before .before .read-relocation .ensures in
-    let told = ap (λ r. decision (r .kind)) (sym r) ∙ sym (c .before .before .before .before .before .before .before .before .before .before .decide .ensures) ∙ c .before .before .before .before .before .before .before .before .calculation .given .1 in
+    let told = ap (λ r. decision (r .kind)) (sym r) ∙ sym (c .before .before .before .before .before .before .before .before .before .before .decide .ensures) ∙ c .before .before .before .before .before .before .before .before .rule .given .1 in
     let kept = kept-rules s o (a .addresses) (a .site) (a .j) (f .3 .kept (a .j) (f .4)) in
     let inside = store-inside s (a .site) (a .j) (f .3 .site) (shape-inside s (a .site) (a .j) (kept .shape)) _ (ap touched told) in
-    (rw r (omega (arith, inside, found-length s (a .site) (f .3 .site))), store-width _ _ _ _ _ told)
+    (rw r (omega (arith, inside, found-length s (a .site) (f .3 .site))), store-width _ _ told)
 
 returns : tie.Need-returns
 returns c =
@@ -79,11 +79,11 @@ returns c =
     let o = a .order .now in
     let f = c .before .before .before .before .before .before .before .before .before .before .before .before .before .before .before .before .before .before .before .pre in
     let r = c .before .before .before .before .before .before .before .before .before .before .before .before .before .before .before .read-relocation .ensures in
-    let told = ap (λ r. decision (r .kind)) (sym r) ∙ sym (c .before .before .before .before .before .before .before .before .before .before .before .before .before .decide .ensures) ∙ c .before .before .before .before .before .before .before .before .before .before .before .calculation .given .1 in
+    let told = ap (λ r. decision (r .kind)) (sym r) ∙ sym (c .before .before .before .before .before .before .before .before .before .before .before .before .before .decide .ensures) ∙ c .before .before .before .before .before .before .before .before .before .before .before .rule .given .1 in
     let kept = kept-rules s o (a .addresses) (a .site) (a .j) (f .3 .kept (a .j) (f .4)) in
     let place = place-read s (a .site) (a .j) _ _ r (c .before .before .before .before .before .place-of .ensures) (f .3 .site) (shape-inside s (a .site) (a .j) (kept .shape)) (ap isStore told) in
     c .before .before .write-bytes .ensures
-    ∙ applied-read s o (a .addresses) (a .site) (a .j) _ _ _ _ (a .part .now) _ _ _ _ _ _ told (ap (λ r. r .offset .0) r) (c .before .before .before .before .before .before .read-bytes .ensures) (omega arith) (c .before .before .before .before .before .before .before .before .before .sum-at .ensures) place (λ e. c .before .before .before .before .before .before .before .before .distance-for .ensures ∙ rw e) (c .before .before .before .patch .ensures)
+    ∙ applied-read s o (a .addresses) (a .site) (a .j) _ (a .part .now) _ _ _ _ _ _ told (ap (λ r. r .offset .0) r) (c .before .before .before .before .before .before .read-bytes .ensures) (omega arith) (c .before .before .before .before .before .before .before .before .before .sum-at .ensures) place (λ e. c .before .before .before .before .before .before .before .before .distance-for .ensures ∙ rw e) (c .before .before .before .patch .ensures)
 
 returns-2 : tie.Need-returns-2
 returns-2 c =

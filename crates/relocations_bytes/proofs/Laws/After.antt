@@ -17,7 +17,7 @@ use Rattle.relocations_types.specs.declared.Decision.{Decision}
 use Rattle.relocations_types.specs.declared.Decision.the-variants.{Marker, Align, Store, Refused}
 use Rattle.relocations_rela.specs.declared.sites.Site.{Site}
 use Rattle.relocations_rela.specs.Sites.{count, decisionAt, offset, P, found}
-use Rattle.relocations_decisions.specs.Effects.{touched, isStore}
+use Rattle.relocations_decisions.specs.Decisions.{touched, isStore}
 use Rattle.relocations_rela.specs.Shape.{end}
 use Rattle.relocations_bytes.specs.Patches.{patched}
 use Rattle.relocations_bytes.specs.Sections.{sumAt, pairDistance, applied, after}
@@ -29,7 +29,7 @@ module _ (object order addresses : List ℕ) (x : Site) where
   length-applied j s = go (decisionAt object x j) refl
     where
       go : (d : Decision) → decisionAt object x j ≡ d → length (applied object order addresses x j s) ≡ length s
-      go (Store c f form n) e = ap length (applied-store object order addresses x j c f form n s e) ∙ simp length-sets
+      go (Store r) e = ap length (applied-store object order addresses x j r s e) ∙ simp length-sets
       go Marker e = ap length (applied-marker object order addresses x j s (ap isStore e))
       go Align e = ap length (applied-marker object order addresses x j s (ap isStore e))
       go Refused e = ap length (applied-marker object order addresses x j s (ap isStore e))
@@ -44,11 +44,12 @@ module _ (object order addresses : List ℕ) (x : Site) where
   applied-other j n at s away = go (decisionAt object x j) refl
     where
       go : (d : Decision) → decisionAt object x j ≡ d → leAt n (applied object order addresses x j s) at ≡ leAt n s at
-      go (Store c f form m) e =
-          let u : ℕ = patched (addressWidth object) c f (leAt m s (offset object x j)) (sumAt object order addresses x j) (P object x j) (pairDistance object order addresses x j) in
+      go (Store r) e =
+          let m : ℕ = r .size in
+          let u : ℕ = patched (addressWidth object) (r .calculation) (r .field) (leAt m s (offset object x j)) (sumAt object order addresses x j) (P object x j) (pairDistance object order addresses x j) in
           let many : touched (decisionAt object x j) ≡ m = ap touched e in
           let length : length (bytes m u) ≡ m = length-bytes m u in
-          ap (λ l. leAt n l at) (applied-store object order addresses x j c f form m s e)
+          ap (λ l. leAt n l at) (applied-store object order addresses x j r s e)
           ∙ leAt-sets-other n s at (offset object x j) (bytes m u) (⊎-elim (λ l. inl l) (λ l. inr (omega arith)) away)
       go Marker e = ap (λ l. leAt n l at) (applied-marker object order addresses x j s (ap isStore e))
       go Align e = ap (λ l. leAt n l at) (applied-marker object order addresses x j s (ap isStore e))

@@ -20,7 +20,7 @@ use Rattle.relocations_rela.specs.Sites.{siteAt}
 use Rattle.relocations_rela.specs.Shape.{neverFalls, staysInside, previous, noOverlap, shapeWell}
 use Rattle.placing_symbols.specs.Values.{symbolValue}
 use Rattle.relocations_rules.specs.Rules.{symbolWell, standsWell, formWell, pairWell}
-use Rattle.relocations_rules.specs.Search.{number, finding, findingOf}
+use Rattle.relocations_rules.specs.Search.{number, firstBroken, finding, findingOf}
 use Rattle.relocations_bytes.specs.Patches.{patched}
 use Rattle.relocations_bytes.specs.Sections.{sumAt, applied, after, relaOf, relocated}
 
@@ -93,5 +93,5 @@ numbers =
     ∷ []
 
 pub right : map (λ n. n .given) numbers ≡ map (λ n. n .said) numbers
-unfolding numbers object words bytes le leAt part first sum ceilPower ceilLog residue signed within even minus read put high low hasForm reaches decision table lookup among sectionAt allocated isAllocated countingRela relocationsIn bytesOf relocationAt locationOf siteAt neverFalls staysInside previous noOverlap shapeWell symbolValue symbolWell standsWell formWell pairWell finding findingOf patched sumAt applied after relaOf relocated
+unfolding numbers object words bytes le leAt part first sum ceilPower ceilLog residue signed within even minus read put high low hasForm reaches decision table lookup among sectionAt allocated isAllocated countingRela relocationsIn bytesOf relocationAt locationOf siteAt neverFalls staysInside previous noOverlap shapeWell symbolValue symbolWell standsWell formWell pairWell finding firstBroken findingOf patched sumAt applied after relaOf relocated
 right = refl

@@ -4,7 +4,7 @@ use mathlib.Core.Bool.{true, not, _||_}
 use mathlib.Core.List.{List}
 use Prim.Native.Nat.{ℕ, _^_, _<_}
 use lib.Dec.{eqb}
-use borrow.Author.Tests.{eqb-true}
+use lib.IntN.{ℤ}
 use Rattle.numbers_definitions.specs.Bytes.{leAt}
 use Rattle.numbers_definitions.specs.Whole.{signed, minus}
 use Rattle.numbers_definitions.specs.declared.SectionOffset.{SectionOffset}
@@ -14,11 +14,15 @@ use Rattle.instructions_fields.specs.declared.Field.{Field}
 use Rattle.instructions_fields.specs.declared.Field.the-variants.{U}
 use Rattle.instructions_fields.specs.Layouts.{read}
 use Rattle.instructions_fields.specs.Fields.{layout}
-use Rattle.instructions_riscv.specs.declared.forms.Form.the-variants.{Auipc}
-use Rattle.relocations_types.specs.declared.Calculation.the-variants.{HighPcRelative, HighAbsolute, LowAbsolute, LowOfPair}
+use Rattle.relocations_types.specs.declared.Operand.{Operand}
+use Rattle.relocations_types.specs.declared.Operand.the-variants.{Absolute, Paired}
+use Rattle.relocations_types.specs.declared.Part.{Part}
+use Rattle.relocations_types.specs.declared.Part.the-variants.{High, Low}
+use Rattle.relocations_types.specs.declared.Calculation.the-variants.{Of}
+use Rattle.relocations_types.specs.declared.Rule.{Rule}
 use Rattle.relocations_types.specs.declared.Decision.{Decision}
 use Rattle.relocations_types.specs.declared.Decision.the-variants.{Store}
-use Rattle.relocations_types.specs.Types.{table, among, lookup, decision}
+use Rattle.relocations_types.specs.Types.{pairing}
 use Rattle.instructions_riscv.specs.Halves.{low}
 use Rattle.instructions_riscv.proofs.Laws.Halves.{halves-whole}
 use Rattle.elf_read.specs.Headers.{addressWidth}
@@ -27,14 +31,15 @@ use Rattle.relocations_values.specs.declared.pairs.Pair.{Pair}
 use Rattle.relocations_values.specs.declared.pairs.Pair.the-variants.{At, NotOne}
 use Rattle.relocations_rela.specs.Sites.{count, entry, decisionAt, offset, P, found}
 use Rattle.relocations_values.specs.Values.{targetAt}
-use Rattle.relocations_decisions.specs.Effects.{needsPair}
-use Rattle.relocations_values.specs.Pairs.{PCREL_HI20, isPair, pairOf}
+use Rattle.relocations_decisions.specs.Decisions.{takesPair, needsPair, givesPair}
+use Rattle.relocations_values.specs.Pairs.{isPair, pairOf}
 use Rattle.relocations_rules.specs.Rules.{symbol, isOne, pairWell}
+use Rattle.relocations_decisions.proofs.Laws.Decisions.{pair-is}
 use Rattle.relocations_values.proofs.Laws.Pairs.{pair-there}
 use Rattle.relocations_rules.proofs.Laws.Search.{kept-rules}
-use Rattle.relocations_bytes.specs.Patches.{highPart}
+use Rattle.relocations_bytes.specs.Patches.{highPart, operandOf}
 use Rattle.relocations_bytes.specs.Sections.{distanceAt, distanceOf, pairDistance, after}
-use Rattle.relocations_bytes.specs.Promises.{extended, stackAt, Stored, ReadsBack, AddUp}
+use Rattle.relocations_bytes.specs.Promises.{extended, stackAt, SaidPart, Said, Stored, ReadsBack, AddUp}
 use Rattle.relocations_bytes.specs.Wholes.{Halves}
 use Rattle.relocations_bytes.specs.Requires.{Checked}
 use Rattle.relocations_bytes.proofs.Laws.ReadBack.{read-back}
@@ -61,9 +66,9 @@ module _ (object order addresses : List ℕ) (x : Site) (final : List ℕ) (back
   says j h d e = subst (Says j) e (unfold ReadsBack in back j h)
 
   -- a pair is a PCREL_HI20
-  hi20 : (j : ℕ) (value : SectionOffset) → isPair object x value j ≡ true → decisionAt object x j ≡ Store HighPcRelative U Auipc 4
-  unfolding isPair decision table lookup among
-  hi20 j value e = ap decision (eqb-true (entry object x j .kind) PCREL_HI20 (and-left (eqb (entry object x j .kind) PCREL_HI20) (eqb (offset object x j) (value .0)) e))
+  hi20 : (j : ℕ) (value : SectionOffset) → isPair object x value j ≡ true → decisionAt object x j ≡ pairing
+  unfolding isPair
+  hi20 j value e = pair-is (entry object x j .kind) (and-left (givesPair (decisionAt object x j)) (eqb (offset object x j) (value .0)) e)
 
   -- a PCREL_LO12 has one
   has-pair : Checked object order addresses x → (j : ℕ) → j < count x → needsPair (decisionAt object x j) ≡ true → (i : ℕ) × (pairOf object x (symbol object x j .value) ≡ At i)
@@ -83,25 +88,34 @@ module _ (object order addresses : List ℕ) (x : Site) (final : List ℕ) (back
   unfolding distanceAt minus
   distance-lt i = residue-lt w _
 
+  -- the number of the whole stack, for the rule of relocation j
+  abbrev whole : ℕ → Rule → ℤ
+  whole j r = stackAt object order addresses x (offset object x j) (read (layout (r .field)) (leAt (r .size) (found object x) (offset object x j))) (count x)
+
+  -- what relocation j says about a part of an operand
+  pub part-said : (j : ℕ) → j < count x → (r : Rule) (part : Part) (o : Operand) → decisionAt object x j ≡ Store r → r .calculation ≡ Of part o
+      → SaidPart w part (r .field) (leAt (r .size) final (offset object x j)) (operandOf w o (t j) (P object x j) (pairDistance object order addresses x j)) (t j) (P object x j)
+  part-said j h r part o e c =
+      subst (λ c. Said w c (r .field) (leAt (r .size) final (offset object x j)) (t j) (P object x j) (pairDistance object order addresses x j) (whole j r)) c (says j h (Store r) e .0)
+
   pub halves-of : Checked object order addresses x → Halves object order addresses x final
   unfolding distanceAt
   halves-of k =
       record {
-        address = λ i j hi hj f g a b m n p q same.
-            let high = says i hi (Store HighAbsolute f a m) p in
-            let low-half = says j hj (Store LowAbsolute g b n) q in
-            add-up w f g (leAt m final (offset object x i)) (leAt n final (offset object x j)) (t i) (residue-lt w _) (high .0) (low-half .0 ∙ ap (low w) (sym same));
-        distance = λ j hj g b n q.
-            let pair = has-pair k j hj (ap needsPair q) in
+        address = λ i j hi hj a b p q high-is low-is same.
+            add-up w (a .field) (b .field) (leAt (a .size) final (offset object x i)) (leAt (b .size) final (offset object x j)) (t i) (residue-lt w _) (part-said i hi a High Absolute p high-is)
+            (part-said j hj b Low Absolute q low-is ∙ ap (low w) (sym same));
+        distance = λ j hj b q low-is.
+            let pair = has-pair k j hj (ap needsPair q ∙ ap takesPair low-is) in
             let i : ℕ = pair .0 in
             let there = pair-there object x (symbol object x j .value) i (pair .1) in
-            let high = says i (there .0) (Store HighPcRelative U Auipc 4) (hi20 i (symbol object x j .value) (there .1)) in
-            let low-half = says j hj (Store LowOfPair g b n) q in
+            let high = says i (there .0) pairing (hi20 i (symbol object x j .value) (there .1)) in
             let same : pairDistance object order addresses x j ≡ distanceAt object order addresses x i = ap (distanceOf object order addresses x) (pair .1) in (
               i,
               there .0,
               pair .1,
-              add-up w U g (leAt 4 final (offset object x i)) (leAt n final (offset object x j)) (distanceAt object order addresses x i) (distance-lt i) (high .0) (low-half .0 ∙ ap (low w) same),
+              add-up w U (b .field) (leAt 4 final (offset object x i)) (leAt (b .size) final (offset object x j)) (distanceAt object order addresses x i) (distance-lt i) (high .0)
+                  (part-said j hj b Low Paired q low-is ∙ ap (low w) same),
             );
       }
 

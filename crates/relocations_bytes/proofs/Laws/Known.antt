@@ -15,15 +15,18 @@ use Rattle.instructions_fields.specs.Layouts.{formatU, formatI, read, outside}
 use Rattle.instructions_fields.specs.Fields.{layout, valueBits, unit}
 use Rattle.instructions_fields.proofs.Laws.Layouts.{total, read-append}
 use Rattle.instructions_fields.proofs.Laws.Determined.{determined, read-lt}
-use Rattle.instructions_riscv.specs.declared.forms.Form.{Form}
 use Rattle.instructions_riscv.proofs.Laws.Apart.{parts-apart, extended-known}
 use Rattle.relocations_types.specs.declared.Calculation.{Calculation}
-use Rattle.relocations_types.specs.declared.Calculation.the-variants.{Absolute, PcRelative, Distance, BothHalves, HighPcRelative, HighAbsolute, LowAbsolute, LowOfPair, Add, Sub, Set}
+use Rattle.relocations_types.specs.declared.Calculation.the-variants.{Of, Add, Sub, Set}
+use Rattle.relocations_types.specs.declared.Part.{Part}
+use Rattle.relocations_types.specs.declared.Part.the-variants.{Whole, Distance, High, Low, BothHalves}
+use Rattle.relocations_types.specs.declared.Rule.{Rule}
 use Rattle.relocations_types.specs.declared.Decision.the-variants.{Store}
 use Rattle.relocations_types.specs.Types.{decision}
 use Rattle.relocations_decisions.proofs.Laws.Decisions.{store-bytes}
-use Rattle.relocations_bytes.specs.Promises.{Said}
-use Rattle.relocations_bytes.proofs.Laws.Said.{suits, store-suits}
+use Rattle.relocations_bytes.specs.Patches.{operandOf}
+use Rattle.relocations_bytes.specs.Promises.{SaidPart, Said}
+use Rattle.relocations_bytes.proofs.Laws.Said.{isCall, suitsPart, suits, suits-part, store-suits}
 use Rattle.relocations_bytes.proofs.Laws.ReadBack.{radix}
 
 -- a number of n bits is determined by its signed value
@@ -39,20 +42,22 @@ call-read : (b : ℕ) → read (layout Call) b ≡ read formatU b + read formatI
 unfolding total
 call-read b = read-append formatU formatI b
 
-call-known : (w : ℕ) → 32 ≤ w → (f : Field) (b v t p d : ℕ) (z : ℤ) → suits BothHalves f ≡ true → Said w BothHalves f b t p d z → Said w BothHalves f v t p d z
-    → read (layout f) b ≡ read (layout f) v
-call-known w h Call b v t p d z e x y =
+abbrev BothSaid : ℕ → ℕ → ℕ → Type 0
+BothSaid w b v = SaidPart w BothHalves Call b v 0 0
+
+call-known : (w : ℕ) → 32 ≤ w → (f : Field) (b v d : ℕ) → isCall f ≡ true → BothSaid w b d → BothSaid w v d → read (layout f) b ≡ read (layout f) v
+call-known w h Call b v d e x y =
     let apart = parts-apart w (read formatU b) (read formatU v) (read formatI (b / 2 ^ 32)) (read formatI (v / 2 ^ 32)) h (high-unit b) (high-unit v)
     (read-lt U b) (read-lt U v) (read-lt I (b / 2 ^ 32)) (read-lt I (v / 2 ^ 32)) (x ∙ sym y) in
     call-read b ∙ ap₂ _+_ (apart .0) (apart .1) ∙ sym (call-read v)
-call-known w h U b v t p d z e x y = never e
-call-known w h I b v t p d z e x y = never e
-call-known w h S b v t p d z e x y = never e
-call-known w h B b v t p d z e x y = never e
-call-known w h J b v t p d z e x y = never e
-call-known w h Cb b v t p d z e x y = never e
-call-known w h Cj b v t p d z e x y = never e
-call-known w h (Data width) b v t p d z e x y = never e
+call-known w h U b v d e x y = never e
+call-known w h I b v d e x y = never e
+call-known w h S b v d e x y = never e
+call-known w h B b v d e x y = never e
+call-known w h J b v d e x y = never e
+call-known w h Cb b v d e x y = never e
+call-known w h Cj b v d e x y = never e
+call-known w h (Data width) b v d e x y = never e
 
 -- a high half has 32 bits, and a low half twelve
 so-many : (u n : ℕ) (f : Field) (b : ℕ) → eqb (unit f) u && eqb (valueBits f) n ≡ true → read (layout f) b < 2 ^ n
@@ -60,24 +65,28 @@ so-many u n f b e =
     let bits : valueBits f ≡ n = eqb-true _ _ (and-right (eqb (unit f) u) (eqb (valueBits f) n) e) in
     rw bits at (read-lt f b)
 
+-- for every part
+part-known : (w : ℕ) → 32 ≤ w → (part : Part) (f : Field) (b u v t p : ℕ) → suitsPart part f ≡ true → SaidPart w part f b v t p → SaidPart w part f u v t p
+    → read (layout f) b ≡ read (layout f) u
+part-known w h Whole f b u v t p e x y = x ∙ sym y
+part-known w h Distance f b u v t p e x y = signed-known (valueBits f) _ _ _ (read-lt f b) (read-lt f u) x y
+part-known w h High f b u v t p e x y = extended-known w _ _ h (so-many 4096 32 f b e) (so-many 4096 32 f u e) (x ∙ sym y)
+part-known w h Low f b u v t p e x y = signed-known 12 _ _ _ (so-many 1 12 f b e) (so-many 1 12 f u e) x y
+part-known w h BothHalves f b u v t p e x y = call-known w h f b u v e x y
+
 -- for every calculation
 read-known : (w : ℕ) → 32 ≤ w → (c : Calculation) (f : Field) (b v t p d : ℕ) (z : ℤ) → suits c f ≡ true → Said w c f b t p d z → Said w c f v t p d z
     → read (layout f) b ≡ read (layout f) v
-read-known w h Absolute f b v t p d z e x y = x ∙ sym y
-read-known w h PcRelative f b v t p d z e x y = x ∙ sym y
-read-known w h Distance f b v t p d z e x y = signed-known (valueBits f) _ _ _ (read-lt f b) (read-lt f v) x y
-read-known w h BothHalves f b v t p d z e x y = call-known w h f b v t p d z e x y
-read-known w h HighPcRelative f b v t p d z e x y = extended-known w _ _ h (so-many 4096 32 f b e) (so-many 4096 32 f v e) (x ∙ sym y)
-read-known w h HighAbsolute f b v t p d z e x y = extended-known w _ _ h (so-many 4096 32 f b e) (so-many 4096 32 f v e) (x ∙ sym y)
-read-known w h LowAbsolute f b v t p d z e x y = signed-known 12 _ _ _ (so-many 1 12 f b e) (so-many 1 12 f v e) x y
-read-known w h LowOfPair f b v t p d z e x y = signed-known 12 _ _ _ (so-many 1 12 f b e) (so-many 1 12 f v e) x y
+read-known w h (Of part o) f b v t p d z e x y = part-known w h part f b v (operandOf w o t p d) t p (suits-part part o f e) x y
 read-known w h Add f b v t p d z e x y = x ∙ sym y
 read-known w h Sub f b v t p d z e x y = x ∙ sym y
 read-known w h Set f b v t p d z e x y = x ∙ sym y
 
 -- and so the bytes are determined too
-pub bytes-known : (w : ℕ) → 32 ≤ w → (kind : ℕ) (c : Calculation) (f : Field) (form : Form) (n : ℕ) → decision kind ≡ Store c f form n → (b v : ℕ) → b < 256 ^ n → v < 256 ^ n
-    → (t p d : ℕ) (z : ℤ) → Said w c f b t p d z → Said w c f v t p d z → outside (layout f) b ≡ outside (layout f) v → b ≡ v
-bytes-known w h kind c f form n e b v hb hv t p d z x y o =
-    let size : 256 ^ n ≡ 2 ^ total (layout f) = ap (λ k. 256 ^ k) (store-bytes kind c f form n e) ∙ sym (radix f) in
-    determined f b v (rw size at hb) (rw size at hv) o (read-known w h c f b v t p d z (store-suits kind c f form n e) x y)
+pub bytes-known : (w : ℕ) → 32 ≤ w → (kind : ℕ) (r : Rule) → decision kind ≡ Store r → (b v : ℕ) → b < 256 ^ r .size → v < 256 ^ r .size
+    → (t p d : ℕ) (z : ℤ) → Said w (r .calculation) (r .field) b t p d z → Said w (r .calculation) (r .field) v t p d z
+    → outside (layout (r .field)) b ≡ outside (layout (r .field)) v → b ≡ v
+bytes-known w h kind r e b v hb hv t p d z x y o =
+    let f : Field = r .field in
+    let size : 256 ^ r .size ≡ 2 ^ total (layout f) = ap (λ k. 256 ^ k) (store-bytes kind r e) ∙ sym (radix f) in
+    determined f b v (rw size at hb) (rw size at hv) o (read-known w h (r .calculation) f b v t p d z (store-suits kind r e) x y)

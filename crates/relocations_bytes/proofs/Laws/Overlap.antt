@@ -14,15 +14,15 @@ use Rattle.instructions_fields.specs.declared.Width.the-variants.{W6, W8, W16, 
 use Rattle.instructions_fields.specs.declared.Field.{Field}
 use Rattle.instructions_fields.specs.declared.Field.the-variants.{U, I, S, B, J, Cb, Cj, Call, Data}
 use Rattle.instructions_fields.specs.Fields.{bits, valueBits}
-use Rattle.instructions_riscv.specs.declared.forms.Form.{Form}
 use Rattle.relocations_types.specs.declared.Calculation.{Calculation}
+use Rattle.relocations_types.specs.declared.Rule.{Rule}
 use Rattle.relocations_types.specs.declared.Decision.{Decision}
 use Rattle.relocations_types.specs.declared.Decision.the-variants.{Marker, Align, Store, Refused}
 use Rattle.relocations_types.specs.Types.{decision}
 use Rattle.relocations_rela.specs.declared.sites.Site.{Site}
 use Rattle.relocations_rela.specs.declared.shape.Previous.the-variants.{Entry}
 use Rattle.relocations_rela.specs.Sites.{offset, decisionAt}
-use Rattle.relocations_decisions.specs.Effects.{isStore, touched, stacks, stackWidth}
+use Rattle.relocations_decisions.specs.Decisions.{isStore, touched, stacks, stackBits, stackWidth}
 use Rattle.relocations_rela.specs.Shape.{end, neverFalls, previous, sharesPlace, clears, noOverlap, shapeWell}
 use Rattle.relocations_decisions.specs.Widths.{isDataField}
 use Rattle.relocations_decisions.proofs.Laws.Decisions.{fieldBytes, store-bytes, store-data}
@@ -68,19 +68,18 @@ stack-width c f h = go (stacks c) h
     go false l = absurd (omega arith)
 
 -- what two relocations that share their place have in common
-pub same-stack : (s t : ℕ) (c e : Calculation) (f g : Field) (a b : Form) (m n : ℕ) → decision s ≡ Store c f a m → decision t ≡ Store e g b n
-    → 0 < stackWidth (decision s) → stackWidth (decision s) ≡ stackWidth (decision t)
-    → (stacks c ≡ true) × (stacks e ≡ true) × (f ≡ g) × (m ≡ n)
-same-stack s t c e f g a b m n p q some same =
-    let left : 0 < cond (stacks c) (valueBits f) 0 = rw p at some in
-    let equal : cond (stacks c) (valueBits f) 0 ≡ cond (stacks e) (valueBits g) 0 = sym (ap stackWidth p) ∙ same ∙ ap stackWidth q in
-    let right : 0 < cond (stacks e) (valueBits g) 0 = omega arith in
-    let cs = stack-width c f left in
-    let es = stack-width e g right in
-    let field : f ≡ g =
-    same-field f g (given (stacks c) (isDataField f) (store-data s c f a m p) (cs .0)) (given (stacks e) (isDataField g) (store-data t e g b n q) (es .0))
-    (sym (cs .1) ∙ equal ∙ es .1) in
-    (cs .0, es .0, field, store-bytes s c f a m p ∙ ap fieldBytes field ∙ sym (store-bytes t e g b n q))
+pub same-stack : (s t : ℕ) (a b : Rule) → decision s ≡ Store a → decision t ≡ Store b → 0 < stackWidth (decision s) → stackWidth (decision s) ≡ stackWidth (decision t)
+    → (stacks (a .calculation) ≡ true) × (stacks (b .calculation) ≡ true) × (a .field ≡ b .field) × (a .size ≡ b .size)
+same-stack s t a b p q some same =
+    let left : 0 < stackBits a = rw p at some in
+    let equal : stackBits a ≡ stackBits b = sym (ap stackWidth p) ∙ same ∙ ap stackWidth q in
+    let right : 0 < stackBits b = omega arith in
+    let one = stack-width (a .calculation) (a .field) left in
+    let two = stack-width (b .calculation) (b .field) right in
+    let field : a .field ≡ b .field =
+    same-field (a .field) (b .field) (given (stacks (a .calculation)) (isDataField (a .field)) (store-data s a p) (one .0)) (given (stacks (b .calculation)) (isDataField (b .field)) (store-data t b q) (two .0))
+    (sym (one .1) ∙ equal ∙ two .1) in
+    (one .0, two .0, field, store-bytes s a p ∙ ap fieldBytes field ∙ sym (store-bytes t b q))
 
 -- ---- the relocations of a site that keep check 9
 
@@ -107,14 +106,14 @@ same-end : (object : List ℕ) (x : Site) (i j : ℕ) → Shares object x i j �
 same-end object x i j s p q = go (decisionAt object x i) refl (decisionAt object x j) refl p q
   where
     go : (d : Decision) → decisionAt object x i ≡ d → (e : Decision) → decisionAt object x j ≡ e → isStore d ≡ true → isStore e ≡ true → end object x i ≡ end object x j
-    go (Store c f a m) u (Store e g b n) v p q =
-        let same = same-stack _ _ c e f g a b m n u v (s .some) (s .width) in
-        let left : touched (decisionAt object x i) ≡ m = ap touched u in
-        let right : touched (decisionAt object x j) ≡ n = ap touched v in
+    go (Store a) u (Store b) v p q =
+        let same = same-stack _ _ a b u v (s .some) (s .width) in
+        let left : touched (decisionAt object x i) ≡ a .size = ap touched u in
+        let right : touched (decisionAt object x j) ≡ b .size = ap touched v in
         omega (arith, s .place, same .3)
-    go (Store c f a m) u Marker v p q = never q
-    go (Store c f a m) u Align v p q = never q
-    go (Store c f a m) u Refused v p q = never q
+    go (Store a) u Marker v p q = never q
+    go (Store a) u Align v p q = never q
+    go (Store a) u Refused v p q = never q
     go Marker u e v p q = never p
     go Align u e v p q = never p
     go Refused u e v p q = never p

@@ -11,11 +11,12 @@ use Rattle.instructions_fields.specs.declared.Field.the-variants.{U, I, S, B, J
 use Rattle.instructions_fields.specs.Layouts.{read, put}
 use Rattle.instructions_fields.specs.Fields.{layout, valueBits}
 use Rattle.relocations_types.specs.declared.Calculation.{Calculation}
-use Rattle.relocations_types.specs.declared.Calculation.the-variants.{Absolute, PcRelative, Distance, BothHalves, HighPcRelative, HighAbsolute, LowAbsolute, LowOfPair, Add, Sub, Set}
-use Rattle.instructions_riscv.specs.Ranges.{distance}
+use Rattle.relocations_types.specs.declared.Calculation.the-variants.{Of, Add, Sub, Set}
+use Rattle.relocations_types.specs.declared.Operand.{Operand}
+use Rattle.relocations_types.specs.declared.Operand.the-variants.{Absolute, PcRelative, Paired}
 use Rattle.instructions_riscv.proofs.Laws.Halves.{narrowed}
-use Rattle.relocations_decisions.specs.Effects.{takesPair}
-use Rattle.relocations_bytes.specs.Patches.{highPart, lowPart, calculated, patched}
+use Rattle.relocations_decisions.specs.Decisions.{isPaired, takesPair}
+use Rattle.relocations_bytes.specs.Patches.{operandOf, partOf, calculated, patched}
 
 -- ---- numbers that are equal modulo 2^(j + k) are so modulo 2^k
 
@@ -64,16 +65,15 @@ module _ (w : ℕ) (h : w ≤ 64) where
   cut : (y z : ℤ) → residue 64 y ≡ residue 64 z → residue w y ≡ residue w z
   cut y z q = sym (narrowed 64 w y h) ∙ ap (λ n. n % 2 ^ w) q ∙ narrowed 64 w z h
 
+  same-operand : (o : Operand) (y z : ℤ) (p d e : ℕ) → residue 64 y ≡ residue 64 z → (isPaired o ≡ true → d ≡ e)
+      → operandOf w o (residue w y) p d ≡ operandOf w o (residue w z) p e
+  same-operand Absolute y z p d e q r = cut y z q
+  same-operand PcRelative y z p d e q r = ap (λ t. minus w t p) (cut y z q)
+  same-operand Paired y z p d e q r = r refl
+
   same-value : (c : Calculation) (f : Field) (v : ℕ) (y z : ℤ) (p d e : ℕ) → residue 64 y ≡ residue 64 z → (takesPair c ≡ true → d ≡ e)
       → calculated w c (valueBits f) v y p d ≡ calculated w c (valueBits f) v z p e
-  same-value Absolute f v y z p d e q r = cut y z q
-  same-value PcRelative f v y z p d e q r = ap (λ t. minus w t p) (cut y z q)
-  same-value Distance f v y z p d e q r = ap (λ t. residue w (distance t p)) (cut y z q)
-  same-value BothHalves f v y z p d e q r = ap (λ t. highPart w (minus w t p) + lowPart w (minus w t p)) (cut y z q)
-  same-value HighPcRelative f v y z p d e q r = ap (λ t. highPart w (minus w t p)) (cut y z q)
-  same-value HighAbsolute f v y z p d e q r = ap (highPart w) (cut y z q)
-  same-value LowAbsolute f v y z p d e q r = ap (lowPart w) (cut y z q)
-  same-value LowOfPair f v y z p d e q r = ap (lowPart w) (r refl)
+  same-value (Of part o) f v y z p d e q r = ap (partOf w part) (same-operand o y z p d e q r)
   same-value Add f v y z p d e q r = narrow-sum (rest f) (valueBits f) v y z (rw (whole f) q)
   same-value Sub f v y z p d e q r = narrow-difference (rest f) (valueBits f) v y z (rw (whole f) q)
   same-value Set f v y z p d e q r = narrow (rest f) (valueBits f) y z (rw (whole f) q)

@@ -21,9 +21,9 @@ use Rattle.instructions_fields.specs.declared.Field.the-variants.{U, I, S, B, J
 use Rattle.instructions_fields.specs.Layouts.{read, outside}
 use Rattle.instructions_fields.specs.Fields.{layout, valueBits}
 use Rattle.instructions_fields.proofs.Laws.Layouts.{total, put-lt, outside-put}
-use Rattle.instructions_riscv.specs.declared.forms.Form.{Form}
 use Rattle.relocations_types.specs.declared.Calculation.{Calculation}
-use Rattle.relocations_types.specs.declared.Calculation.the-variants.{Absolute, PcRelative, Distance, BothHalves, HighPcRelative, HighAbsolute, LowAbsolute, LowOfPair, Add, Sub, Set}
+use Rattle.relocations_types.specs.declared.Calculation.the-variants.{Of, Add, Sub, Set}
+use Rattle.relocations_types.specs.declared.Rule.{Rule}
 use Rattle.relocations_types.specs.declared.Decision.{Decision}
 use Rattle.relocations_types.specs.declared.Decision.the-variants.{Marker, Align, Store, Refused}
 use Rattle.elf_read.specs.Headers.{addressWidth}
@@ -31,7 +31,7 @@ use Rattle.elf_read.proofs.Laws.Headers.{address-wide}
 use Rattle.relocations_rela.specs.declared.sites.Site.{Site}
 use Rattle.relocations_rela.specs.Sites.{count, decisionAt, offset, P, found}
 use Rattle.relocations_values.specs.Values.{targetAt}
-use Rattle.relocations_decisions.specs.Effects.{touched, isStore, stacks, stackWidth}
+use Rattle.relocations_decisions.specs.Decisions.{touched, isStore, stacks, stackWidth}
 use Rattle.relocations_rela.specs.Shape.{end, shapeWell}
 use Rattle.relocations_rules.specs.Rules.{reachesWell, distanceWell}
 use Rattle.relocations_decisions.specs.Widths.{isDataField}
@@ -76,8 +76,8 @@ unfolding patched
 outside-patched w c f b x p d = outside-put (layout f) b _
 
 -- a decision that belongs to no stack has width 0, and one that belongs to a stack has a width above 0
-no-width : (c : Calculation) (f : Field) (form : Form) (n : ℕ) → stacks c ≡ false → stackWidth (Store c f form n) ≡ 0
-no-width c f form n e = rw e
+no-width : (r : Rule) → stacks (r .calculation) ≡ false → stackWidth (Store r) ≡ 0
+no-width r e = rw e
 
 data-some : (f : Field) → isDataField f ≡ true → 0 < valueBits f
 data-some (Data W6) e = omega arith
@@ -95,11 +95,20 @@ data-some Cj e = never e
 data-some Call e = never e
 
 -- what two facts about a decision say about its parts
-reaches-of : (w : ℕ) (d : Decision) (c : Calculation) (f : Field) (form : Form) (n t p : ℕ) → d ≡ Store c f form n → distanceWell w d t p ≡ true → reachesWell w c f t p ≡ true
-reaches-of w d c f form n t p e h = sym (ap (λ d. distanceWell w d t p) e) ∙ h
+reaches-of : (w : ℕ) (d : Decision) (r : Rule) (t p : ℕ) → d ≡ Store r → distanceWell w d t p ≡ true → reachesWell w (r .calculation) (r .field) t p ≡ true
+reaches-of w d r t p e h = sym (ap (λ d. distanceWell w d t p) e) ∙ h
 
 module _ (object order addresses : List ℕ) (x : Site) (k : Checked object order addresses x) (j : ℕ) (h : j < count x)
-    (c : Calculation) (f : Field) (form : Form) (n : ℕ) (e : decisionAt object x j ≡ Store c f form n) where
+    (r : Rule) (e : decisionAt object x j ≡ Store r) where
+  abbrev c : Calculation
+  c = r .calculation
+
+  abbrev f : Field
+  f = r .field
+
+  abbrev n : ℕ
+  n = r .size
+
   shaped : (i : ℕ) → i < count x → shapeWell object x i ≡ true
   shaped i l = kept-rules object order addresses x i (k .kept i l) .shape
 
@@ -113,7 +122,7 @@ module _ (object order addresses : List ℕ) (x : Site) (k : Checked object orde
   now m = after object order addresses x m
 
   some : 0 < n
-  some = width-some n (store-width _ c f form n e)
+  some = width-some n (store-width _ r e)
 
   store : isStore (decisionAt object x j) ≡ true
   store = ap isStore e
@@ -159,18 +168,21 @@ module _ (object order addresses : List ℕ) (x : Site) (k : Checked object orde
   marker-same m s = ap (λ l. leAt n l at) (applied-marker object order addresses x m (now m) s)
 
   -- what a relocation that shares the place stores, read right after it
-  stored-here : (m : ℕ) (b : Calculation) (g : Form) → decisionAt object x m ≡ Store b f g n → offset object x m ≡ at
-      → leAt n (now (suc m)) at ≡ patched w b f (leAt n (now m) at) (sumAt object order addresses x m) (P object x m) (pairDistance object order addresses x m)
+  stored-here : (m : ℕ) (a : Rule) → decisionAt object x m ≡ Store a → a .field ≡ f → a .size ≡ n → offset object x m ≡ at
+      → leAt n (now (suc m)) at ≡ patched w (a .calculation) f (leAt n (now m) at) (sumAt object order addresses x m) (P object x m) (pairDistance object order addresses x m)
   unfolding after
-  stored-here m b g q o =
+  stored-here m a q same-field same-size o =
+      let b : Calculation = a .calculation in
       let s : List ℕ = now m in
       let y : ℤ = sumAt object order addresses x m in
       let d : ℕ = pairDistance object order addresses x m in
       let u : ℕ = patched w b f (leAt n s (offset object x m)) y (P object x m) d in
-      ap (λ l. leAt n l at) (applied-store object order addresses x m b f g n s q)
-      ∙ ap (λ a. leAt n (lib.Seq.sets s a (bytes n u)) at) o
+      ap (λ l. leAt n l at) (applied-store object order addresses x m a s q)
+      ∙ ap (λ k. leAt n (lib.Seq.sets s (offset object x m) (bytes k (patched w b (a .field) (leAt k s (offset object x m)) y (P object x m) d))) at) same-size
+      ∙ ap (λ g. leAt n (lib.Seq.sets s (offset object x m) (bytes n (patched w b g (leAt n s (offset object x m)) y (P object x m) d))) at) same-field
+      ∙ ap (λ i. leAt n (lib.Seq.sets s i (bytes n u)) at) o
       ∙ leAt-sets n s at u (fits m)
-      ∙ mod-eq-of-lt (patched-lt w b f (leAt n s (offset object x m)) y (P object x m) d n (store-bytes _ b f g n q))
+      ∙ mod-eq-of-lt (patched-lt w b f (leAt n s (offset object x m)) y (P object x m) d n (store-bytes _ r e))
       ∙ ap (λ a. patched w b f (leAt n s a) y (P object x m) d) o
 
   -- ---- a relocation of no stack is alone
@@ -181,7 +193,7 @@ module _ (object order addresses : List ℕ) (x : Site) (k : Checked object orde
       where
         none : Shares object x j m → leAt n (now (suc m)) at ≡ leAt n (now m) at
         none q =
-            let zero : stackWidth (decisionAt object x j) ≡ 0 = ap stackWidth e ∙ no-width c f form n single in
+            let zero : stackWidth (decisionAt object x j) ≡ 0 = ap stackWidth e ∙ no-width r single in
             absurd (omega (arith, q .some))
 
         go : (b : Bool) → isStore (decisionAt object x m) ≡ b → leAt n (now (suc m)) at ≡ leAt n (now m) at
@@ -205,14 +217,14 @@ module _ (object order addresses : List ℕ) (x : Site) (k : Checked object orde
         go (no d) rest =
             let same : m ≡ j = omega arith in
             ap (λ i. leAt n (now (suc i)) at) same
-            ∙ stored-here j c form e refl
+            ∙ stored-here j r e refl refl refl
             ∙ ap (λ b. patched w c f b (sumAt object order addresses x j) (P object x j) (pairDistance object order addresses x j)) (before j (omega arith))
 
     -- at 32 bits every number is near enough; at 64 bits check 13 has to ask for it (document 02, Ticket 1)
-    near : (t p : ℕ) → Near w c t p
-    near t p = near-32 c t p
+    near : (t p d : ℕ) → Near w c t p d
+    near t p d = near-32 c t p d
 
-    pub single-back : Stored w (Store c f form n) (found object x) (now (count x)) at (residue w (sumAt object order addresses x j)) (P object x j)
+    pub single-back : Stored w (Store r) (found object x) (now (count x)) at (residue w (sumAt object order addresses x j)) (P object x j)
         (pairDistance object order addresses x j) (λ v. stackAt object order addresses x at v (count x))
     unfolding sumAt
     single-back =
@@ -223,9 +235,9 @@ module _ (object order addresses : List ℕ) (x : Site) (k : Checked object orde
         let whole : ℤ = stackAt object order addresses x at (read (layout f) b) (count x) in
         let final : leAt n (now (count x)) at ≡ laid = then (count x) h (omega arith) in
         let reach : reachesWell w c f (residue w y) p ≡ true =
-        reaches-of w (decisionAt object x j) c f form n (residue w y) p e (kept-rules object order addresses x j (k .kept j h) .distance) in (
+        reaches-of w (decisionAt object x j) r (residue w y) p e (kept-rules object order addresses x j (k .kept j h) .distance) in (
           subst (λ u. Said w c f u (residue w y) p d whole) (sym final)
-              (said w (address-wide object) c f b y p d whole single (store-suits _ c f form n e) reach (near (residue w y) p)),
+              (said w (address-wide object) c f b y p d whole single (store-suits _ r e) reach (near (residue w y) p d)),
           ap (outside (layout f)) final ∙ outside-patched w c f b y p d,
         )
 
@@ -233,7 +245,7 @@ module _ (object order addresses : List ℕ) (x : Site) (k : Checked object orde
 
   module _ (stack : stacks c ≡ true) where
     on-data : isDataField f ≡ true
-    on-data = given (stacks c) (isDataField f) (store-data _ c f form n e) stack
+    on-data = given (stacks c) (isDataField f) (store-data _ r e) stack
 
     wide : 0 < stackWidth (decisionAt object x j)
     wide = rw (e, stack) (data-some f on-data)
@@ -258,7 +270,7 @@ module _ (object order addresses : List ℕ) (x : Site) (k : Checked object orde
     marker-stays m s = go (decisionAt object x m) s
       where
         go : (d : Decision) → isStore d ≡ false → stackOn d (eqb (offset object x m) at) (stackAt object order addresses x at v₀ m) (sumAt object order addresses x m) ≡ stackAt object order addresses x at v₀ m
-        go (Store b g y i) q = never (sym q)
+        go (Store a) q = never (sym q)
         go Marker q = refl
         go Align q = refl
         go Refused q = refl
@@ -268,7 +280,7 @@ module _ (object order addresses : List ℕ) (x : Site) (k : Checked object orde
     away-stays m o = rw (ne-eqb (offset object x m) at o) (go (decisionAt object x m))
       where
         go : (d : Decision) → stackOn d false (stackAt object order addresses x at v₀ m) (sumAt object order addresses x m) ≡ stackAt object order addresses x at v₀ m
-        go (Store b g y i) = refl
+        go (Store a) = refl
         go Marker = refl
         go Align = refl
         go Refused = refl
@@ -279,41 +291,41 @@ module _ (object order addresses : List ℕ) (x : Site) (k : Checked object orde
     other-place m s (inr a) o = go (decisionAt object x m) refl s
       where
         go : (d : Decision) → decisionAt object x m ≡ d → isStore d ≡ true → ⊥
-        go (Store b g y i) q t =
-            let many : touched (decisionAt object x m) ≡ i = ap touched q in
-            omega (arith, width-some i (store-width _ b g y i q))
+        go (Store b) q t =
+            let many : touched (decisionAt object x m) ≡ b .size = ap touched q in
+            omega (arith, width-some (b .size) (store-width _ b q))
         go Marker q t = never t
         go Align q t = never t
         go Refused q t = never t
 
     -- one more relocation of the stack
-    taken : (m : ℕ) (b : Calculation) (y : Form) → decisionAt object x m ≡ Store b f y n → offset object x m ≡ at → stacks b ≡ true → Holds m → Holds (suc m)
+    taken : (m : ℕ) (a : Rule) → decisionAt object x m ≡ Store a → a .field ≡ f → a .size ≡ n → offset object x m ≡ at → stacks (a .calculation) ≡ true → Holds m → Holds (suc m)
     unfolding stackAt
-    taken m b y q o t held =
+    taken m a q same-field same-size o t held =
+        let b : Calculation = a .calculation in
         let z : ℤ = stackAt object order addresses x at v₀ m in
-        let a : ℤ = sumAt object order addresses x m in
+        let y : ℤ = sumAt object order addresses x m in
         let p : ℕ = P object x m in
         let d : ℕ = pairDistance object order addresses x m in
         let u : ℕ = leAt n (now m) at in
-        let is : leAt n (now (suc m)) at ≡ patched w b f u a p d = stored-here m b y q o in
+        let is : leAt n (now (suc m)) at ≡ patched w b f u y p d = stored-here m a q same-field same-size o in
         record {
-          value = ap (read (layout f)) is ∙ stacked w b f u z a p d t on-data (held .value) ∙ ap (residue (valueBits f)) (sym (here q));
-          rest = ap (outside (layout f)) is ∙ outside-patched w b f u a p d ∙ held .rest;
+          value = ap (read (layout f)) is ∙ stacked w b f u z y p d t on-data (held .value) ∙ ap (residue (valueBits f)) (sym (here q));
+          rest = ap (outside (layout f)) is ∙ outside-patched w b f u y p d ∙ held .rest;
         }
       where
-        here : decisionAt object x m ≡ Store b f y n
+        here : decisionAt object x m ≡ Store a
             → stackOn (decisionAt object x m) (eqb (offset object x m) at) (stackAt object order addresses x at v₀ m) (sumAt object order addresses x m)
-            ≡ stackStep b (stackAt object order addresses x at v₀ m) (sumAt object order addresses x m)
+            ≡ stackStep (a .calculation) (stackAt object order addresses x at v₀ m) (sumAt object order addresses x m)
         here q = rw (q, eq-eqb (offset object x m) at o)
 
     together : (m : ℕ) → Shares object x j m → isStore (decisionAt object x m) ≡ true → Holds m → Holds (suc m)
     together m q s held = go (decisionAt object x m) refl s
       where
         go : (d : Decision) → decisionAt object x m ≡ d → isStore d ≡ true → Holds (suc m)
-        go (Store b g y i) u t =
-            let same = same-stack _ _ c b f g form y n i e u (q .some) (q .width) in
-            let told : decisionAt object x m ≡ Store b f y n = u ∙ ap (λ g. Store b g y i) (sym (same .2)) ∙ ap (Store b f y) (sym (same .3)) in
-            taken m b y told (sym (q .place)) (same .1) held
+        go (Store a) u t =
+            let same = same-stack _ _ r a e u (q .some) (q .width) in
+            taken m a u (sym (same .2)) (sym (same .3)) (sym (q .place)) (same .1) held
         go Marker u t = never t
         go Align u t = never t
         go Refused u t = never t
@@ -341,16 +353,9 @@ module _ (object order addresses : List ℕ) (x : Site) (k : Checked object orde
     said-stack Add u t p d whole s r = r
     said-stack Sub u t p d whole s r = r
     said-stack Set u t p d whole s r = r
-    said-stack Absolute u t p d whole s r = never s
-    said-stack PcRelative u t p d whole s r = never s
-    said-stack Distance u t p d whole s r = never s
-    said-stack BothHalves u t p d whole s r = never s
-    said-stack HighPcRelative u t p d whole s r = never s
-    said-stack HighAbsolute u t p d whole s r = never s
-    said-stack LowAbsolute u t p d whole s r = never s
-    said-stack LowOfPair u t p d whole s r = never s
+    said-stack (Of part operand) u t p d whole s r = never s
 
-    pub stack-back : (t p d : ℕ) → Stored w (Store c f form n) (found object x) (now (count x)) at t p d (λ v. stackAt object order addresses x at v (count x))
+    pub stack-back : (t p d : ℕ) → Stored w (Store r) (found object x) (now (count x)) at t p d (λ v. stackAt object order addresses x at v (count x))
     stack-back t p d =
         let held = holds (count x) (omega arith) in
         (said-stack c (leAt n (now (count x)) at) t p d (stackAt object order addresses x at v₀ (count x)) stack (held .value), held .rest)
@@ -371,13 +376,13 @@ read-back object order addresses x k j h = go (decisionAt object x j) refl
     go : (d : Decision) → decisionAt object x j ≡ d
         → Stored (addressWidth object) d (found object x) final (offset object x j) t (P object x j) (pairDistance object order addresses x j)
         (λ v. stackAt object order addresses x (offset object x j) v (count x))
-    go (Store c f form n) e = split (stacks c) refl
+    go (Store r) e = split (stacks (r .calculation)) refl
       where
-        split : (b : Bool) → stacks c ≡ b
-            → Stored (addressWidth object) (Store c f form n) (found object x) final (offset object x j) t (P object x j) (pairDistance object order addresses x j)
+        split : (b : Bool) → stacks (r .calculation) ≡ b
+            → Stored (addressWidth object) (Store r) (found object x) final (offset object x j) t (P object x j) (pairDistance object order addresses x j)
             (λ v. stackAt object order addresses x (offset object x j) v (count x))
-        split true s = stack-back object order addresses x k j h c f form n e s t (P object x j) (pairDistance object order addresses x j)
-        split false s = single-back object order addresses x k j h c f form n e s
+        split true s = stack-back object order addresses x k j h r e s t (P object x j) (pairDistance object order addresses x j)
+        split false s = single-back object order addresses x k j h r e s
     go Marker e = tt
     go Align e = tt
     go Refused e = tt

@@ -16,9 +16,13 @@ use Rattle.instructions_fields.specs.Layouts.{formatU, formatI, read, put}
 use Rattle.instructions_fields.specs.Fields.{layout, valueBits, unit}
 use Rattle.instructions_fields.proofs.Laws.Layouts.{held, read-put, total, put-append}
 use Rattle.instructions_fields.proofs.Laws.Fields.{reads-back}
-use Rattle.instructions_riscv.specs.declared.forms.Form.{Form}
+use Rattle.relocations_types.specs.declared.Operand.{Operand}
+use Rattle.relocations_types.specs.declared.Operand.the-variants.{Absolute, PcRelative, Paired}
+use Rattle.relocations_types.specs.declared.Part.{Part}
+use Rattle.relocations_types.specs.declared.Part.the-variants.{Whole, Distance, High, Low, BothHalves}
 use Rattle.relocations_types.specs.declared.Calculation.{Calculation}
-use Rattle.relocations_types.specs.declared.Calculation.the-variants.{Absolute, PcRelative, Distance, BothHalves, HighPcRelative, HighAbsolute, LowAbsolute, LowOfPair, Add, Sub, Set}
+use Rattle.relocations_types.specs.declared.Calculation.the-variants.{Of, Add, Sub, Set}
+use Rattle.relocations_types.specs.declared.Rule.{Rule}
 use Rattle.relocations_types.specs.declared.Decision.{Decision}
 use Rattle.relocations_types.specs.declared.Decision.the-variants.{Marker, Align, Store, Refused}
 use Rattle.relocations_types.specs.Types.{table, decision}
@@ -26,12 +30,12 @@ use Rattle.instructions_riscv.specs.Halves.{high, low}
 use Rattle.instructions_riscv.specs.Ranges.{distance, rangeOf, reaches}
 use Rattle.instructions_riscv.proofs.Laws.Halves.{HighSpelt, high-spelt-32, high-extended, low-half-spelt, halves-whole}
 use Rattle.instructions_riscv.proofs.Laws.Ranges.{branch-reads-back, jal-reads-back, rvc-branch-reads-back, rvc-jump-reads-back}
-use Rattle.relocations_decisions.specs.Effects.{stacks}
-use Rattle.relocations_rules.specs.Rules.{reachesWell}
+use Rattle.relocations_decisions.specs.Decisions.{stacks}
+use Rattle.relocations_rules.specs.Rules.{partReaches, reachesWell}
 use Rattle.relocations_decisions.specs.Widths.{isDataField}
 use Rattle.relocations_decisions.proofs.Laws.Decisions.{holds, decided}
-use Rattle.relocations_bytes.specs.Patches.{highPart, lowPart, patched}
-use Rattle.relocations_bytes.specs.Promises.{extended, Said}
+use Rattle.relocations_bytes.specs.Patches.{highPart, lowPart, operandOf, partOf, patched}
+use Rattle.relocations_bytes.specs.Promises.{extended, SaidPart, Said}
 
 -- ---- which fields the table has for a calculation
 
@@ -46,7 +50,7 @@ isJump Cj = true
 isJump Call = false
 isJump (Data width) = false
 
-abbrev isCall : Field → Bool
+abbrev pub isCall : Field → Bool
 isCall U = false
 isCall I = false
 isCall S = false
@@ -61,57 +65,76 @@ isCall (Data width) = false
 abbrev hasBits : ℕ → ℕ → Field → Bool
 hasBits u n f = eqb (unit f) u && eqb (valueBits f) n
 
+abbrev pub suitsPart : Part → Field → Bool
+suitsPart Whole f = hasBits 1 32 f
+suitsPart Distance f = isJump f
+suitsPart High f = hasBits 4096 32 f
+suitsPart Low f = hasBits 1 12 f
+suitsPart BothHalves f = isCall f
+
+-- distances, and both halves, are those of T - P
+abbrev isPcRelative : Operand → Bool
+isPcRelative Absolute = false
+isPcRelative PcRelative = true
+isPcRelative Paired = false
+
+abbrev hasPart : Part → Operand → Bool
+hasPart Whole operand = true
+hasPart Distance operand = isPcRelative operand
+hasPart High operand = true
+hasPart Low operand = true
+hasPart BothHalves operand = isPcRelative operand
+
 abbrev pub suits : Calculation → Field → Bool
-suits Absolute f = hasBits 1 32 f
-suits PcRelative f = hasBits 1 32 f
-suits Distance f = isJump f
-suits BothHalves f = isCall f
-suits HighPcRelative f = hasBits 4096 32 f
-suits HighAbsolute f = hasBits 4096 32 f
-suits LowAbsolute f = hasBits 1 12 f
-suits LowOfPair f = hasBits 1 12 f
+suits (Of part operand) f = suitsPart part f && hasPart part operand
 suits Add f = isDataField f
 suits Sub f = isDataField f
 suits Set f = isDataField f
 
 abbrev suited : Decision → Bool
-suited (Store c f form n) = suits c f
+suited (Store r) = suits (r .calculation) (r .field)
 suited Marker = true
 suited Align = true
 suited Refused = true
 
-pub store-suits : (t : ℕ) (c : Calculation) (f : Field) (form : Form) (n : ℕ) → decision t ≡ Store c f form n → suits c f ≡ true
+pub store-suits : (t : ℕ) (r : Rule) → decision t ≡ Store r → suits (r .calculation) (r .field) ≡ true
 unfolding holds table
-store-suits t c f form n e = sym (ap suited e) ∙ decided suited refl t
+store-suits t r e = sym (ap suited e) ∙ decided suited refl t
+
+pub suits-part : (part : Part) (operand : Operand) (f : Field) → suits (Of part operand) f ≡ true → suitsPart part f ≡ true
+suits-part part operand f e = and-left (suitsPart part f) (hasPart part operand) e
+
+suits-operand : (part : Part) (operand : Operand) (f : Field) → suits (Of part operand) f ≡ true → hasPart part operand ≡ true
+suits-operand part operand f e = and-right (suitsPart part f) (hasPart part operand) e
 
 -- ---- numbers that are near enough: their high half is a signed number of 32 bits, as LUI and AUIPC leave it
 
-abbrev pub Near : ℕ → Calculation → ℕ → ℕ → Type 0
-Near w BothHalves t p = HighSpelt w (minus w t p)
-Near w HighPcRelative t p = HighSpelt w (minus w t p)
-Near w HighAbsolute t p = HighSpelt w t
-Near w Absolute t p = Unit {0}
-Near w PcRelative t p = Unit {0}
-Near w Distance t p = Unit {0}
-Near w LowAbsolute t p = Unit {0}
-Near w LowOfPair t p = Unit {0}
-Near w Add t p = Unit {0}
-Near w Sub t p = Unit {0}
-Near w Set t p = Unit {0}
+abbrev NearPart : ℕ → Part → ℕ → Type 0
+NearPart w Whole v = Unit {0}
+NearPart w Distance v = Unit {0}
+NearPart w High v = HighSpelt w v
+NearPart w Low v = Unit {0}
+NearPart w BothHalves v = HighSpelt w v
+
+abbrev pub Near : ℕ → Calculation → ℕ → ℕ → ℕ → Type 0
+Near w (Of part operand) t p d = NearPart w part (operandOf w operand t p d)
+Near w Add t p d = Unit {0}
+Near w Sub t p d = Unit {0}
+Near w Set t p d = Unit {0}
 
 -- at 32 bits every number is near enough, so no rule asks for it
-pub near-32 : (c : Calculation) (t p : ℕ) → Near 32 c t p
-near-32 BothHalves t p = high-spelt-32 (minus 32 t p)
-near-32 HighPcRelative t p = high-spelt-32 (minus 32 t p)
-near-32 HighAbsolute t p = high-spelt-32 t
-near-32 Absolute t p = tt
-near-32 PcRelative t p = tt
-near-32 Distance t p = tt
-near-32 LowAbsolute t p = tt
-near-32 LowOfPair t p = tt
-near-32 Add t p = tt
-near-32 Sub t p = tt
-near-32 Set t p = tt
+near-part : (part : Part) (v : ℕ) → NearPart 32 part v
+near-part Whole v = tt
+near-part Distance v = tt
+near-part High v = high-spelt-32 v
+near-part Low v = tt
+near-part BothHalves v = high-spelt-32 v
+
+pub near-32 : (c : Calculation) (t p d : ℕ) → Near 32 c t p d
+near-32 (Of part operand) t p d = near-part part (operandOf 32 operand t p d)
+near-32 Add t p d = tt
+near-32 Sub t p d = tt
+near-32 Set t p d = tt
 
 -- ---- values that are read back
 
@@ -210,27 +233,42 @@ minus-lt : (w t p : ℕ) → minus w t p < 2 ^ w
 unfolding minus
 minus-lt w t p = residue-lt w (distance t p)
 
--- ---- every calculation but those of stacks
+-- both halves of T - P, which only a CALL has
+both-back : (w : ℕ) (f : Field) (b d : ℕ) → 32 ≤ w → isCall f ≡ true → HighSpelt w d → d < 2 ^ w
+    → residue w (signed 32 (read formatU (put (layout f) b (highPart w d + lowPart w d))) +ℤ signed 12 (read formatI (put (layout f) b (highPart w d + lowPart w d) / 2 ^ 32))) ≡ d
+both-back w Call b d h e near small = call-back w b d h near small
+both-back w U b d h e near small = never e
+both-back w I b d h e near small = never e
+both-back w S b d h e near small = never e
+both-back w B b d h e near small = never e
+both-back w J b d h e near small = never e
+both-back w Cb b d h e near small = never e
+both-back w Cj b d h e near small = never e
+both-back w (Data width) b d h e near small = never e
 
+-- ---- every part of every operand
+
+module _ (w : ℕ) (h : 32 ≤ w) (f : Field) (b t p d : ℕ) where
+  abbrev Back : Part → Operand → Type 0
+  Back part o = SaidPart w part f (put (layout f) b (partOf w part (operandOf w o t p d))) (operandOf w o t p d) t p
+
+  back-part : (part : Part) (o : Operand) → suitsPart part f ≡ true → hasPart part o ≡ true → partReaches w part f t p ≡ true → NearPart w part (operandOf w o t p d) → Back part o
+  unfolding minus
+  back-part Whole o e g r near = plain-back f b 32 (operandOf w o t p d) e
+  back-part Distance PcRelative e g r near = jump-back f w b (distance t p) h e r
+  back-part Distance Absolute e g r near = never g
+  back-part Distance Paired e g r near = never g
+  back-part High o e g r near = high-back f b w (operandOf w o t p d) h near e
+  back-part Low o e g r near = low-back f b w (operandOf w o t p d) h e
+  back-part BothHalves PcRelative e g r near = both-back w f b (minus w t p) h e near (minus-lt w t p)
+  back-part BothHalves Absolute e g r near = never g
+  back-part BothHalves Paired e g r near = never g
+
+-- every calculation but those of stacks
 pub said : (w : ℕ) → 32 ≤ w → (c : Calculation) (f : Field) (b : ℕ) (x : ℤ) (p d : ℕ) (whole : ℤ) → stacks c ≡ false → suits c f ≡ true
-    → reachesWell w c f (residue w x) p ≡ true → Near w c (residue w x) p → Said w c f (patched w c f b x p d) (residue w x) p d whole
+    → reachesWell w c f (residue w x) p ≡ true → Near w c (residue w x) p d → Said w c f (patched w c f b x p d) (residue w x) p d whole
 unfolding patched
-said w h Absolute f b x p d whole s e r near = plain-back f b 32 (residue w x) e
-said w h PcRelative f b x p d whole s e r near = plain-back f b 32 (minus w (residue w x) p) e
-said w h Distance f b x p d whole s e r near = jump-back f w b (distance (residue w x) p) h e r
-said w h BothHalves Call b x p d whole s e r near = call-back w b (minus w (residue w x) p) h near (minus-lt w (residue w x) p)
-said w h BothHalves U b x p d whole s e r near = never e
-said w h BothHalves I b x p d whole s e r near = never e
-said w h BothHalves S b x p d whole s e r near = never e
-said w h BothHalves B b x p d whole s e r near = never e
-said w h BothHalves J b x p d whole s e r near = never e
-said w h BothHalves Cb b x p d whole s e r near = never e
-said w h BothHalves Cj b x p d whole s e r near = never e
-said w h BothHalves (Data width) b x p d whole s e r near = never e
-said w h HighPcRelative f b x p d whole s e r near = high-back f b w (minus w (residue w x) p) h near e
-said w h HighAbsolute f b x p d whole s e r near = high-back f b w (residue w x) h near e
-said w h LowAbsolute f b x p d whole s e r near = low-back f b w (residue w x) h e
-said w h LowOfPair f b x p d whole s e r near = low-back f b w d h e
+said w h (Of part o) f b x p d whole s e r near = back-part w h f b (residue w x) p d part o (suits-part part o f e) (suits-operand part o f e) r near
 said w h Add f b x p d whole s e r near = never (sym s)
 said w h Sub f b x p d whole s e r near = never (sym s)
 said w h Set f b x p d whole s e r near = never (sym s)

@@ -24,8 +24,8 @@ use Rattle.elf_read.specs.Entries.{bytesOf, symbolAt}
 use Rattle.elf_read.proofs.Laws.Headers.{address-narrow}
 use Rattle.elf_check.specs.Requires.{SoundObject}
 use Rattle.instructions_fields.specs.declared.Field.{Field}
-use Rattle.instructions_riscv.specs.declared.forms.Form.{Form}
 use Rattle.relocations_types.specs.declared.Calculation.{Calculation}
+use Rattle.relocations_types.specs.declared.Rule.{Rule}
 use Rattle.relocations_types.specs.declared.Decision.{Decision}
 use Rattle.relocations_types.specs.declared.Decision.the-variants.{Marker, Align, Store, Refused}
 use Rattle.placing_symbols.specs.declared.SymbolValue.{SymbolValue}
@@ -34,7 +34,7 @@ use Rattle.relocations_rela.specs.declared.sites.Site.{Site}
 use Rattle.relocations_rules.specs.declared.RelocationCheck.the-variants.{Passed}
 use Rattle.relocations_rela.specs.Sites.{siteAt, count, entry, decisionAt, offset, P, found}
 use Rattle.relocations_values.specs.Values.{S, T, valueAt}
-use Rattle.relocations_decisions.specs.Effects.{takesPair, isStore}
+use Rattle.relocations_decisions.specs.Decisions.{takesPair, isStore}
 use Rattle.relocations_rela.specs.Shape.{end}
 use Rattle.relocations_rules.specs.Rules.{symbol}
 use Rattle.relocations_rules.specs.Search.{relocationCheck}
@@ -84,11 +84,11 @@ place-read object x j r p re pe f inside s = pe ∙ ap (λ r. plus (addressWidth
 -- ---- one relocation applied
 
 module _ (object order addresses : List ℕ) (x : Site) (j : ℕ) where
-  pub applied-store : (c : Calculation) (f : Field) (form : Form) (n : ℕ) (s : List ℕ) → decisionAt object x j ≡ Store c f form n
+  pub applied-store : (r : Rule) (s : List ℕ) → decisionAt object x j ≡ Store r
       → applied object order addresses x j s
-      ≡ sets s (offset object x j) (bytes n (patched (addressWidth object) c f (leAt n s (offset object x j)) (sumAt object order addresses x j) (P object x j) (pairDistance object order addresses x j)))
+      ≡ sets s (offset object x j) (bytes (r .size) (patched (addressWidth object) (r .calculation) (r .field) (leAt (r .size) s (offset object x j)) (sumAt object order addresses x j) (P object x j) (pairDistance object order addresses x j)))
   unfolding applied
-  applied-store c f form n s e =
+  applied-store r s e =
       ap (λ d. stored (addressWidth object) d (offset object x j) (sumAt object order addresses x j) (P object x j) (pairDistance object order addresses x j) s) e
 
   pub applied-marker : (s : List ℕ) → isStore (decisionAt object x j) ≡ false → applied object order addresses x j s ≡ s
@@ -96,19 +96,22 @@ module _ (object order addresses : List ℕ) (x : Site) (j : ℕ) where
   applied-marker s e = go (decisionAt object x j) e
     where
       go : (d : Decision) → isStore d ≡ false → stored (addressWidth object) d (offset object x j) (sumAt object order addresses x j) (P object x j) (pairDistance object order addresses x j) s ≡ s
-      go (Store c f form n) q = never (sym q)
+      go (Store r) q = never (sym q)
       go Marker q = refl
       go Align q = refl
       go Refused q = refl
 
   -- Stated for what the code works out: b is the bytes as one number, y is S + A in two's complement, p is P, d is the pair's distance, and u
   -- is what is stored.
-  pub applied-read : (c : Calculation) (f : Field) (form : Form) (n : ℕ) (s : List ℕ) (b y p d u at : ℕ) → decisionAt object x j ≡ Store c f form n
-      → at ≡ offset object x j → b ≡ leAt n s at → y < 2 ^ 64 → y ≡ residue 64 (sumAt object order addresses x j) → p ≡ P object x j
-      → (takesPair c ≡ true → d ≡ pairDistance object order addresses x j) → u ≡ patched (addressWidth object) c f b (signed 64 y) p d
-      → sets s at (bytes n u) ≡ applied object order addresses x j s
-  applied-read c f form n s b y p d u at e ae be h ye pe de ue =
+  pub applied-read : (r : Rule) (s : List ℕ) (b y p d u at : ℕ) → decisionAt object x j ≡ Store r
+      → at ≡ offset object x j → b ≡ leAt (r .size) s at → y < 2 ^ 64 → y ≡ residue 64 (sumAt object order addresses x j) → p ≡ P object x j
+      → (takesPair (r .calculation) ≡ true → d ≡ pairDistance object order addresses x j) → u ≡ patched (addressWidth object) (r .calculation) (r .field) b (signed 64 y) p d
+      → sets s at (bytes (r .size) u) ≡ applied object order addresses x j s
+  applied-read r s b y p d u at e ae be h ye pe de ue =
       let w : ℕ = addressWidth object in
+      let n : ℕ = r .size in
+      let c : Calculation = r .calculation in
+      let f : Field = r .field in
       let z : ℤ = sumAt object order addresses x j in
       let same : residue 64 (signed 64 y) ≡ residue 64 z = residue-signed 64 y h ∙ ye in
       ap (λ u. sets s at (bytes n u)) ue
@@ -116,7 +119,7 @@ module _ (object order addresses : List ℕ) (x : Site) (j : ℕ) where
       ∙ ap (λ p. sets s at (bytes n (patched w c f b z p (pairDistance object order addresses x j)))) pe
       ∙ ap (λ b. sets s at (bytes n (patched w c f b z (P object x j) (pairDistance object order addresses x j)))) be
       ∙ ap (λ at. sets s at (bytes n (patched w c f (leAt n s at) z (P object x j) (pairDistance object order addresses x j)))) ae
-      ∙ sym (applied-store c f form n s e)
+      ∙ sym (applied-store r s e)
 
 -- ---- the RELA section of a section
 

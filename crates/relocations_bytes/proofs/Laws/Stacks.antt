@@ -17,8 +17,8 @@ use Rattle.instructions_fields.specs.Layouts.{read, put}
 use Rattle.instructions_fields.specs.Fields.{layout, valueBits, bits as bitsOf, dataLayout}
 use Rattle.instructions_fields.proofs.Laws.Fields.{reads-back, read-whole, read-six}
 use Rattle.relocations_types.specs.declared.Calculation.{Calculation}
-use Rattle.relocations_types.specs.declared.Calculation.the-variants.{Absolute, PcRelative, Distance, BothHalves, HighPcRelative, HighAbsolute, LowAbsolute, LowOfPair, Add, Sub, Set}
-use Rattle.relocations_decisions.specs.Effects.{stacks}
+use Rattle.relocations_types.specs.declared.Calculation.the-variants.{Of, Add, Sub, Set}
+use Rattle.relocations_decisions.specs.Decisions.{stacks}
 use Rattle.relocations_decisions.specs.Widths.{isDataField}
 use Rattle.relocations_bytes.specs.Patches.{calculated, patched}
 use Rattle.relocations_bytes.specs.Promises.{stackStep}
@@ -42,14 +42,7 @@ step-again : (w : ℕ) (c : Calculation) (bits v : ℕ) (z x : ℤ) (p d : ℕ) 
 step-again w Add bits v z x p d s e = ap (λ n. residue bits (pos n +ℤ x)) e ∙ sum-again bits z x
 step-again w Sub bits v z x p d s e = ap (λ n. residue bits (pos n -ℤ x)) e ∙ difference-again bits z x
 step-again w Set bits v z x p d s e = refl
-step-again w Absolute bits v z x p d s e = never s
-step-again w PcRelative bits v z x p d s e = never s
-step-again w Distance bits v z x p d s e = never s
-step-again w BothHalves bits v z x p d s e = never s
-step-again w HighPcRelative bits v z x p d s e = never s
-step-again w HighAbsolute bits v z x p d s e = never s
-step-again w LowAbsolute bits v z x p d s e = never s
-step-again w LowOfPair bits v z x p d s e = never s
+step-again w (Of part operand) bits v z x p d s e = never s
 
 -- the value of a data field has at most as many bits as the field
 data-lt : (n : Width) (w : ℕ) → read (dataLayout n) w < 2 ^ bitsOf n

@@ -1,7 +1,7 @@
 -- `relocations_check_one::is_form_well` meets its contract.
 use mathlib.Core.Path.{sym, ap, _∙_}
 use Rattle.relocations_types.specs.Types.{decision}
-use Rattle.relocations_decisions.specs.Effects.{touched}
+use Rattle.relocations_decisions.specs.Decisions.{touched}
 use Rattle.relocations_rules.specs.Rules.{formWell}
 use Rattle.relocations_decisions.proofs.Laws.Decisions.{store-width}
 use Rattle.relocations_rela.proofs.Laws.Sites.{store-inside}
@@ -15,7 +15,7 @@ use Rattle.relocations_check_one.proofs.is_form_well.Tie as tie
 abbrev decided : tie.After-section-bytes → tie.After-decide
 decided c = c .before .before .before .before
 
-abbrev told : tie.After-section-bytes → tie.After-form
+abbrev told : tie.After-section-bytes → tie.After-rule
 told c = c .before .before
 
 abbrev read : tie.After-decide → tie.After-read-relocation
@@ -32,9 +32,9 @@ has-form-at-requires c κs =
     let s = a .object .now in
     let f = entered (decided c) .pre in
     let r = read (decided c) .read-relocation .ensures in
-    let store = ap (λ r. decision (r .kind)) (sym r) ∙ sym (decided c .decide .ensures) ∙ told c .form .given .1 in
+    let store = ap (λ r. decision (r .kind)) (sym r) ∙ sym (decided c .decide .ensures) ∙ told c .rule .given .1 in
     let inside = store-inside s (a .site) (a .j) (f .0 .site) (f .1) _ (ap touched store) in
-    (rw (c .section-bytes .ensures, r) inside, store-width _ _ _ _ _ store)
+    (rw (c .section-bytes .ensures, r) inside, store-width _ _ store)
 
 returns : tie.Need-returns
 returns c =
@@ -42,8 +42,8 @@ returns c =
     let a = entered (decided b) .args in
     let s = a .object .now in
     let r = read (decided b) .read-relocation .ensures in
-    let store = ap (λ r. decision (r .kind)) (sym r) ∙ sym (decided b .decide .ensures) ∙ told b .form .given .1 in
-    c .has-form-at .ensures ∙ form-read s (a .site) (a .j) _ _ _ _ _ _ store (b .section-bytes .ensures) r
+    let store = ap (λ r. decision (r .kind)) (sym r) ∙ sym (decided b .decide .ensures) ∙ told b .rule .given .1 in
+    c .has-form-at .ensures ∙ form-read s (a .site) (a .j) _ _ _ store (b .section-bytes .ensures) r
 
 returns-2 : tie.Need-returns-2
 unfolding formWell

@@ -6,7 +6,7 @@ use native.Mathlib.Omega.{arith}
 use borrow.Author.Tests.{not-true, not-false}
 use Rattle.elf_read.specs.Entries.{symbolCount}
 use Rattle.elf_check.proofs.Laws.Bounds.{symbol-inside}
-use Rattle.relocations_decisions.specs.Effects.{needsPair}
+use Rattle.relocations_decisions.specs.Decisions.{needsPair}
 use Rattle.relocations_rela.specs.Sites.{decisionAt}
 use Rattle.relocations_rules.specs.Rules.{pairWell}
 use borrow.Author.Needs.{needs}

@@ -12,12 +12,11 @@ use Rattle.instructions_fields.specs.declared.Width.{Width}
 use Rattle.instructions_fields.specs.declared.Width.the-variants.{W6, W8, W16, W32, W64}
 use Rattle.instructions_fields.specs.declared.Field.{Field}
 use Rattle.instructions_fields.specs.declared.Field.the-variants.{U, I, S, B, J, Cb, Cj, Call, Data}
-use Rattle.instructions_riscv.specs.declared.forms.Form.{Form}
-use Rattle.relocations_types.specs.declared.Calculation.{Calculation}
+use Rattle.relocations_types.specs.declared.Rule.{Rule}
 use Rattle.relocations_types.specs.declared.Decision.{Decision}
 use Rattle.relocations_types.specs.declared.Decision.the-variants.{Marker, Align, Store, Refused}
-use Rattle.relocations_types.specs.Types.{Line, table, among, lookup, decision}
-use Rattle.relocations_decisions.specs.Effects.{touched}
+use Rattle.relocations_types.specs.Types.{Line, pairing, table, among, lookup, decision}
+use Rattle.relocations_decisions.specs.Decisions.{touched, givesPair}
 use Rattle.relocations_decisions.specs.Widths.{onData}
 
 -- a test that holds for each line and for a refusal holds for every decision
@@ -60,7 +59,7 @@ fieldBytes (Data width) = dataBytes width
 
 -- a store touches the bytes of its field, which are 1, 2, 4 or 8, and ADD, SUB and SET have data fields only
 abbrev pub wellStored : Decision → Bool
-wellStored (Store c f form n) = isWidth n && eqb n (fieldBytes f) && onData c f
+wellStored (Store r) = isWidth (r .size) && eqb (r .size) (fieldBytes (r .field)) && onData (r .calculation) (r .field)
 wellStored Marker = true
 wellStored Align = true
 wellStored Refused = true
@@ -78,25 +77,28 @@ small n e = go (eqb n 1) refl (eqb n 2) refl (eqb n 4) refl e
     go false p false q true r e = omega (arith, eqb-true n 4 r)
     go false p false q false r e = omega (arith, eqb-true n 8 e)
 
-module _ (t : ℕ) (c : Calculation) (f : Field) (form : Form) (n : ℕ) (e : decision t ≡ Store c f form n) where
-  facts : isWidth n && eqb n (fieldBytes f) && onData c f ≡ true
+module _ (t : ℕ) (r : Rule) (e : decision t ≡ Store r) where
+  facts : isWidth (r .size) && eqb (r .size) (fieldBytes (r .field)) && onData (r .calculation) (r .field) ≡ true
   facts = sym (ap wellStored e) ∙ stores-well t
 
-  pub store-width : isWidth n ≡ true
-  store-width = and-left (isWidth n) (eqb n (fieldBytes f)) (and-left (isWidth n && eqb n (fieldBytes f)) (onData c f) facts)
+  both : isWidth (r .size) && eqb (r .size) (fieldBytes (r .field)) ≡ true
+  both = and-left (isWidth (r .size) && eqb (r .size) (fieldBytes (r .field))) (onData (r .calculation) (r .field)) facts
 
-  pub store-bytes : n ≡ fieldBytes f
-  store-bytes = eqb-true _ _ (and-right (isWidth n) (eqb n (fieldBytes f)) (and-left (isWidth n && eqb n (fieldBytes f)) (onData c f) facts))
+  pub store-width : isWidth (r .size) ≡ true
+  store-width = and-left (isWidth (r .size)) (eqb (r .size) (fieldBytes (r .field))) both
 
-  pub store-data : onData c f ≡ true
-  store-data = and-right (isWidth n && eqb n (fieldBytes f)) (onData c f) facts
+  pub store-bytes : r .size ≡ fieldBytes (r .field)
+  store-bytes = eqb-true _ _ (and-right (isWidth (r .size)) (eqb (r .size) (fieldBytes (r .field))) both)
+
+  pub store-data : onData (r .calculation) (r .field) ≡ true
+  store-data = and-right (isWidth (r .size) && eqb (r .size) (fieldBytes (r .field))) (onData (r .calculation) (r .field)) facts
 
 -- no decision touches more than eight bytes
 pub touched-small : (t : ℕ) → touched (decision t) ≤ 8
 touched-small t = go (decision t) refl
   where
     go : (d : Decision) → decision t ≡ d → touched d ≤ 8
-    go (Store c f form n) e = small n (store-width t c f form n e)
+    go (Store r) e = small (r .size) (store-width t r e)
     go Marker e = omega arith
     go Align e = omega arith
     go Refused e = omega arith
@@ -104,3 +106,26 @@ touched-small t = go (decision t) refl
 pub width-some : (n : ℕ) → isWidth n ≡ true → 0 < n
 width-some zero e = never e
 width-some (suc n) e = omega arith
+
+-- ---- the one line that gives a pair
+
+-- what holds of each line and of a refusal holds of every decision
+abbrev Each : (Decision → Type 0) → List Line → Type 0
+Each Q [] = Q Refused
+Each Q (l ∷ ls) = Q (l .decisionAt) × Each Q ls
+
+each : (Q : Decision → Type 0) (ls : List Line) → Each Q ls → (t : ℕ) → Q (lookup t ls)
+unfolding lookup
+each Q [] q t = q
+each Q (l ∷ ls) q t = go (among t (l .types)) (each Q ls (q .1) t)
+  where
+    go : (b : Bool) → Q (lookup t ls) → Q (cond b (l .decisionAt) (lookup t ls))
+    go true rest = q .0
+    go false rest = rest
+
+abbrev OnlyPairing : Decision → Type 0
+OnlyPairing d = givesPair d ≡ true → d ≡ pairing
+
+pub pair-is : (t : ℕ) → givesPair (decision t) ≡ true → decision t ≡ pairing
+unfolding decision table
+pair-is t = each OnlyPairing table (never, (never, (never, (never, (never, (never, (never, (never, (never, ((λ e. refl), (never, (never, (never, (never, (never, (never, (never, (never, (never, (never, (never, (never, (never, (never, (never, (never, (never, (never, never)))))))))))))))))))))))))))) t

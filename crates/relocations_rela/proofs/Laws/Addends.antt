@@ -14,7 +14,7 @@ use Rattle.numbers_definitions.proofs.Laws.Whole.{sub-back, signed-residue}
 use Rattle.elf_read.specs.Entries.{relocationAt}
 use Rattle.relocations_types.specs.declared.Decision.{Decision}
 use Rattle.relocations_types.specs.declared.Decision.the-variants.{Marker, Align, Store, Refused}
-use Rattle.relocations_decisions.specs.Effects.{isStore, needsPair}
+use Rattle.relocations_decisions.specs.Decisions.{isStore, needsPair}
 use Rattle.relocations_rela.specs.declared.sites.Site.{Site}
 use Rattle.relocations_rela.specs.Sites.{A}
 use Rattle.relocations_rela.specs.Shape.{addendWell}
@@ -72,7 +72,7 @@ zero-is a b = go (decLt (2 * a) (2 ^ 64))
         rw (signed-high 64 a (omega arith) b, ne-eqb a 0 some, other)
 
 pub store-addend : (d : Decision) (at size : ℕ) (a : ℤ) → isStore d ≡ true → addendWell d at size a ≡ (not (needsPair d) || eqb (natAbs a) 0)
-store-addend (Store c f form n) at size a e = refl
+store-addend (Store r) at size a e = refl
 store-addend Marker at size a e = cc
 store-addend Align at size a e = cc
 store-addend Refused at size a e = cc

@@ -12,7 +12,7 @@ use Rattle.relocations_types.specs.declared.Decision.the-variants.{Align}
 use Rattle.relocations_rela.specs.declared.sites.Site.{Site}
 use Rattle.relocations_rela.specs.declared.shape.Previous.the-variants.{Entry}
 use Rattle.relocations_rela.specs.Sites.{entry, offset, decisionAt, A}
-use Rattle.relocations_decisions.specs.Effects.{isStore, isRefused}
+use Rattle.relocations_decisions.specs.Decisions.{isStore, isRefused}
 use Rattle.relocations_rela.specs.Shape.{end, neverFalls, staysInside, previous, noOverlap, addendWell, shapeWell}
 use Rattle.relocations_rela.proofs.Laws.Addends.{padding-refused}
 

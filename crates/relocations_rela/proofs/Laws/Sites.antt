@@ -16,7 +16,7 @@ use Rattle.elf_check.specs.Requires.{SoundObject}
 use Rattle.elf_check.proofs.Laws.Bounds.{loaded-inside}
 use Rattle.relocations_rela.specs.declared.sites.Site.{Site}
 use Rattle.relocations_rela.specs.Sites.{siteAt, count, offset, decisionAt, found}
-use Rattle.relocations_decisions.specs.Effects.{touched}
+use Rattle.relocations_decisions.specs.Decisions.{touched}
 use Rattle.relocations_rela.specs.Requires.{SoundSite, Placed}
 
 -- ---- the bytes of the target

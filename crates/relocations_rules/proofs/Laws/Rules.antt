@@ -17,16 +17,14 @@ use Rattle.elf_read.specs.Entries.{symbolCount}
 use Rattle.placing_symbols.specs.declared.SymbolValue.{SymbolValue}
 use Rattle.placing_symbols.specs.declared.SymbolValue.the-variants.{Unresolved}
 use Rattle.placing_symbols.specs.Values.{symbolValue}
-use Rattle.instructions_fields.specs.declared.Field.{Field}
-use Rattle.instructions_riscv.specs.declared.forms.Form.{Form}
-use Rattle.relocations_types.specs.declared.Calculation.{Calculation}
+use Rattle.relocations_types.specs.declared.Rule.{Rule}
 use Rattle.relocations_types.specs.declared.Decision.{Decision}
 use Rattle.relocations_types.specs.declared.Decision.the-variants.{Marker, Align, Store, Refused}
 use Rattle.relocations_types.specs.Types.{decision}
 use Rattle.relocations_rela.specs.declared.sites.Site.{Site}
 use Rattle.relocations_rela.specs.Sites.{entry, offset, decisionAt, A, P, found}
 use Rattle.relocations_values.specs.Values.{S, T}
-use Rattle.relocations_decisions.specs.Effects.{isStore, touched, needsPair}
+use Rattle.relocations_decisions.specs.Decisions.{isStore, touched, needsPair}
 use Rattle.relocations_rela.specs.Shape.{end}
 use Rattle.relocations_rules.specs.Rules.{isResolved, inTarget, symbolWell, standsWell, asksWell, formWell, distanceWell, boundaryWell}
 use Rattle.relocations_rela.specs.Requires.{SoundSite}
@@ -54,10 +52,10 @@ pair-symbol object x j v e n = go (decisionAt object x j) refl (isResolved v) e 
   where
     go : (d : Decision) → decisionAt object x j ≡ d → (b : Bool) → not (isStore d) || (b && (not (needsPair d) || inTarget object x j)) ≡ true → needsPair d ≡ true
         → (b ≡ true) × (0 < entry object x j .symbol)
-    go (Store c f form w) q true e n =
+    go (Store r) q true e n =
         let in-target : inTarget object x j ≡ true = rw n at e in
         (refl, ltb-true _ _ (and-left (ltb 0 (entry object x j .symbol)) _ in-target))
-    go (Store c f form w) q false e n = never e
+    go (Store r) q false e n = never e
     go Marker q b e n = never n
     go Align q b e n = never n
     go Refused q b e n = never n
@@ -65,12 +63,12 @@ pair-symbol object x j v e n = go (decisionAt object x j) refl (isResolved v) e 
 -- ---- check 11
 
 -- for a store, stated for the bytes l and the relocation r that the code has read
-pub form-read : (object : List ℕ) (x : Site) (j : ℕ) (c : Calculation) (f : Field) (form : Form) (n : ℕ) (l : List ℕ) (r : Relocation) → decisionAt object x j ≡ Store c f form n
-    → l ≡ found object x → r ≡ entry object x j → standsWell form (x .address .0 + r .offset .0) (leAt n l (r .offset .0)) ≡ formWell object x j
+pub form-read : (object : List ℕ) (x : Site) (j : ℕ) (rule : Rule) (l : List ℕ) (r : Relocation) → decisionAt object x j ≡ Store rule → l ≡ found object x → r ≡ entry object x j
+    → standsWell (rule .form) (x .address .0 + r .offset .0) (leAt (rule .size) l (r .offset .0)) ≡ formWell object x j
 unfolding formWell
-form-read object x j c f form n l r e p q =
-    ap (λ l. standsWell form (x .address .0 + r .offset .0) (leAt n l (r .offset .0))) p
-    ∙ ap (λ r. standsWell form (x .address .0 + r .offset .0) (leAt n (found object x) (r .offset .0))) q
+form-read object x j rule l r e p q =
+    ap (λ l. standsWell (rule .form) (x .address .0 + r .offset .0) (leAt (rule .size) l (r .offset .0))) p
+    ∙ ap (λ r. standsWell (rule .form) (x .address .0 + r .offset .0) (leAt (rule .size) (found object x) (r .offset .0))) q
     ∙ sym (ap (λ d. asksWell d (P object x j) (found object x) (offset object x j)) e)
 
 -- ---- check 13
@@ -80,7 +78,7 @@ pub place-below : (object : List ℕ) (x : Site) (j : ℕ) → SoundSite object 
 place-below object x j f inside s = go (decisionAt object x j) refl s inside
   where
     go : (d : Decision) → decisionAt object x j ≡ d → isStore d ≡ true → offset object x j + touched d ≤ x .target .size → P object x j < 2 ^ addressWidth object
-    go (Store c g form n) q s i = omega (arith, width-some n (store-width _ c g form n q), f .placed)
+    go (Store r) q s i = omega (arith, width-some (r .size) (store-width _ r q), f .placed)
     go Marker q s i = never s
     go Align q s i = never s
     go Refused q s i = never s
@@ -92,7 +90,7 @@ unfolding plus
 in-reach-is object x j t f inside = go (decisionAt object x j) refl
   where
     go : (d : Decision) → decisionAt object x j ≡ d → distanceWell (addressWidth object) d t ((x .address .0 + offset object x j) % 2 ^ addressWidth object) ≡ distanceWell (addressWidth object) d t (P object x j)
-    go (Store c g form n) q = ap (distanceWell (addressWidth object) (Store c g form n) t) (mod-eq-of-lt (place-below object x j f inside (ap isStore q)))
+    go (Store r) q = ap (distanceWell (addressWidth object) (Store r) t) (mod-eq-of-lt (place-below object x j f inside (ap isStore q)))
     go Marker q = refl
     go Align q = refl
     go Refused q = refl

@@ -26,7 +26,7 @@ use Rattle.relocations_rela.specs.Sites.{siteAt, decisionAt, A, P}
 use Rattle.relocations_values.specs.Values.{valueAt, targetAt}
 use Rattle.relocations_rela.specs.Shape.{shapeWell}
 use Rattle.relocations_rules.specs.Rules.{symbolWell, formWell, pairWell, distanceWell, boundaryWell}
-use Rattle.relocations_rules.specs.Search.{finding, findingOf, isBroken, relocationCheck}
+use Rattle.relocations_rules.specs.Search.{firstBroken, finding, findingOf, isBroken, relocationCheck}
 
 -- ---- the number of an entry
 
@@ -109,7 +109,7 @@ other : {B : Type 0} (f : Finding) → isBroken f ≡ true → f ≡ Kept → B
 other f b e = never (sym (ap isBroken e) ∙ b)
 
 pub kept-rules : (object order addresses : List ℕ) (x : Site) (j : ℕ) → finding object order addresses x j ≡ Kept → Rules object order addresses x j
-unfolding finding
+unfolding finding firstBroken
 kept-rules object order addresses x j e =
     go (shapeWell object x j) refl (symbolWell object x j v) refl (formWell object x j) refl (pairWell object x j) refl (distanceWell (addressWidth object) d t (P object x j)) refl
     (boundaryWell d (P object x j) (A object x j)) refl e

@@ -11,7 +11,7 @@ use Rattle.relocations_rela.specs.Sites.{entry, decisionAt, A, P}
 use Rattle.relocations_values.specs.Values.{valueAt, targetAt}
 use Rattle.relocations_rela.specs.Shape.{shapeWell}
 use Rattle.relocations_rules.specs.Rules.{symbolWell, formWell, pairWell, distanceWell, boundaryWell}
-use Rattle.relocations_rules.specs.Search.{finding}
+use Rattle.relocations_rules.specs.Search.{firstBroken, finding}
 use Rattle.relocations_rela.proofs.Laws.Shape.{shape-inside, padded}
 use Rattle.relocations_rules.proofs.Laws.Rules.{resolved-there, pair-symbol, reach-read, boundary-read}
 use borrow.Author.Needs.{needs}
@@ -19,7 +19,7 @@ use Rattle.relocations_check_all.proofs.search.find_broken.Statement.{s
 use Rattle.relocations_check_all.proofs.search.find_broken.Tie as tie
 
 returns : tie.Need-returns
-unfolding finding
+unfolding finding firstBroken
 returns c =
     let a = c .before .before .before .before .before .before .args in
     let s = a .object .now in
@@ -41,7 +41,7 @@ is-symbol-well-requires c κs =
     (f .0, f .2, f .3, λ e. record { inside = λ some. resolved-there s o (a .addresses) (entry s x (a .j) .symbol) (rw (← value) e) some })
 
 returns-2 : tie.Need-returns-2
-unfolding finding
+unfolding finding firstBroken
 returns-2 c =
     let a = c .before .before .before .before .before .before .before .before .before .args in
     let s = a .object .now in
@@ -64,7 +64,7 @@ is-form-well-requires c κs =
     (c .before .before .before .before .before .before .before .before .before .pre .3, shape-inside s x (a .j) shape)
 
 returns-3 : tie.Need-returns-3
-unfolding finding
+unfolding finding firstBroken
 returns-3 c =
     let a = c .before .before .before .before .before .before .before .before .before .before .before .args in
     let s = a .object .now in
@@ -97,7 +97,7 @@ is-paired-requires c κs =
     )
 
 returns-4 : tie.Need-returns-4
-unfolding finding
+unfolding finding firstBroken
 returns-4 c =
     let a = c .before .before .before .before .before .before .before .before .before .before .before .before .before .args in
     let s = a .object .now in
@@ -112,7 +112,7 @@ returns-4 c =
     rw (shape, symbol, form, broken)
 
 returns-5 : tie.Need-returns-5
-unfolding finding
+unfolding finding firstBroken
 returns-5 c =
     let a = c .before .before .before .before .before .before .before .before .before .before .before .before .before .before .before .before .before .args in
     let s = a .object .now in
@@ -142,7 +142,7 @@ is-on-boundary-requires c κs =
     rw r few
 
 returns-6 : tie.Need-returns-6
-unfolding finding
+unfolding finding firstBroken
 returns-6 c =
     let a = c .before .before .before .before .before .before .before .before .before .before .before .before .before .before .before .before .before .before .before .args in
     let s = a .object .now in
@@ -161,7 +161,7 @@ returns-6 c =
     rw (shape, symbol, form, pair, reach, broken)
 
 returns-7 : tie.Need-returns-7
-unfolding finding
+unfolding finding firstBroken
 returns-7 c =
     let a = c .before .before .before .before .before .before .before .before .before .before .before .before .before .before .before .before .before .before .before .args in
     let s = a .object .now in

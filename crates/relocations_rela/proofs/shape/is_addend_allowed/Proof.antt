@@ -2,7 +2,7 @@
 use mathlib.Core.Path.{sym, ap, _∙_}
 use native.Mathlib.Omega.{arith}
 use Rattle.numbers_definitions.specs.Whole.{signed}
-use Rattle.relocations_decisions.specs.Effects.{isStore}
+use Rattle.relocations_decisions.specs.Decisions.{isStore}
 use Rattle.relocations_rela.specs.Shape.{addendWell}
 use Rattle.relocations_rela.proofs.Laws.Addends.{zero-is, store-addend}
 use borrow.Author.Needs.{needs}
