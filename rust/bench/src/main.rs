@@ -1,58 +1,55 @@
-//! Times both installs and writes a line for each.
+//! Times every row, or makes one call of one row so that its instructions can
+//! be counted.
 
 #![forbid(unsafe_code)]
 
-use std::hint::black_box;
-use std::process::ExitCode;
-use std::time::{Duration, Instant};
+mod times;
 
-use testing::damage::Input;
+use std::process::ExitCode;
+
+use bench::inputs::{row, rows};
+use bench::run::{Buffers, Fitter};
+
+const USAGE: &str = "usage: bench [ROW..]                   times the rows, or all
+       bench rows                    names the rows
+       bench count library ROW       makes one call by the library
+       bench count comparison ROW    makes one call by the comparison fitter";
 
 fn main() -> ExitCode {
-    // Checks that only the reference has would make the ratio worth nothing.
-    if cfg!(debug_assertions) {
-        eprintln!("built with debug assertions; run it with `cargo run --profile bench -p bench`");
-        return ExitCode::FAILURE;
-    }
-    println!("microseconds: library, reference, ratio");
-    measure("without PCREL_LO12", &bench::mixed(), 1_001);
-    measure("half PCREL_LO12", &bench::pairs(), 101);
-    ExitCode::SUCCESS
-}
-
-/// The two fitters in turn, so that both see the same machine.
-fn measure(name: &str, input: &Input, runs: usize) {
-    let mut library = Vec::with_capacity(runs);
-    let mut reference = Vec::with_capacity(runs);
-    for _ in 0..runs {
-        library.push(time(input, |object, order, image, ledger| {
-            aktinoph::fit(object, order, image, ledger).is_done()
-        }));
-        reference.push(time(input, |object, order, image, ledger| {
-            reference::install(object, order, image, ledger) == reference::Answer::DONE
-        }));
-    }
-    library.sort();
-    reference.sort();
-    for (what, at) in [("median", runs / 2), ("least", 0)] {
-        let (library, reference) = (micros(library[at]), micros(reference[at]));
-        let ratio = library / reference;
-        println!("{name}, {what} of {runs}: {library:.1} {reference:.1} {ratio:.2}");
+    let words: Vec<String> = std::env::args().skip(1).collect();
+    let words: Vec<&str> = words.iter().map(String::as_str).collect();
+    let done = match words[..] {
+        ["rows"] => name_rows(),
+        ["count", "library", name] => count(Fitter::Library, name),
+        ["count", "comparison", name] => count(Fitter::Comparison, name),
+        ["count" | "rows", ..] => Err(USAGE.into()),
+        _ => times::print(&words),
+    };
+    match done {
+        Ok(()) => ExitCode::SUCCESS,
+        Err(wrong) => {
+            eprintln!("{wrong}");
+            ExitCode::FAILURE
+        }
     }
 }
 
-/// The time of one done call on fresh copies of image and ledger.
-fn time(input: &Input, fit: impl Fn(&[u8], &[u8], &mut [u8], &mut [u8]) -> bool) -> Duration {
-    let (mut image, mut ledger) = (input.image.clone(), input.journal.clone());
-    let (object, order) = (black_box(&input.object), black_box(&input.order));
-    let start = Instant::now();
-    let done = fit(object, order, &mut image, &mut ledger);
-    let taken = start.elapsed();
-    assert!(black_box(done), "the install is done");
-    black_box((image, ledger));
-    taken
+fn name_rows() -> Result<(), String> {
+    for row in rows() {
+        println!("{}", row.name);
+    }
+    Ok(())
 }
 
-fn micros(time: Duration) -> f64 {
-    time.as_nanos() as f64 / 1_000.0
+/// One call on fresh buffers. A profiler counts the instructions between the
+/// start of the fitter's function and its end.
+fn count(fitter: Fitter, name: &str) -> Result<(), String> {
+    let row = row(name).ok_or(format!("there is no row {name}"))?;
+    let mut buffers = Buffers::new(&row.input);
+    buffers.fill(&row.input);
+    let answer = buffers.call(fitter, row.call);
+    match answer == row.answer {
+        true => Ok(()),
+        false => Err(format!("{name}: answered {answer:?}, not {:?}", row.answer)),
+    }
 }

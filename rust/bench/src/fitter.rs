@@ -1,0 +1,111 @@
+//! The comparison fitter: document 01 written for speed, in safe Rust, without
+//! a heap. The library's time is measured against it.
+//!
+//! It has two phases. The first makes every check in document 01's order and
+//! writes nothing. The second saves and lays, and cannot fail. Each phase reads
+//! a relocation once. What a type asks for stands in a table (`types`), so
+//! that relocations of different types take the same path through the code, and
+//! a processor need not guess which one comes next.
+//!
+//! The checks of a relocation are made in two steps. The first step asks
+//! whether all rules hold, in any order (`relocations`). Only where it cannot
+//! say yes, the second step goes through the rules in order and finds the first
+//! broken one (`exact`).
+
+mod bytes;
+mod exact;
+mod forms;
+mod journal;
+mod lay;
+mod object;
+mod order;
+mod pairs;
+mod placing;
+mod relocations;
+mod symbols;
+mod types;
+
+use journal::Journal;
+use lay::Plan;
+use object::Object;
+use order::Order;
+use symbols::Symbols;
+
+/// The longest object or image.
+const MAX_BYTES: usize = 65_536;
+/// The end of the address space.
+const ADDRESS_END: u64 = 1 << 32;
+
+/// Document 01: number and place.
+#[derive(Clone, Copy, PartialEq, Eq, Debug)]
+pub struct Answer {
+    pub number: u32,
+    pub place: u32,
+}
+
+impl Answer {
+    /// "done", place 0.
+    pub const DONE: Answer = refusal(0, 0);
+}
+
+const fn refusal(number: u32, place: u32) -> Answer {
+    Answer { number, place }
+}
+
+/// Document 01: a fit. It is never inlined, so that a profiler finds it by its
+/// name.
+#[inline(never)]
+pub fn comparison_fit(object: &[u8], order: &[u8], image: &mut [u8], journal: &mut [u8]) -> Answer {
+    install(object, order, image, journal).map_or_else(|refused| refused, |()| Answer::DONE)
+}
+
+/// Document 01: a taking-back. It is never inlined either.
+#[inline(never)]
+pub fn comparison_take_back(image: &mut [u8], journal: &mut [u8]) -> Answer {
+    rollback(image, journal).map_or_else(|refused| refused, |()| Answer::DONE)
+}
+
+fn install(
+    object: &[u8],
+    order: &[u8],
+    image: &mut [u8],
+    journal: &mut [u8],
+) -> Result<(), Answer> {
+    let standing = Journal::read(journal, image.len()).ok_or(refusal(1, 0))?;
+    let order = Order::read(order).ok_or(refusal(2, 0))?;
+    if !order::is_allowed_window(order.base, image.len()) {
+        return Err(refusal(3, 0));
+    }
+    let header = object::read_header(object).ok_or(refusal(4, 0))?;
+    let object = Object::read(object, header).map_err(|place| refusal(5, place))?;
+    let addresses = placing::addresses(&object, &order).map_err(|place| refusal(6, place))?;
+    let mut symbols = Symbols::new(&object, &addresses);
+    symbols
+        .take_external_values(&order)
+        .map_err(|place| refusal(7, place))?;
+    let window = placing::Window::new(order.base, image.len());
+    let span = placing::check(&object, &addresses, window).map_err(|place| refusal(8, place))?;
+    relocations::check(&object, &addresses, &mut symbols)?;
+    if !standing.has_room_for(span, journal.len()) {
+        return Err(refusal(15, 0));
+    }
+    standing.save(journal, span, image);
+    let plan = Plan {
+        object: &object,
+        addresses: &addresses,
+        symbols: &symbols,
+        base: order.base,
+    };
+    plan.lay(image);
+    Ok(())
+}
+
+fn rollback(image: &mut [u8], journal: &mut [u8]) -> Result<(), Answer> {
+    let standing = Journal::read(journal, image.len()).ok_or(refusal(1, 0))?;
+    if image.len() > MAX_BYTES {
+        return Err(refusal(3, 0));
+    }
+    let newest = standing.newest(journal).ok_or(refusal(16, 0))?;
+    standing.undo(journal, newest, image);
+    Ok(())
+}

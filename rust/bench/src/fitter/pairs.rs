@@ -1,0 +1,76 @@
+//! The pair of a PCREL_LO12: the PCREL_HI20 relocations of its section, and the
+//! one among them at a label, found by halving. Every PCREL_LO12 is looked up
+//! anew, also where another one named the same label.
+
+use super::object::Relocation;
+
+const PCREL_HI20: u8 = 23;
+const MOST: usize = 4_096;
+
+/// The PCREL_HI20 relocations of one RELA section, in file order.
+pub struct HighHalves {
+    offsets: [u32; MOST],
+    /// Which of the section's relocations each is.
+    places: [u16; MOST],
+    count: usize,
+    /// How many come before the first whose offset falls: all of them, unless
+    /// that one will be refused. Until then those behind it count as well.
+    ascending: usize,
+}
+
+impl HighHalves {
+    /// Before any are found.
+    pub const NONE: HighHalves = HighHalves {
+        offsets: [0; MOST],
+        places: [0; MOST],
+        count: 0,
+        ascending: 0,
+    };
+
+    /// Finds those of a list.
+    pub fn find(&mut self, relocations: &[Relocation]) {
+        let mut count = 0;
+        for (place, relocation) in (0_u16..).zip(relocations) {
+            // What is written for another type is written over by the next.
+            self.offsets[count % MOST] = u32::from_le_bytes(relocation[0]);
+            self.places[count % MOST] = place;
+            count += usize::from(relocation[1][0] == PCREL_HI20);
+        }
+        self.count = count;
+        let offsets = &self.offsets[..count];
+        let falls = |two: &[u32]| two[1] < two[0];
+        self.ascending = match offsets.windows(2).position(falls) {
+            Some(before) => before + 1,
+            None => count,
+        };
+    }
+
+    /// The place of the only one at this offset; `None` where there is none, or
+    /// more than one.
+    #[inline(always)]
+    pub fn only_at(&self, offset: u32) -> Option<usize> {
+        let offsets = &self.offsets[..self.count];
+        if self.ascending < offsets.len() {
+            return self.only_at_unsorted(offset);
+        }
+        let first = offsets.partition_point(|other| *other < offset);
+        let is_at = |index: usize| offsets.get(index) == Some(&offset);
+        (is_at(first) && !is_at(first + 1)).then(|| usize::from(self.places[first]))
+    }
+
+    /// The same where not all offsets ascend: the ascending ones are halved,
+    /// and the others counted one by one.
+    #[cold]
+    fn only_at_unsorted(&self, offset: u32) -> Option<usize> {
+        let (sorted, rest) = self.offsets[..self.count].split_at(self.ascending);
+        let first = sorted.partition_point(|other| *other < offset);
+        let in_sorted = sorted[first..].partition_point(|other| *other == offset);
+        let in_rest = rest.iter().filter(|other| **other == offset).count();
+        let index = match (in_sorted, in_rest) {
+            (1, 0) => first,
+            (0, 1) => self.ascending + rest.iter().position(|other| *other == offset)?,
+            _ => return None,
+        };
+        Some(usize::from(self.places[index]))
+    }
+}

@@ -1,0 +1,283 @@
+//! Checks 9 to 14, as one question for each relocation: do all its rules hold?
+
+use super::bytes::{double_word_at, half_at};
+use super::exact;
+use super::forms::{is_call, missing_forms};
+use super::object::{Object, Relocation};
+use super::pairs::HighHalves;
+use super::placing::Addresses;
+use super::symbols::Symbols;
+use super::types::{Rules, Way, RULES};
+use super::{refusal, Answer};
+
+/// One RELA section, and what it patches.
+pub struct List<'a> {
+    pub relocations: &'a [Relocation],
+    /// The index of the section that is patched.
+    pub target: usize,
+    /// The file from the first byte of that section on.
+    pub bytes: &'a [u8],
+    pub size: i64,
+    pub address: i64,
+}
+
+/// One relocation, as it is read.
+#[derive(Clone, Copy)]
+pub struct Entry {
+    pub offset: u32,
+    pub kind: u8,
+    pub symbol: usize,
+    pub addend: i32,
+}
+
+impl Entry {
+    #[inline(always)]
+    pub fn read(relocation: &Relocation) -> Entry {
+        let [offset, info, addend] = relocation.map(u32::from_le_bytes);
+        Entry {
+            offset,
+            kind: info as u8,
+            symbol: (info >> 8) as usize,
+            addend: addend as i32,
+        }
+    }
+}
+
+/// What a relocation's rules ask about those before it.
+#[derive(Clone, Copy)]
+pub struct Before {
+    /// The offset of the relocation before.
+    pub offset: i64,
+    /// Where the next bytes may begin: at the end of those of the non-marker
+    /// before, and not before a marker behind it.
+    pub end: i64,
+    /// The offset of the non-marker before and its kind of sharing, in one
+    /// number; or 0, which no relocation has.
+    pub shared: i64,
+}
+
+impl Before {
+    const START: Before = Before {
+        offset: 0,
+        end: 0,
+        shared: 0,
+    };
+
+    #[inline(always)]
+    fn go_past(&mut self, offset: i64, rules: &Rules) {
+        self.offset = offset;
+        self.end = offset + i64::from(rules.width);
+        self.shared = offset + rules.share;
+    }
+
+    /// No place is shared across a marker that stands behind it.
+    #[inline(always)]
+    fn go_past_marker(&mut self, offset: i64) {
+        self.offset = offset;
+        self.end = self.end.max(offset);
+        if offset as u32 != self.shared as u32 {
+            self.shared = 0;
+        }
+    }
+
+    fn go_past_any(&mut self, offset: u32, rules: &Rules) {
+        match rules.way {
+            Way::Marker | Way::Align => self.go_past_marker(i64::from(offset)),
+            _ => self.go_past(i64::from(offset), rules),
+        }
+    }
+
+    /// The rules of offsets and overlaps, for a non-marker: negative where one
+    /// is broken.
+    #[inline(always)]
+    pub fn room(&self, offset: i64, rules: &Rules, size: i64) -> i64 {
+        // At one place: negative for types that may not share it.
+        let after = match offset + rules.share == self.shared {
+            true => rules.share,
+            false => offset - self.end,
+        };
+        (size - offset - i64::from(rules.width)) | after
+    }
+
+    /// The rules of the offset of a marker: negative where one is broken.
+    #[inline(always)]
+    pub fn marker_room(&self, offset: i64, size: i64) -> i64 {
+        (offset - self.offset) | (size - offset)
+    }
+}
+
+/// How far the checks of one list came.
+enum Reached {
+    End,
+    /// A relocation with a pair, for which the list's high halves are needed.
+    Pair(usize, Before),
+}
+
+/// Checks all relocations: by RELA section, then in file order.
+pub fn check(object: &Object, addresses: &Addresses, symbols: &mut Symbols) -> Result<(), Answer> {
+    let mut first = 0;
+    for (target, relocations) in object.relocation_sections() {
+        let section = object.section(target);
+        let list = List {
+            relocations,
+            target,
+            bytes: &object.file[section.offset()..],
+            size: section.size() as i64,
+            address: i64::from(addresses[target]),
+        };
+        check_list(&list, symbols).map_err(|(number, place)| refusal(number, first + place))?;
+        first += relocations.len() as u32;
+    }
+    Ok(())
+}
+
+/// The error is the number, and the place in this list.
+fn check_list(list: &List, symbols: &mut Symbols) -> Result<(), (u32, u32)> {
+    match check_from(list, symbols, 0, Before::START, None)? {
+        Reached::End => Ok(()),
+        Reached::Pair(index, before) => check_with_pairs(list, symbols, index, before),
+    }
+}
+
+/// Goes on at the first relocation with a pair. The high halves take room on
+/// the stack, which a list without pairs does not pay for.
+#[inline(never)]
+fn check_with_pairs(
+    list: &List,
+    symbols: &mut Symbols,
+    start: usize,
+    before: Before,
+) -> Result<(), (u32, u32)> {
+    let mut high_halves = HighHalves::NONE;
+    high_halves.find(list.relocations);
+    check_from(list, symbols, start, before, Some(&high_halves)).map(|_| ())
+}
+
+fn check_from(
+    list: &List,
+    symbols: &mut Symbols,
+    start: usize,
+    mut before: Before,
+    high_halves: Option<&HighHalves>,
+) -> Result<Reached, (u32, u32)> {
+    let mut rest = &list.relocations[start..];
+    loop {
+        rest = match high_halves {
+            None => pass::<false>(list, rest, symbols, &mut before, None),
+            Some(_) => pass::<true>(list, rest, symbols, &mut before, high_halves),
+        };
+        let Some((relocation, behind)) = rest.split_first() else {
+            return Ok(Reached::End);
+        };
+        let index = list.relocations.len() - rest.len();
+        let entry = Entry::read(relocation);
+        let rules = &RULES[usize::from(entry.kind)];
+        if rules.way == Way::Pair && high_halves.is_none() {
+            return Ok(Reached::Pair(index, before));
+        }
+        let number = exact::first_broken(list, symbols, entry, &before);
+        if number != 0 {
+            return Err((number, index as u32));
+        }
+        debug_assert!(rules.way != Way::Pair, "a pair that was not found");
+        before.go_past_any(entry.offset, rules);
+        rest = behind;
+    }
+}
+
+/// Goes past relocations that keep all rules, as far as this can say, and gives
+/// those that are left. It stops also at ALIGN, in the last bytes of a file,
+/// and where a symbol is named for the first time. A list without pairs has a
+/// copy of this function that knows none.
+#[inline(never)]
+fn pass<'r, const PAIRS: bool>(
+    list: &List,
+    relocations: &'r [Relocation],
+    symbols: &mut Symbols,
+    before: &mut Before,
+    high_halves: Option<&HighHalves>,
+) -> &'r [Relocation] {
+    let mut now = *before;
+    let mut rest = relocations;
+    while let Some((relocation, behind)) = rest.split_first() {
+        let entry = Entry::read(relocation);
+        let offset = i64::from(entry.offset);
+        let rules = &RULES[usize::from(entry.kind)];
+        let holds = match rules.way {
+            Way::Plain => holds(list, symbols, entry, rules, &now),
+            Way::Call => is_call_at(list, entry) && holds(list, symbols, entry, rules, &now),
+            Way::Marker if now.marker_room(offset, list.size) >= 0 => {
+                now.go_past_marker(offset);
+                rest = behind;
+                continue;
+            }
+            Way::Pair if PAIRS => {
+                high_halves.is_some_and(|high| pair_holds(list, symbols, entry, rules, &now, high))
+            }
+            _ => false,
+        };
+        if !holds {
+            break;
+        }
+        now.go_past(offset, rules);
+        rest = behind;
+    }
+    *before = now;
+    rest
+}
+
+/// Whether all rules hold of a plain relocation. They are worked out beside
+/// each other, without a branch for each.
+#[inline(always)]
+fn holds(list: &List, symbols: &Symbols, entry: Entry, rules: &Rules, before: &Before) -> bool {
+    let Some(half) = half_at(list.bytes, entry.offset as usize) else {
+        return false;
+    };
+    let Some(value) = symbols.remembered(entry.symbol) else {
+        return false;
+    };
+    let offset = i64::from(entry.offset);
+    let place = list.address + offset;
+    let distance = i64::from(value.wrapping_add_signed(entry.addend)) - place;
+    let wrong = (distance + rules.reach) & rules.outside
+        | i64::from(missing_forms(half) & rules.form)
+        | place & i64::from(rules.even);
+    wrong == 0 && before.room(offset, rules, list.size) >= 0
+}
+
+/// Whether both instructions of a call are there.
+#[inline(always)]
+fn is_call_at(list: &List, entry: Entry) -> bool {
+    double_word_at(list.bytes, entry.offset as usize).is_some_and(is_call)
+}
+
+/// Whether all rules hold of a PCREL_LO12; then its pair is remembered.
+#[inline(always)]
+fn pair_holds(
+    list: &List,
+    symbols: &mut Symbols,
+    entry: Entry,
+    rules: &Rules,
+    before: &Before,
+    high_halves: &HighHalves,
+) -> bool {
+    let Some(half) = half_at(list.bytes, entry.offset as usize) else {
+        return false;
+    };
+    let Some(label) = symbols.label(entry.symbol, list.target) else {
+        return false;
+    };
+    let offset = i64::from(entry.offset);
+    let place = list.address + offset;
+    let wrong = i64::from(entry.addend)
+        | i64::from(missing_forms(half) & rules.form)
+        | place & i64::from(rules.even);
+    if wrong != 0 || before.room(offset, rules, list.size) < 0 {
+        return false;
+    }
+    let pair = high_halves.only_at(label);
+    if let Some(pair) = pair {
+        symbols.remember_pair(entry.symbol, pair);
+    }
+    pair.is_some()
+}

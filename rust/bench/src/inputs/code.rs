@@ -1,0 +1,89 @@
+//! Code and its relocations, in the making.
+
+use testing::build::{journal, object, order, Relocation, Section, Symbol};
+use testing::damage::Input;
+
+use super::IMAGE;
+
+pub const ABSOLUTE_32: u8 = 1;
+pub const BRANCH: u8 = 16;
+pub const JAL: u8 = 17;
+pub const CALL: u8 = 18;
+pub const PCREL_HI20: u8 = 23;
+pub const PCREL_LO12_I: u8 = 24;
+pub const PCREL_LO12_S: u8 = 25;
+pub const HI20: u8 = 26;
+pub const LO12_I: u8 = 27;
+pub const LO12_S: u8 = 28;
+pub const ADD32: u8 = 35;
+pub const SUB32: u8 = 39;
+pub const RELAX: u8 = 51;
+
+pub const AUIPC_RA: u32 = 0x97;
+pub const JALR_RA: u32 = 0x80E7;
+pub const JAL_RA: u32 = 0xEF;
+pub const BEQ: u32 = 0x63;
+pub const LUI_A0: u32 = 0x537;
+pub const AUIPC_A0: u32 = 0x517;
+pub const ADDI_A0: u32 = 0x50513;
+pub const SW_A0: u32 = 0xA5_2023;
+
+/// The window's base, and the address of the code.
+const BASE: u32 = 0x2000_0000;
+/// The last word of the window, so that the span is the whole image.
+const LAST: u32 = BASE + IMAGE as u32 - 4;
+
+#[derive(Default)]
+pub struct Code {
+    pub bytes: Vec<u8>,
+    pub relocations: Vec<Relocation>,
+}
+
+impl Code {
+    /// The offset of the next word.
+    pub fn end(&self) -> u32 {
+        self.bytes.len() as u32
+    }
+
+    pub fn plain(&mut self, word: u32) {
+        self.bytes.extend(word.to_le_bytes());
+    }
+
+    /// An instruction or a data word, with a relocation at it.
+    pub fn word(&mut self, word: u32, kind: u8, symbol: u32, addend: i32) {
+        self.plain(word);
+        self.again(kind, symbol, addend);
+    }
+
+    /// One more relocation at the last word.
+    pub fn again(&mut self, kind: u8, symbol: u32, addend: i32) {
+        let offset = self.end() - 4;
+        let relocation = Relocation::new(offset, kind, symbol, addend);
+        self.relocations.push(relocation);
+    }
+
+    /// RELAX at the last word, until there are this many relocations.
+    pub fn fill_up(&mut self, count: usize) {
+        while self.relocations.len() < count {
+            self.again(RELAX, 0, 0);
+        }
+    }
+
+    /// An install of this code, and of one word at the window's end, into an
+    /// image in which nothing stands.
+    pub fn input(self, symbols: &[Symbol], external_values: &[(u32, u32)]) -> Input {
+        let sections = [
+            Section::default(),
+            Section::loaded(4, &self.bytes),
+            Section::loaded(4, &[0; 4]),
+            Section::symbols(symbols),
+            Section::relocations(1, 3, &self.relocations),
+        ];
+        Input {
+            object: object(&sections),
+            order: order(BASE, &[(1, BASE), (2, LAST)], external_values),
+            image: vec![0xA5; IMAGE],
+            journal: journal(IMAGE),
+        }
+    }
+}

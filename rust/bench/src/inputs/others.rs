@@ -1,0 +1,92 @@
+//! Many symbols, real objects, an object without relocations, and a rollback.
+
+use testing::build::{journal, Symbol, GLOBAL};
+use testing::damage::{get, Input};
+use testing::given::objects;
+
+use super::code::*;
+use super::mixed::{self, Arrangement};
+use super::{done, Call, Row, MOST};
+
+/// How many symbols a table may have beside symbol 0.
+const MOST_SYMBOLS: u32 = 1_023;
+
+/// Labels and externals in turn, with a value for every external, of which few
+/// are named by a relocation.
+pub fn many_symbols(count: usize) -> Input {
+    let is_label = |symbol: u32| symbol % 2 == 1;
+    let mut symbols = vec![Symbol::default()];
+    symbols.extend((1..=MOST_SYMBOLS).map(|symbol| match is_label(symbol) {
+        true => Symbol::new(0, 1, 4 * (symbol % 16)),
+        false => Symbol::new(GLOBAL, 0, 0),
+    }));
+    let externals = (1..=MOST_SYMBOLS).filter(|symbol| !is_label(*symbol));
+    let external_values: Vec<(u32, u32)> = externals.map(|symbol| (symbol, 16 * symbol)).collect();
+    let mut code = Code::default();
+    let apart = MOST_SYMBOLS / count as u32;
+    for place in 0..count as u32 {
+        code.word(0, ABSOLUTE_32, 1 + apart * place, 4);
+    }
+    code.input(&symbols, &external_values)
+}
+
+/// An install of nothing but bytes, nearly as many as an object may have.
+pub fn no_relocations() -> Input {
+    let mut code = Code::default();
+    for word in 0..16_000 {
+        code.plain(word);
+    }
+    code.input(&[Symbol::default()], &[])
+}
+
+/// A real object of the repository, by its name.
+pub fn real(name: &str) -> Row {
+    let found = objects().into_iter().find(|object| object.name == name);
+    let given = found.expect("the object is in the repository");
+    let input = Input {
+        object: given.object,
+        order: given.order,
+        image: vec![0xA5; given.image_length],
+        journal: journal(given.image_length),
+    };
+    done(name, relocations(&input.object).len(), input)
+}
+
+/// The rollback of the install `mixed` with the most relocations. It gets
+/// neither object nor order.
+pub fn take_back() -> Row {
+    let Input {
+        object,
+        order,
+        mut image,
+        mut journal,
+    } = mixed::input(MOST, Arrangement::Shuffled);
+    let answer = reference::install(&object, &order, &mut image, &mut journal);
+    assert_eq!(answer, reference::Answer::DONE);
+    let input = Input {
+        object: Vec::new(),
+        order: Vec::new(),
+        image,
+        journal,
+    };
+    Row {
+        call: Call::TakeBack,
+        ..done("take-back", 0, input)
+    }
+}
+
+/// Offset and type of every relocation of an object that is done: of each RELA
+/// section whose target is allocated.
+pub fn relocations(object: &[u8]) -> Vec<(usize, u8)> {
+    let (table, count) = (get(object, 32, 4), get(object, 48, 2));
+    let field = |section: usize, at: usize| get(object, table + 40 * section + at, 4);
+    let counts =
+        |section: &usize| field(*section, 4) == 4 && field(field(*section, 28), 8) & 2 != 0;
+    let entries = (0..count).filter(counts).flat_map(|section| {
+        let (start, size) = (field(section, 16), field(section, 20));
+        (start..start + size).step_by(12)
+    });
+    entries
+        .map(|entry| (get(object, entry, 4), get(object, entry + 4, 1) as u8))
+        .collect()
+}

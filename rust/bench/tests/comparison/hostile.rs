@@ -1,0 +1,257 @@
+//! What a fitter written for speed may get wrong: pairs where offsets fall or
+//! meet, places that are shared across markers, and fields in the last bytes of
+//! a section or of the file.
+
+use bench::inputs::Call;
+use testing::build::{object, Fit, Relocation, Section, Symbol};
+use testing::damage::Input;
+use testing::random::Random;
+
+use crate::{answer, compare, Counts};
+
+const CASES: u64 = 20_000;
+
+const ABSOLUTE_32: u8 = 1;
+const PCREL_HI20: u8 = 23;
+const PCREL_LO12_I: u8 = 24;
+const RELAX: u8 = 51;
+
+const AUIPC: u32 = 0x517;
+const ADDI: u32 = 0x50513;
+
+fn compare_all(cases: u64, make: impl Fn(&mut Random) -> Fit) -> Counts {
+    let mut counts = Counts::default();
+    for seed in 0..cases {
+        let input = Input::from(&make(&mut Random::new(seed)));
+        let outcome = compare(&input, Call::Fit);
+        let outcome = outcome.unwrap_or_else(|wrong| panic!("seed {seed}: {wrong}"));
+        counts[outcome.answer.0 as usize] += 1;
+    }
+    println!("{counts:?}");
+    counts
+}
+
+/// High and low halves in any order, with labels at some of the high halves and
+/// beside them. Then some relocations change places, or appear twice.
+fn pairs(random: &mut Random) -> Fit {
+    let count = 1 + random.below(24) as u32;
+    let mut bytes = Vec::new();
+    let mut list = Vec::new();
+    let mut symbols = vec![Symbol::absolute(random.u32())];
+    for place in 0..count {
+        let offset = 4 * place;
+        let is_high = random.one_in(2) || place == 0;
+        bytes.extend(if is_high { AUIPC } else { ADDI }.to_le_bytes());
+        for _ in 0..random.pick(&[0, 0, 0, 1, 3]) {
+            list.push(Relocation::new(offset, RELAX, 0, 0));
+        }
+        if is_high {
+            symbols.push(Symbol::new(0, 1, offset));
+            list.push(Relocation::new(offset, PCREL_HI20, 1, 0));
+        } else {
+            list.push(Relocation::new(offset, PCREL_LO12_I, 0, 0));
+        }
+    }
+    if random.one_in(8) {
+        symbols.push(Symbol::new(0, 1, 4 * random.below(32) as u32));
+    }
+    let labels = symbols.len() - 1;
+    for relocation in list.iter_mut().filter(|one| one.kind == PCREL_LO12_I) {
+        relocation.symbol = 2 + random.below(labels) as u32;
+    }
+    for _ in 0..random.pick(&[0, 0, 1, 2]) {
+        wound(random, &mut list);
+    }
+    Fit::code(0x1000, &bytes, &symbols, &list)
+}
+
+/// Two relocations change places, one appears twice, one falls, or one goes far
+/// away.
+fn wound(random: &mut Random, list: &mut Vec<Relocation>) {
+    let (one, other) = (random.below(list.len()), random.below(list.len()));
+    match random.below(5) {
+        0 => list.swap(one, other),
+        1 => list.insert(one, list[other]),
+        2 => list[one].offset = list[other].offset,
+        3 => list[one].kind = list[other].kind,
+        _ => list[one].offset = random.pick(&[u32::MAX, 1 << 31, 65_536, 0]),
+    }
+}
+
+#[test]
+fn halves() {
+    let counts = compare_all(CASES, pairs);
+    for number in [0, 9, 11, 12] {
+        assert!(counts[number] >= 300, "answer {number} occurs");
+    }
+}
+
+/// Many high halves behind one whose offset falls: those behind count too.
+#[test]
+fn pairs_behind_a_falling_offset() {
+    let words: Vec<u8> = [AUIPC, ADDI, AUIPC, AUIPC]
+        .iter()
+        .flat_map(|word| word.to_le_bytes())
+        .collect();
+    let symbols = [
+        Symbol::absolute(8),
+        Symbol::new(0, 1, 0),
+        Symbol::new(0, 1, 8),
+    ];
+    let high = |offset| Relocation::new(offset, PCREL_HI20, 1, 0);
+    let low = |label| Relocation::new(4, PCREL_LO12_I, label, 0);
+    for (list, expected) in [
+        (vec![high(0), low(2), high(12), high(8)], (9, 3)),
+        (vec![high(0), low(3), high(12), high(8)], (9, 3)),
+        (vec![high(0), low(3), high(12), high(8), high(8)], (12, 1)),
+        (vec![high(0), low(2), high(12), high(0)], (12, 1)),
+        (vec![low(2), high(8), high(0)], (9, 2)),
+        (vec![low(2), high(8), high(0), high(0)], (12, 0)),
+        (vec![low(2), high(8), high(12)], (12, 0)),
+    ] {
+        let fit = Fit::code(0x1000, &words, &symbols, &list);
+        assert_eq!(answer(&Input::from(&fit)), expected, "{list:?}");
+    }
+}
+
+/// Data of all widths at few places, with markers between.
+fn places(random: &mut Random) -> Fit {
+    let kinds = [33, 37, 54, 34, 38, 55, 35, 39, 56, 36, 40, 52, 53];
+    let mut offset = 0;
+    let mut list = Vec::new();
+    let mut kind = random.pick(&kinds);
+    for _ in 0..1 + random.below(8) {
+        offset += random.pick(&[0, 0, 0, 0, 1, 2, 4, 8]);
+        if random.one_in(4) {
+            kind = random.pick(&kinds);
+        }
+        let now = match random.below(8) {
+            0 => RELAX,
+            1 => 0,
+            2 => 43,
+            3 if random.one_in(4) => random.pick(&[ABSOLUTE_32, 57]),
+            _ => kind,
+        };
+        let addend = if now == 43 { 0 } else { random.u32() as i32 };
+        list.push(Relocation::new(offset, now, 1, addend));
+        if random.one_in(16) {
+            offset = offset.saturating_sub(random.pick(&[1, 4]));
+        }
+    }
+    let size = offset as usize + random.pick(&[0, 1, 2, 4, 8, 12]);
+    let bytes = random.bytes(size);
+    Fit::code(0x1000, &bytes, &[Symbol::absolute(random.u32())], &list)
+}
+
+#[test]
+fn shared_places() {
+    let counts = compare_all(CASES, places);
+    for number in [0, 9] {
+        assert!(counts[number] >= 2_000, "answer {number} occurs");
+    }
+}
+
+/// Every opcode with every funct3, compressed or not, at every type that asks
+/// for an instruction.
+#[test]
+fn instructions() {
+    let mut counts = Counts::default();
+    for bits in 0..2_048 {
+        let word = bits & 0x7F | (bits & 0x780) << 5;
+        for kind in [16, 17, 18, 19, 23, 24, 25, 26, 27, 28, 44, 45] {
+            // Of a call: no register, another register, the same one.
+            let words = [
+                [word, 0x67],
+                [word, 0x80E7],
+                [word | 0x80, 0x80E7],
+                [0x97, word | 0x8000],
+            ];
+            for words in words {
+                let input = Input::from(&at_instruction(kind, words));
+                let outcome = compare(&input, Call::Fit);
+                let outcome = outcome.unwrap_or_else(|wrong| panic!("{kind}, {words:x?}: {wrong}"));
+                counts[outcome.answer.0 as usize] += 1;
+            }
+        }
+    }
+    println!("{counts:?}");
+    assert!(counts[0] >= 1_000 && counts[11] >= 10_000);
+}
+
+/// One relocation at these words, and a high half behind them.
+fn at_instruction(kind: u8, words: [u32; 2]) -> Fit {
+    let bytes: Vec<u8> = [words[0], words[1], AUIPC]
+        .iter()
+        .flat_map(|word| word.to_le_bytes())
+        .collect();
+    let symbols = [Symbol::new(0, 1, 8), Symbol::absolute(0x4000)];
+    let list = [
+        Relocation::new(0, kind, 1, 0),
+        Relocation::new(8, PCREL_HI20, 2, 0),
+    ];
+    Fit::code(0x1000, &bytes, &symbols, &list)
+}
+
+/// Symbol 0 is no label, and its value is 0, whatever its entry holds.
+#[test]
+fn symbol_0() {
+    for (kind, expected) in [(PCREL_LO12_I, (10, 0)), (27, (0, 0)), (35, (0, 0))] {
+        let mut fit = at_instruction(kind, [ADDI, ADDI]);
+        fit.sections[2] = Section::symbols(&[Symbol::new(6, 1, 8), Symbol::default()]);
+        let list = [
+            Relocation::new(0, kind, 0, 0),
+            Relocation::new(8, PCREL_HI20, 0, 0),
+        ];
+        fit.sections[3] = Section::relocations(1, 2, &list);
+        assert_eq!(answer(&Input::from(&fit)), expected, "type {kind}");
+        fit.sections[2] = Section::symbols(&[Symbol::new(0, 1, 8)]);
+        assert_eq!(answer(&Input::from(&fit)), expected, "type {kind}");
+    }
+}
+
+/// The patched section stands at the end of the file, behind the section
+/// headers, so that no byte can be read behind it.
+#[test]
+fn the_last_bytes_of_a_file() {
+    let half = |word: u16| word.to_le_bytes().to_vec();
+    let words = |words: &[u32]| -> Vec<u8> {
+        let bytes = words.iter().flat_map(|word| word.to_le_bytes());
+        bytes.collect()
+    };
+    for (kind, bytes, number) in [
+        (33, vec![7], 0),
+        (52, vec![0xC1], 0),
+        (34, half(0x1234), 0),
+        (44, half(0xC101), 0),
+        (44, half(0xA001), 11),
+        (45, half(0xA001), 0),
+        (45, half(0xA002), 11),
+        (35, words(&[1]), 0),
+        (40, words(&[1, 2]), 0),
+        (17, words(&[0xEF]), 0),
+        (18, words(&[0x97, 0x80E7]), 0),
+        (18, words(&[0x97, 0x100E7]), 11),
+    ] {
+        let list = [Relocation::new(0, kind, 1, 0)];
+        let fit = Fit::code(0x1000, &bytes, &[Symbol::absolute(0x1010)], &list);
+        let mut input = Input::from(&fit);
+        input.object = with_section_last(&fit, &bytes);
+        assert_eq!(answer(&input), (number, 0), "type {kind}, {bytes:x?}");
+    }
+}
+
+/// The object of this install with the bytes of section 1 at its end.
+fn with_section_last(fit: &Fit, bytes: &[u8]) -> Vec<u8> {
+    let mut sections = fit.sections.clone();
+    let at = object(&sections).len() - bytes.len();
+    sections[1] = Section {
+        offset: Some(at as u32),
+        size: Some(bytes.len() as u32),
+        bytes: Vec::new(),
+        ..sections[1].clone()
+    };
+    let mut file = object(&sections);
+    assert_eq!(file.len(), at);
+    file.extend(bytes);
+    file
+}
