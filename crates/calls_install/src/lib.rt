@@ -2,38 +2,87 @@
 ghost use mathlib.Core.Path.{_≡_};
 ghost use mathlib.Core.Bool.{true};
 ghost use lib.ListN.{length};
+ghost use Rattle.order_format.specs.Orders.{reading};
 ghost use Rattle.journal_format.specs.Journals.{sound};
 ghost use Rattle.journal_history.specs.Calls.{files};
 ghost use Rattle.calls_judgement.specs.Requires.{Fitting};
 ghost use Rattle.calls_judge.specs.Answers.{answerOf};
+ghost use Rattle.calls_judge.specs.Judged.{Ready};
 ghost use Rattle.calls_demands.specs.Ours.{ourInstall, ourRollback};
 use calls_judge::Answer;
 use calls_judge::is_done;
 use calls_judge::judge;
+use elf_check::MAX_RELOCATIONS;
+use elf_read::MAX_SECTIONS;
 use journal_undo::RolledBack;
 use order_format::OrderHeader;
 use order_format::Reading;
+use order_lookup::Addresses;
 
 // Check 15. If it passes, the span's old bytes are recorded, and then the sections are laid.
 fn fit(
     object: &[u8],
     order: &[u8],
     counts: OrderHeader,
+    addresses: Addresses,
+    words: &[u64],
+    sizes: &[u8],
     image: &mut [u8],
     journal: &mut [u8],
 ) -> Answer
-    requires { ⌜ Fitting (now object) (now order) counts (length (now image)) × (sound (now journal) (length (now image)) ≡ true) ⌝ }
+    requires { ⌜ Fitting (now object) (now order) counts (length (now image)) × Ready (now object) (now order) addresses (now words) (now sizes) × (sound (now journal) (length (now image)) ≡ true) ⌝ }
     ensures { λ r. ⌜ record { answer = answerOf r; after = files (now (image .exit)) (now (journal .exit)) }
         ≡ ourInstall (now (object .entry)) (now (order .entry)) (files (now (image .entry)) (now (journal .entry))) ⌝ }
 {
-    let addresses = order_lookup::address_array(order, counts);
     let span = placing_span::span_of(object, addresses, counts.base);
     if !journal_format::has_room(journal, span.size) {
         return Answer::JournalFull;
     }
     journal_undo::save(image, journal, span);
-    calls_lay::lay(object, order, counts, image);
+    calls_lay::lay(object, order, counts, addresses, words, sizes, image);
     Answer::Done
+}
+
+// Checks 3 to 15, and laying. What the checks work out is kept in scratch arrays on the stack, so that it is worked out once.
+fn judge_and_fit(
+    object: &[u8],
+    order: &[u8],
+    counts: OrderHeader,
+    image: &mut [u8],
+    journal: &mut [u8],
+) -> Answer
+    requires { ⌜ (reading (now order) ≡ Reading.WellFormed counts) × (sound (now journal) (length (now image)) ≡ true) ⌝ }
+    ensures { λ r. ⌜ record { answer = answerOf r; after = files (now (image .exit)) (now (journal .exit)) }
+        ≡ ourInstall (now (object .entry)) (now (order .entry)) (files (now (image .entry)) (now (journal .entry))) ⌝ }
+{
+    let mut highs = [0u32; MAX_RELOCATIONS];
+    let mut words = [0u64; MAX_RELOCATIONS];
+    let mut sizes = [0u8; MAX_RELOCATIONS];
+    let judged = judge(
+        object,
+        order,
+        counts,
+        image.len(),
+        [0u32; MAX_SECTIONS],
+        &mut highs,
+        &mut words,
+        &mut sizes,
+    );
+    let answer = judged.answer;
+    if !is_done(answer) {
+        return answer;
+    }
+    let addresses = judged.addresses;
+    fit(
+        object,
+        order,
+        counts,
+        addresses,
+        &words,
+        &sizes,
+        image,
+        journal,
+    )
 }
 
 // Installs an object by an order (document 01: a fit). Nothing is written before the last check has passed.
@@ -44,13 +93,9 @@ pub fn install(object: &[u8], order: &[u8], image: &mut [u8], journal: &mut [u8]
     if !journal_format::is_sound(journal, image.len()) {
         return Answer::JournalUnsound;
     }
-    let answer = judge(object, order, image.len());
-    if !is_done(answer) {
-        return answer;
-    }
     match order_format::read_order(order) {
-        Reading::Malformed => answer,
-        Reading::WellFormed(counts) => fit(object, order, counts, image, journal),
+        Reading::Malformed => Answer::OrderMalformed,
+        Reading::WellFormed(counts) => judge_and_fit(object, order, counts, image, journal),
     }
 }
 

@@ -1,18 +1,22 @@
-// What a call answers, and the judgement: checks 2 to 14 over lent bytes of object and order.
+// What a call answers, and the judgement: checks 3 to 14 over lent bytes of object and order.
 ghost use mathlib.Core.Path.{_≡_};
 ghost use mathlib.Core.Bool.{true};
 ghost use lib.Dec.{eqb};
 ghost use Rattle.order_format.specs.Orders.{reading};
 ghost use Rattle.placing_match.specs.Placements.{placementCheck};
 ghost use Rattle.relocations_rules.specs.Search.{number, isBroken};
-ghost use Rattle.calls_judgement.specs.Judgement.{judgement};
 ghost use Rattle.calls_judgement.specs.Requires.{Readable, Named, Placeable};
 ghost use Rattle.plan_pieces.specs.Answers.{says, packed};
-ghost use Rattle.calls_judge.specs.Answers.{answerOf, verdictOf};
+ghost use Rattle.order_lookup.specs.Addresses.{noAddresses, addresses as «the-addresses»};
+ghost use Rattle.calls_judge.specs.Answers.{answerOf};
+ghost use Rattle.calls_judge.specs.Judged.{Lent, JudgedWell};
+use elf_check::MAX_SYMBOLS;
 use elf_check::ObjectCheck;
 use order_format::OrderHeader;
 use order_format::Reading;
+use order_lookup::Addresses;
 use placing_match::Fault;
+use placing_symbols::symbol_values;
 use relocations_check_all::search::check_relocations;
 use relocations_rules::Finding;
 use relocations_rules::RelocationCheck;
@@ -55,76 +59,191 @@ fn refusal(finding: Finding, k: u32) -> Answer
     }
 }
 
-// Checks 9 to 14.
-fn judge_relocations(object: &[u8], order: &[u8], counts: OrderHeader, len: usize) -> Answer
-    requires { ⌜ Placeable (now object) (now order) counts len ⌝ }
-    ensures { λ r. ⌜ verdictOf (now (object .entry)) (now (order .entry)) r ≡ judgement (now (object .entry)) (now (order .entry)) len ⌝ }
+// What the judgement leaves: the answer, and the address of each section, for laying.
+pub struct Judged {
+    pub answer: Answer,
+    pub addresses: Addresses,
+}
+
+// Checks 9 to 14. S is worked out for every symbol first.
+fn judge_relocations(
+    object: &[u8],
+    order: &[u8],
+    counts: OrderHeader,
+    len: usize,
+    addresses: Addresses,
+    highs: &mut [u32],
+    words: &mut [u64],
+    sizes: &mut [u8],
+) -> Judged
+    requires { ⌜ Placeable (now object) (now order) counts len × (addresses ≡ «the-addresses» (now order)) × Lent (now highs) (now words) (now sizes) ⌝ }
+    ensures { λ r. ⌜ JudgedWell (now (object .entry)) (now (order .entry)) len r (now (words .exit)) (now (sizes .exit)) ⌝ }
 {
-    let addresses = order_lookup::address_array(order, counts);
-    match check_relocations(object, order, counts, addresses) {
-        RelocationCheck::Passed => Answer::Done,
-        RelocationCheck::Broken(finding, k) => refusal(finding, k),
+    let mut values = [0u64; MAX_SYMBOLS];
+    let mut states = [0u8; MAX_SYMBOLS];
+    let symbols = placing_symbols::symbols_of(object);
+    let placed = symbol_values(
+        object,
+        order,
+        counts,
+        symbols,
+        addresses,
+        &mut values,
+        &mut states,
+    );
+    match check_relocations(
+        object,
+        order,
+        symbols,
+        placed,
+        &values,
+        &states,
+        highs,
+        words,
+        sizes,
+    ) {
+        RelocationCheck::Passed => Judged {
+            answer: Answer::Done,
+            addresses: placed,
+        },
+        RelocationCheck::Broken(finding, k) => Judged {
+            answer: refusal(finding, k),
+            addresses: placed,
+        },
     }
 }
 
-// Check 8, and those after it.
-fn judge_placing(object: &[u8], order: &[u8], counts: OrderHeader, len: usize) -> Answer
-    requires { ⌜ Named (now object) (now order) counts len ⌝ }
-    ensures { λ r. ⌜ verdictOf (now (object .entry)) (now (order .entry)) r ≡ judgement (now (object .entry)) (now (order .entry)) len ⌝ }
+// Check 8, and those after it. The address array is filled here, once.
+fn judge_placing(
+    object: &[u8],
+    order: &[u8],
+    counts: OrderHeader,
+    len: usize,
+    addresses: Addresses,
+    highs: &mut [u32],
+    words: &mut [u64],
+    sizes: &mut [u8],
+) -> Judged
+    requires { ⌜ Named (now object) (now order) counts len × (addresses ≡ noAddresses) × Lent (now highs) (now words) (now sizes) ⌝ }
+    ensures { λ r. ⌜ JudgedWell (now (object .entry)) (now (order .entry)) len r (now (words .exit)) (now (sizes .exit)) ⌝ }
 {
-    let addresses = order_lookup::address_array(order, counts);
-    let placing = placing_check::check_placing(object, addresses, counts.base, len);
+    let filled = order_lookup::fill_addresses(addresses, order, counts);
+    let placing = placing_check::check_placing(object, filled, counts.base, len);
+    let placed = placing.addresses;
     let fault = placing.fault;
     match fault {
-        Fault::Nowhere => judge_relocations(object, order, counts, len),
-        Fault::At(i) => Answer::Misplaced(i),
+        Fault::Nowhere => judge_relocations(
+            object,
+            order,
+            counts,
+            len,
+            placed,
+            highs,
+            words,
+            sizes,
+        ),
+        Fault::At(i) => Judged {
+            answer: Answer::Misplaced(i),
+            addresses: placed,
+        },
     }
 }
 
 // Check 7, and those after it.
-fn judge_externals(object: &[u8], order: &[u8], counts: OrderHeader, len: usize) -> Answer
-    requires { ⌜ Readable (now object) (now order) counts len × (placementCheck (now object) (now order) ≡ Fault.Nowhere) ⌝ }
-    ensures { λ r. ⌜ verdictOf (now (object .entry)) (now (order .entry)) r ≡ judgement (now (object .entry)) (now (order .entry)) len ⌝ }
+fn judge_externals(
+    object: &[u8],
+    order: &[u8],
+    counts: OrderHeader,
+    len: usize,
+    addresses: Addresses,
+    highs: &mut [u32],
+    words: &mut [u64],
+    sizes: &mut [u8],
+) -> Judged
+    requires { ⌜ Readable (now object) (now order) counts len × (placementCheck (now object) (now order) ≡ Fault.Nowhere) × (addresses ≡ noAddresses) × Lent (now highs) (now words) (now sizes) ⌝ }
+    ensures { λ r. ⌜ JudgedWell (now (object .entry)) (now (order .entry)) len r (now (words .exit)) (now (sizes .exit)) ⌝ }
 {
     match placing_match::check_externals(object, order, counts) {
-        Fault::Nowhere => judge_placing(object, order, counts, len),
-        Fault::At(k) => Answer::WrongExternal(k),
+        Fault::Nowhere => judge_placing(object, order, counts, len, addresses, highs, words, sizes),
+        Fault::At(k) => Judged {
+            answer: Answer::WrongExternal(k),
+            addresses,
+        },
     }
 }
 
 // Check 6, and those after it.
-fn judge_placements(object: &[u8], order: &[u8], counts: OrderHeader, len: usize) -> Answer
-    requires { ⌜ Readable (now object) (now order) counts len ⌝ }
-    ensures { λ r. ⌜ verdictOf (now (object .entry)) (now (order .entry)) r ≡ judgement (now (object .entry)) (now (order .entry)) len ⌝ }
+fn judge_placements(
+    object: &[u8],
+    order: &[u8],
+    counts: OrderHeader,
+    len: usize,
+    addresses: Addresses,
+    highs: &mut [u32],
+    words: &mut [u64],
+    sizes: &mut [u8],
+) -> Judged
+    requires { ⌜ Readable (now object) (now order) counts len × (addresses ≡ noAddresses) × Lent (now highs) (now words) (now sizes) ⌝ }
+    ensures { λ r. ⌜ JudgedWell (now (object .entry)) (now (order .entry)) len r (now (words .exit)) (now (sizes .exit)) ⌝ }
 {
     match placing_match::check_placements(object, order, counts) {
-        Fault::Nowhere => judge_externals(object, order, counts, len),
-        Fault::At(i) => Answer::PlacementsDiffer(i),
+        Fault::Nowhere => judge_externals(
+            object,
+            order,
+            counts,
+            len,
+            addresses,
+            highs,
+            words,
+            sizes,
+        ),
+        Fault::At(i) => Judged {
+            answer: Answer::PlacementsDiffer(i),
+            addresses,
+        },
     }
 }
 
-// Checks 3 to 5, and those after them.
-fn judge_object(object: &[u8], order: &[u8], counts: OrderHeader, len: usize) -> Answer
-    requires { ⌜ reading (now order) ≡ Reading.WellFormed counts ⌝ }
-    ensures { λ r. ⌜ verdictOf (now (object .entry)) (now (order .entry)) r ≡ judgement (now (object .entry)) (now (order .entry)) len ⌝ }
+// Checks 3 to 14 for an image of `len` bytes, by an order that has been read. `addresses` comes with zeros and goes back filled.
+// Where the answer is that of an install that is done, `words` and `sizes` say what each relocation stores.
+pub fn judge(
+    object: &[u8],
+    order: &[u8],
+    counts: OrderHeader,
+    len: usize,
+    addresses: Addresses,
+    highs: &mut [u32],
+    words: &mut [u64],
+    sizes: &mut [u8],
+) -> Judged
+    requires { ⌜ (reading (now order) ≡ Reading.WellFormed counts) × (addresses ≡ noAddresses) × Lent (now highs) (now words) (now sizes) ⌝ }
+    ensures { λ r. ⌜ JudgedWell (now (object .entry)) (now (order .entry)) len r (now (words .exit)) (now (sizes .exit)) ⌝ }
 {
     if !order_format::window_allowed(counts.base, len) {
-        return Answer::WindowBroken;
+        return Judged {
+            answer: Answer::WindowBroken,
+            addresses,
+        };
     }
     match elf_check::check_object(object) {
-        ObjectCheck::Passed => judge_placements(object, order, counts, len),
-        ObjectCheck::BadHeader => Answer::BadHeader,
-        ObjectCheck::BadSection(i) => Answer::BadSection(i),
-    }
-}
-
-// Checks 2 to 14, for an image of `len` bytes.
-pub fn judge(object: &[u8], order: &[u8], len: usize) -> Answer
-    ensures { λ r. ⌜ verdictOf (now (object .entry)) (now (order .entry)) r ≡ judgement (now (object .entry)) (now (order .entry)) len ⌝ }
-{
-    match order_format::read_order(order) {
-        Reading::Malformed => Answer::OrderMalformed,
-        Reading::WellFormed(counts) => judge_object(object, order, counts, len),
+        ObjectCheck::Passed => judge_placements(
+            object,
+            order,
+            counts,
+            len,
+            addresses,
+            highs,
+            words,
+            sizes,
+        ),
+        ObjectCheck::BadHeader => Judged {
+            answer: Answer::BadHeader,
+            addresses,
+        },
+        ObjectCheck::BadSection(i) => Judged {
+            answer: Answer::BadSection(i),
+            addresses,
+        },
     }
 }
 

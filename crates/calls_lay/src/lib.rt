@@ -9,6 +9,7 @@ ghost use Rattle.elf_read.specs.Headers.{sectionCount};
 ghost use Rattle.elf_read.specs.Sections.{sectionAt, loaded};
 ghost use Rattle.plan_pieces.specs.Plans.{overwritten};
 ghost use Rattle.relocations_bytes.specs.Sections.{relocated};
+ghost use Rattle.relocations_check_all.specs.Sites.{Worked};
 ghost use Rattle.calls_judgement.specs.Judgement.{planOf};
 ghost use Rattle.calls_judgement.specs.Requires.{Fitting, withSection};
 use order_format::OrderHeader;
@@ -21,16 +22,26 @@ fn lay_at(
     order: &[u8],
     counts: OrderHeader,
     addresses: Addresses,
+    words: &[u64],
+    sizes: &[u8],
     t: usize,
     at: usize,
     image: &mut [u8],
 )
-    requires { ⌜ Fitting (now object) (now order) counts (length (now image)) × (addresses ≡ «the-addresses» (now order)) × (t < sectionCount (now object)) × (loaded (sectionAt (now object) t) ≡ true) × (at + sectionAt (now object) t .size ≤ length (now image)) ⌝ }
+    requires { ⌜ Fitting (now object) (now order) counts (length (now image)) × (addresses ≡ «the-addresses» (now order)) × Worked (now object) (now order) addresses (now words) (now sizes) × (t < sectionCount (now object)) × (loaded (sectionAt (now object) t) ≡ true) × (at + sectionAt (now object) t .size ≤ length (now image)) ⌝ }
     ensures { λ _. ⌜ now (image .exit) ≡ sets (now (image .entry)) at (relocated (now (object .entry)) (now (order .entry)) («the-addresses» (now (order .entry))) t) ⌝ }
 {
     let h = elf_read::read_section(object, t);
     let end = at + h.size as usize;
-    relocations_apply::lay_section(object, order, counts, addresses, t, &mut image[at..end]);
+    relocations_apply::lay_section(
+        object,
+        order,
+        addresses,
+        words,
+        sizes,
+        t,
+        &mut image[at..end],
+    );
 }
 
 // Lays section t into the image, if it has bytes there.
@@ -39,10 +50,12 @@ fn lay_one(
     order: &[u8],
     counts: OrderHeader,
     addresses: Addresses,
+    words: &[u64],
+    sizes: &[u8],
     t: usize,
     image: &mut [u8],
 )
-    requires { ⌜ Fitting (now object) (now order) counts (length (now image)) × (addresses ≡ «the-addresses» (now order)) × (t < sectionCount (now object)) ⌝ }
+    requires { ⌜ Fitting (now object) (now order) counts (length (now image)) × (addresses ≡ «the-addresses» (now order)) × Worked (now object) (now order) addresses (now words) (now sizes) × (t < sectionCount (now object)) ⌝ }
     ensures { λ _. ⌜ now (image .exit) ≡ withSection (now (object .entry)) (now (order .entry)) t (now (image .entry)) ⌝ }
 {
     let h = elf_read::read_section(object, t);
@@ -50,19 +63,36 @@ fn lay_one(
         return;
     }
     let at = addresses[t] - counts.base.0;
-    lay_at(object, order, counts, addresses, t, at as usize, image);
+    lay_at(
+        object,
+        order,
+        counts,
+        addresses,
+        words,
+        sizes,
+        t,
+        at as usize,
+        image,
+    );
 }
 
-// Lays the loaded sections into the image, each after its relocations.
-pub fn lay(object: &[u8], order: &[u8], counts: OrderHeader, image: &mut [u8])
-    requires { ⌜ Fitting (now object) (now order) counts (length (now image)) ⌝ }
+// Lays the loaded sections into the image, each after its relocations, whose words were worked out before.
+pub fn lay(
+    object: &[u8],
+    order: &[u8],
+    counts: OrderHeader,
+    addresses: Addresses,
+    words: &[u64],
+    sizes: &[u8],
+    image: &mut [u8],
+)
+    requires { ⌜ Fitting (now object) (now order) counts (length (now image)) × (addresses ≡ «the-addresses» (now order)) × Worked (now object) (now order) addresses (now words) (now sizes) ⌝ }
     ensures { λ _. ⌜ now (image .exit) ≡ overwritten (now (image .entry)) (planOf (now (object .entry)) (now (order .entry))) ⌝ }
 {
-    let addresses = order_lookup::address_array(order, counts);
     let n = elf_read::section_count(object);
     let mut t: usize = 0;
     while t < n {
-        lay_one(object, order, counts, addresses, t, image);
+        lay_one(object, order, counts, addresses, words, sizes, t, image);
         t += 1;
     }
 }

@@ -263,6 +263,15 @@ pub fn read_relocation(object: &[u8], h: Section, k: usize) -> Relocation
     }
 }
 
+// The offset of entry k of a RELA section.
+pub fn read_offset(object: &[u8], h: Section, k: usize) -> SectionOffset
+    requires { ⌜ Inside (now object) (h .offset .0 + relocationSize * k) relocationSize ⌝ }
+    ensures { λ r. ⌜ r ≡ relocationAt (now (object .entry)) h k .offset ⌝ }
+{
+    let at = h.offset.0 as usize + RELOCATION_SIZE as usize * k;
+    SectionOffset(numbers_bytes::read32(object, at))
+}
+
 // Where relocation number k is. Relocations are numbered through all counting RELA sections.
 pub fn locate(object: &[u8], k: usize) -> Location
     requires { ⌜ TableInside (now object) ⌝ }

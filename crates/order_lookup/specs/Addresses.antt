@@ -1,6 +1,7 @@
 -- "The 32 row addresses travel as one array passed by value."
 use Prim.Native.Nat.{ℕ}
 use mathlib.Core.List.{List}
+use lib.ListN.{replicate}
 use Rattle.numbers_definitions.specs.First.{tabulate}
 use Rattle.order_lookup.specs.declared.Value.{Value}
 use Rattle.order_lookup.specs.declared.Value.the-variants.{Given, NotGiven}
@@ -16,6 +17,10 @@ orZero NotGiven = 0
 -- the address that an order gives a section, if it places it
 unfoldable pub placedAt : List ℕ → ℕ → Value
 placedAt s section = valueIn s placementsStart (placementCount s) section
+
+-- the array before any address is stored
+abbrev pub noAddresses : List ℕ
+noAddresses = replicate maxSections 0
 
 -- the array: an entry for each section number
 unfoldable pub addresses : List ℕ → List ℕ

@@ -3,7 +3,7 @@ ghost use mathlib.Core.Path.{_≡_};
 ghost use Rattle.order_format.specs.Orders.{reading};
 ghost use Rattle.order_lookup.specs.Values.{valueIn, externalValue};
 ghost use Rattle.order_lookup.specs.Requires.{Searchable};
-ghost use Rattle.order_lookup.specs.Addresses.{placedAt, addresses};
+ghost use Rattle.order_lookup.specs.Addresses.{placedAt, noAddresses, addresses};
 use elf_read::MAX_SECTIONS;
 use numbers_definitions::Address;
 use order_format::OrderHeader;
@@ -59,13 +59,12 @@ pub fn placed_at(order: &[u8], counts: OrderHeader, section: u32) -> Value
 // "The 32 row addresses travel as one array passed by value."
 pub type Addresses = [u32; MAX_SECTIONS];
 
-// The address of each section. A section that the order does not place has the entry 0; once check 6 has passed,
-// no result depends on it.
-pub fn address_array(order: &[u8], counts: OrderHeader) -> Addresses
-    requires { ⌜ reading (now order) ≡ Reading.WellFormed counts ⌝ }
+// Stores the address of each section that the order places into an array of zeros. A section that the order does not place
+// keeps the entry 0; once check 6 has passed, no result depends on it.
+pub fn fill_addresses(mut array: Addresses, order: &[u8], counts: OrderHeader) -> Addresses
+    requires { ⌜ (array ≡ noAddresses) × (reading (now order) ≡ Reading.WellFormed counts) ⌝ }
     ensures { λ r. ⌜ r ≡ addresses (now (order .entry)) ⌝ }
 {
-    let mut array = [0u32; MAX_SECTIONS];
     let n = counts.placements;
     let mut i: usize = 0;
     while i < n {

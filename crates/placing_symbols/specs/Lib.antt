@@ -1,2 +1,3 @@
 pub mod Values
+pub mod Arrays
 pub mod Requires

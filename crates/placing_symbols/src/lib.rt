@@ -1,9 +1,13 @@
 // The values of symbols.
 ghost use mathlib.Core.Path.{_≡_};
+ghost use Prim.Native.Nat.{_^_, _<_};
 ghost use Rattle.elf_check.specs.Requires.{SoundObject};
 ghost use Rattle.order_format.specs.Orders.{reading};
-ghost use Rattle.placing_symbols.specs.Values.{ofUndefined, ofSection, symbolValue};
+ghost use Rattle.placing_symbols.specs.Values.{ofUndefined, ofSection, ofEntry, symbolValue};
+ghost use Rattle.placing_symbols.specs.Arrays.{noValues, stateOf, numberOf, listed, ValueArrays, Valued};
 ghost use Rattle.placing_symbols.specs.Requires.{SymbolsOf};
+use elf_check::MAX_SYMBOLS;
+use elf_read::MAX_SECTIONS;
 use elf_read::SHN_ABS;
 use elf_read::SHN_UNDEF;
 use elf_read::STB_WEAK;
@@ -39,29 +43,22 @@ fn undefined_value(symbol: Symbol, value: Value) -> SymbolValue
     }
 }
 
-// The value of a symbol, and the addresses, which are passed by value and handed back.
-pub struct Lookup {
-    pub value: SymbolValue,
-    pub addresses: Addresses,
-}
-
-// The value of symbol k of the table, by the section that it is defined in.
+// The value of symbol k of the table, by the section that it is defined in. `start` is the address of that section.
 fn value_in_section(
     object: &[u8],
     order: &[u8],
     counts: OrderHeader,
-    addresses: Addresses,
+    start: u32,
     k: u32,
     symbol: Symbol,
 ) -> SymbolValue
     requires { ⌜ SoundObject (now object) × (reading (now order) ≡ Reading.WellFormed counts) ⌝ }
-    ensures { λ r. ⌜ r ≡ ofSection (now (object .entry)) (now (order .entry)) addresses k symbol ⌝ }
+    ensures { λ r. ⌜ r ≡ ofSection (now (object .entry)) (now (order .entry)) start k symbol ⌝ }
 {
     let section = symbol.section;
     if elf_read::is_allocated_section(object, section as u32) {
-        let address = addresses[section as usize];
         return SymbolValue::Resolved(Address(numbers_arithmetic::add32(
-            address,
+            start,
             symbol.value.0 as u64,
         )));
     }
@@ -73,6 +70,24 @@ fn value_in_section(
         return SymbolValue::Unresolved;
     }
     undefined_value(symbol, order_lookup::external_value(order, counts, k))
+}
+
+// The value of symbol k of the table, where k is not 0. `start` is the address of the section that it is defined in.
+fn entry_value(
+    object: &[u8],
+    order: &[u8],
+    counts: OrderHeader,
+    start: u32,
+    k: u32,
+    symbol: Symbol,
+) -> SymbolValue
+    requires { ⌜ SoundObject (now object) × (reading (now order) ≡ Reading.WellFormed counts) ⌝ }
+    ensures { λ r. ⌜ r ≡ ofEntry (now (object .entry)) (now (order .entry)) start k symbol ⌝ }
+{
+    if (symbol.kind == STT_TLS) | (symbol.kind == STT_GNU_IFUNC) {
+        return SymbolValue::Unresolved;
+    }
+    value_in_section(object, order, counts, start, k, symbol)
 }
 
 // The symbol table: its header, and how many symbols it has. If it has none, nothing reads the header.
@@ -99,38 +114,72 @@ pub fn symbols_of(object: &[u8]) -> Symbols
     }
 }
 
-// S: the value of symbol k.
-pub fn symbol_value(
+// The state that is stored for S: 1 if the symbol resolves, else 0.
+fn state_of(value: SymbolValue) -> u8
+    ensures { λ r. ⌜ r ≡ stateOf value ⌝ }
+{
+    match value {
+        SymbolValue::Resolved(_) => 1,
+        SymbolValue::Unresolved => 0,
+    }
+}
+
+// The value that is stored for S: 0 if the symbol does not resolve.
+fn number_of(value: SymbolValue) -> u64
+    ensures { λ r. ⌜ (r ≡ numberOf value) × (r < 2 ^ 32) ⌝ }
+{
+    match value {
+        SymbolValue::Resolved(s) => s.0 as u64,
+        SymbolValue::Unresolved => 0,
+    }
+}
+
+// Works S out for every symbol. `addresses` is passed by value and handed back. The entries past the table stay 0, which says
+// that these symbols do not resolve.
+pub fn symbol_values(
     object: &[u8],
     order: &[u8],
     counts: OrderHeader,
     symbols: Symbols,
     addresses: Addresses,
-    k: u32,
-) -> Lookup
-    requires { ⌜ SoundObject (now object) × (reading (now order) ≡ Reading.WellFormed counts) × SymbolsOf (now object) symbols ⌝ }
-    ensures { λ r. ⌜ (r .value ≡ symbolValue (now (object .entry)) (now (order .entry)) addresses k) × (r .addresses ≡ addresses) ⌝ }
+    values: &mut [u64],
+    states: &mut [u8],
+) -> Addresses
+    requires { ⌜ SoundObject (now object) × (reading (now order) ≡ Reading.WellFormed counts) × SymbolsOf (now object) symbols × (now values ≡ noValues) × (now states ≡ noValues) ⌝ }
+    ensures { λ r. ⌜ (r ≡ addresses) × Valued (now (object .entry)) (now (order .entry)) addresses (now (values .exit)) (now (states .exit)) ⌝ }
+{
+    let table = symbols.table;
+    let count = symbols.count;
+    // Symbol 0 resolves, to 0.
+    states[0] = 1;
+    let mut k: usize = 1;
+    while k < count {
+        let symbol = elf_read::read_symbol(object, table, k);
+        let section = symbol.section as usize;
+        let start = if section < MAX_SECTIONS {
+            addresses[section]
+        } else {
+            0
+        };
+        let value = entry_value(object, order, counts, start, k as u32, symbol);
+        values[k] = number_of(value);
+        states[k] = state_of(value);
+        k += 1;
+    }
+    addresses
+}
+
+// S of symbol k, out of the arrays.
+pub fn value_at(values: &[u64], states: &[u8], k: u32) -> SymbolValue
+    requires { ⌜ ValueArrays (now values) (now states) ⌝ }
+    ensures { λ r. ⌜ r ≡ listed (now (values .entry)) (now (states .entry)) k ⌝ }
 {
     let at = k as usize;
-    if at == 0 {
-        return Lookup {
-            value: SymbolValue::Resolved(Address(0)),
-            addresses,
-        };
+    if MAX_SYMBOLS <= at {
+        return SymbolValue::Unresolved;
     }
-    if symbols.count <= at {
-        return Lookup {
-            value: SymbolValue::Unresolved,
-            addresses,
-        };
+    if states[at] != 1 {
+        return SymbolValue::Unresolved;
     }
-    let symbol = elf_read::read_symbol(object, symbols.table, at);
-    if (symbol.kind == STT_TLS) | (symbol.kind == STT_GNU_IFUNC) {
-        return Lookup {
-            value: SymbolValue::Unresolved,
-            addresses,
-        };
-    }
-    let value = value_in_section(object, order, counts, addresses, k, symbol);
-    Lookup { value, addresses }
+    SymbolValue::Resolved(Address(values[at] as u32))
 }

@@ -3,6 +3,7 @@ pub mod Patches
 pub mod Sections
 pub mod Overlap
 pub mod After
+pub mod Words
 pub mod Said
 pub mod Stacks
 pub mod ReadBack

@@ -1,111 +1,159 @@
-// Checks 9 to 14 over all relocations: the first relocation that breaks a rule, and which rule it breaks.
+// Checks 9 to 14 over all relocations: the first relocation that breaks a rule, and which rule it breaks. The bytes that each
+// relocation leaves are worked out on the way, so that laying only has to store them.
 ghost use mathlib.Core.Path.{_≡_};
-ghost use mathlib.Core.Bool.{true};
+ghost use mathlib.Core.Bool.{true, cond};
+ghost use mathlib.Core.List.{List};
+ghost use Prim.Native.Nat.{ℕ, _+_, _^_, _≤_, _<_};
+ghost use lib.ListN.{length};
+ghost use Rattle.elf_read.specs.Headers.{sectionCount};
+ghost use Rattle.elf_read.specs.Entries.{relocationCount};
+ghost use Rattle.elf_check.specs.Rules.{maxRelocations};
 ghost use Rattle.elf_check.specs.Requires.{SoundObject};
-ghost use Rattle.order_format.specs.Orders.{reading};
 ghost use Rattle.placing_symbols.specs.Requires.{SymbolsOf};
-ghost use Rattle.relocations_rela.specs.Shape.{previous as «the-previous»};
-ghost use Rattle.relocations_rules.specs.Search.{finding, isBroken, relocationCheck};
-ghost use Rattle.relocations_rela.specs.Requires.{There, Placed};
+ghost use Rattle.placing_symbols.specs.Arrays.{Valued};
+ghost use Rattle.relocations_decisions.specs.Decisions.{isStore};
+ghost use Rattle.relocations_rela.specs.Sites.{count};
+ghost use Rattle.relocations_rela.specs.Requires.{SoundSite, Placed};
+ghost use Rattle.relocations_rules.specs.Search.{relocationCheck};
+ghost use Rattle.relocations_check_one.specs.Requires.{Lookups};
+ghost use Rattle.relocations_check_all.specs.Sites.{findingOfNumber, WordedBelow, SiteChecked};
 use elf_read::RELOCATION_SIZE;
-use order_format::OrderHeader;
-use order_format::Reading;
 use order_lookup::Addresses;
 use placing_symbols::Symbols;
-use relocations_check_one::is_form_well;
-use relocations_check_one::is_in_reach;
-use relocations_check_one::is_on_boundary;
-use relocations_check_one::is_paired;
-use relocations_check_one::is_symbol_well;
-use relocations_rela::shape::Previous;
-use relocations_rela::shape::is_shape_well;
-use relocations_rela::shape::step;
+use relocations_check_one::check_one;
+use relocations_decisions::bytes_touched;
+use relocations_decisions::is_store;
+use relocations_rela::shape::advance;
+use relocations_rela::shape::no_trail;
 use relocations_rela::sites::Site;
 use relocations_rela::sites::site_at;
 use relocations_rules::Finding;
 use relocations_rules::RelocationCheck;
+use relocations_types::Decision;
 use relocations_types::decide;
-use relocations_values::place_of;
-use relocations_values::target_of;
 
-// The first of checks 9 to 14 that relocation j breaks.
-fn find_broken(
-    object: &[u8],
-    order: &[u8],
-    counts: OrderHeader,
-    symbols: Symbols,
-    addresses: Addresses,
-    site: Site,
-    previous: Previous,
-    j: usize,
-) -> Finding
-    requires { ⌜ SoundObject (now object) × (reading (now order) ≡ Reading.WellFormed counts) × SymbolsOf (now object) symbols × There (now object) site j × (previous ≡ «the-previous» (now object) site j) ⌝ }
-    ensures { λ r. ⌜ r ≡ finding (now (object .entry)) (now (order .entry)) addresses site j ⌝ }
+// What is found in a site: the number of the first broken rule, or 0, and the relocation that breaks it.
+pub struct Halt {
+    pub number: u64,
+    pub at: usize,
+}
+
+// What the previous non-marker of the next relocation left.
+fn next_last(decision: Decision, word: u64, last: u64) -> u64
+    ensures { λ r. ⌜ r ≡ cond (isStore decision) word last ⌝ }
 {
-    let here = elf_read::read_relocation(object, site.rela, j);
-    let decision = decide(here.kind);
-    if !is_shape_well(object, site, previous, j) {
+    if is_store(decision) {
+        return word;
+    }
+    last
+}
+
+// The finding with a number.
+fn finding_of(number: u64) -> Finding
+    ensures { λ r. ⌜ r ≡ findingOfNumber number ⌝ }
+{
+    if number == 9 {
         return Finding::BadShape;
     }
-    let lookup = placing_symbols::symbol_value(
-        object,
-        order,
-        counts,
-        symbols,
-        addresses,
-        here.symbol,
-    );
-    let value = lookup.value;
-    if !is_symbol_well(object, symbols, site, j, value) {
+    if number == 10 {
         return Finding::BadSymbol;
     }
-    if !is_form_well(object, site, j) {
+    if number == 11 {
         return Finding::BadForm;
     }
-    if !is_paired(object, symbols, site, j) {
+    if number == 12 {
         return Finding::NoPair;
     }
-    if !is_in_reach(
-        decision,
-        target_of(value, here.addend),
-        place_of(site, here),
-    ) {
+    if number == 13 {
         return Finding::OutOfReach;
     }
-    if !is_on_boundary(decision, site.address, here.offset, here.addend) {
+    if number == 14 {
         return Finding::OffBoundary;
     }
     Finding::Kept
 }
 
-fn is_broken(finding: Finding) -> bool
-    ensures { λ r. ⌜ r ≡ isBroken finding ⌝ }
+// Checks the relocations of a site in file order, each through all rules before the next, and stores what they leave from
+// `base` on.
+fn check_site(
+    object: &[u8],
+    symbols: Symbols,
+    site: Site,
+    values: &[u64],
+    states: &[u8],
+    highs: &mut [u32],
+    words: &mut [u64],
+    sizes: &mut [u8],
+    base: usize,
+) -> Halt
+    requires { ⌜ Lookups (now object) symbols (now values) (now states) × SoundSite (now object) site × (count site ≤ length (now highs)) × (length (now highs) < 2 ^ 32)
+        × (base + count site ≤ length (now words)) × (base + count site ≤ length (now sizes)) × (length (now words) < 2 ^ 32) ⌝ }
+    ensures { λ r. ⌜ ((order addresses : List ℕ) → Valued (now (object .entry)) order addresses (now (values .entry)) (now (states .entry))
+        → SiteChecked (now (object .entry)) order addresses site base (now (words .entry)) (now (sizes .entry)) (now (words .exit)) (now (sizes .exit)) (r .number) (r .at))
+        × (length (now (words .exit)) ≡ length (now (words .entry))) × (length (now (sizes .exit)) ≡ length (now (sizes .entry)))
+        × (length (now (highs .exit)) ≡ length (now (highs .entry))) ⌝ }
 {
-    match finding {
-        Finding::Kept => false,
-        Finding::BadShape => true,
-        Finding::BadSymbol => true,
-        Finding::BadForm => true,
-        Finding::NoPair => true,
-        Finding::OutOfReach => true,
-        Finding::OffBoundary => true,
+    let n = (site.rela.size / RELOCATION_SIZE) as usize;
+    let mut trail = no_trail();
+    let mut last: u64 = 0;
+    let mut made: u64 = 0;
+    let mut j: usize = 0;
+    while j < n {
+        let here = elf_read::read_relocation(object, site.rela, j);
+        let decision = decide(here.kind);
+        let outcome = check_one(
+            object,
+            symbols,
+            site,
+            values,
+            states,
+            highs,
+            trail,
+            decision,
+            here,
+            last,
+            made,
+            j,
+        );
+        if outcome.number != 0 {
+            return Halt {
+                number: outcome.number,
+                at: j,
+            };
+        }
+        let k = base + j;
+        words[k] = outcome.word;
+        sizes[k] = bytes_touched(decision);
+        trail = advance(trail, decision, here);
+        last = next_last(decision, outcome.word, last);
+        made = outcome.made;
+        j += 1;
     }
+    Halt { number: 0, at: 0 }
 }
 
-// Checks 9 to 14. Relocations go by RELA section, then in file order, each through all rules before the next.
+// Checks 9 to 14. Relocations go by RELA section, then in file order. If they pass, the words and sizes of all relocations are
+// stored, by number.
 pub fn check_relocations(
     object: &[u8],
     order: &[u8],
-    counts: OrderHeader,
+    symbols: Symbols,
     addresses: Addresses,
+    values: &[u64],
+    states: &[u8],
+    highs: &mut [u32],
+    words: &mut [u64],
+    sizes: &mut [u8],
 ) -> RelocationCheck
-    requires { ⌜ SoundObject (now object) × (reading (now order) ≡ Reading.WellFormed counts) × Placed (now object) addresses ⌝ }
-    ensures { λ r. ⌜ r ≡ relocationCheck (now (object .entry)) (now (order .entry)) addresses ⌝ }
+    requires { ⌜ SoundObject (now object) × SymbolsOf (now object) symbols × Placed (now object) addresses × Valued (now object) (now order) addresses (now values) (now states)
+        × (length (now highs) ≡ maxRelocations) × (length (now words) ≡ maxRelocations) × (length (now sizes) ≡ maxRelocations) ⌝ }
+    ensures { λ r. ⌜ (r ≡ relocationCheck (now (object .entry)) (now (order .entry)) addresses)
+        × (r ≡ RelocationCheck.Passed → WordedBelow (now (object .entry)) (now (order .entry)) addresses (sectionCount (now (object .entry))) (now (words .exit)) (now (sizes .exit)))
+        × (length (now (highs .exit)) ≡ maxRelocations) × (length (now (words .exit)) ≡ maxRelocations) × (length (now (sizes .exit)) ≡ maxRelocations) ⌝ }
 {
-    let symbols = placing_symbols::symbols_of(object);
     let n = elf_read::section_count(object);
     let mut result = RelocationCheck::Passed;
-    let mut number: u32 = 0;
+    let mut number: usize = 0;
     let mut i: usize = 0;
     'search: while i < n {
         if !elf_read::is_counting_rela(object, i) {
@@ -113,20 +161,23 @@ pub fn check_relocations(
             continue 'search;
         }
         let site = site_at(object, addresses, i);
-        let count = (site.rela.size / RELOCATION_SIZE) as usize;
-        let mut previous = Previous::Nothing;
-        let mut j: usize = 0;
-        while j < count {
-            let here = elf_read::read_relocation(object, site.rela, j);
-            let finding = find_broken(object, order, counts, symbols, addresses, site, previous, j);
-            if is_broken(finding) {
-                result = RelocationCheck::Broken(finding, number);
-                break 'search;
-            }
-            previous = step(previous, decide(here.kind), j);
-            number += 1;
-            j += 1;
+        let halt = check_site(
+            object,
+            symbols,
+            site,
+            values,
+            states,
+            highs,
+            words,
+            sizes,
+            number,
+        );
+        if halt.number != 0 {
+            let finding = finding_of(halt.number);
+            result = RelocationCheck::Broken(finding, (number + halt.at) as u32);
+            break 'search;
         }
+        number += elf_read::relocation_entries(site.rela);
         i += 1;
     }
     result

@@ -34,7 +34,7 @@ pub fn is_refused(decision: Decision) -> bool
 }
 
 // How many bytes are touched.
-pub fn bytes_touched(decision: Decision) -> usize
+pub fn bytes_touched(decision: Decision) -> u8
     ensures { λ r. ⌜ r ≡ touched decision ⌝ }
 {
     match decision {

@@ -2,3 +2,4 @@
 pub mod Addends
 pub mod Sites
 pub mod Shape
+pub mod Trails

@@ -1,3 +1,4 @@
 pub mod Sites
 pub mod Shape
+pub mod Trails
 pub mod Requires

@@ -1,11 +1,10 @@
 // Check 9: type, offset, overlap and addend of a relocation.
 ghost use mathlib.Core.Path.{_≡_};
-ghost use mathlib.Core.Bool.{cond};
+ghost use Prim.Native.Nat.{_<_, _^_};
 ghost use Rattle.numbers_definitions.specs.Whole.{signed};
-ghost use Rattle.relocations_decisions.specs.Decisions.{isStore};
-ghost use Rattle.relocations_rela.specs.Shape.{neverFalls, previous as «the-previous», clears, addendWell, shapeWell};
-ghost use Rattle.relocations_rela.specs.Requires.{There};
-use super::sites::Site;
+ghost use Rattle.relocations_rela.specs.Shape.{addendWell};
+ghost use Rattle.relocations_rela.specs.Trails.{noTrail, advanced, sharesBy, shapeBy};
+use elf_read::Relocation;
 use numbers_definitions::SectionOffset;
 use relocations_decisions::bytes_touched;
 use relocations_decisions::is_refused;
@@ -13,7 +12,6 @@ use relocations_decisions::is_store;
 use relocations_decisions::needs_pair;
 use relocations_decisions::stack_width;
 use relocations_types::Decision;
-use relocations_types::decide;
 
 // The previous non-marker of a relocation, among the relocations of its site.
 pub enum Previous {
@@ -21,52 +19,54 @@ pub enum Previous {
     Entry(usize),
 }
 
-// The previous non-marker of relocation j + 1, from that of j.
-pub fn step(previous: Previous, decision: Decision, j: usize) -> Previous
-    ensures { λ r. ⌜ r ≡ cond (isStore decision) (Previous.Entry j) previous ⌝ }
+// What check 9 has to know about the relocations before: the offset of the one before; and of the previous non-marker
+// the offset, the end, and the width as a stack. What is not there counts as 0.
+pub struct Trail {
+    pub offset: u64,
+    pub start: u64,
+    pub end: u64,
+    pub width: u64,
+}
+
+// The trail before the first relocation.
+pub fn no_trail() -> Trail
+    ensures { λ r. ⌜ r ≡ noTrail ⌝ }
 {
+    Trail {
+        offset: 0,
+        start: 0,
+        end: 0,
+        width: 0,
+    }
+}
+
+// The trail with one more relocation.
+pub fn advance(trail: Trail, decision: Decision, here: Relocation) -> Trail
+    ensures { λ r. ⌜ r ≡ advanced trail decision here ⌝ }
+{
+    let offset = here.offset.0 as u64;
     if is_store(decision) {
-        return Previous::Entry(j);
+        return Trail {
+            offset,
+            start: offset,
+            end: offset + bytes_touched(decision) as u64,
+            width: stack_width(decision) as u64,
+        };
     }
-    previous
-}
-
-// Whether the offset is at least that of the relocation before.
-fn never_falls(object: &[u8], site: Site, j: usize) -> bool
-    requires { ⌜ There (now object) site j ⌝ }
-    ensures { λ r. ⌜ r ≡ neverFalls (now (object .entry)) site j ⌝ }
-{
-    if j == 0 {
-        return true;
-    }
-    let before = elf_read::read_relocation(object, site.rela, j - 1);
-    let here = elf_read::read_relocation(object, site.rela, j);
-    before.offset.0 <= here.offset.0
-}
-
-// Whether relocation j starts at or after the end of the previous non-marker, or shares its place.
-fn is_clear(object: &[u8], site: Site, previous: Previous, j: usize) -> bool
-    requires { ⌜ There (now object) site j × (previous ≡ «the-previous» (now object) site j) ⌝ }
-    ensures { λ r. ⌜ r ≡ clears (now (object .entry)) site j previous ⌝ }
-{
-    match previous {
-        Previous::Nothing => true,
-        Previous::Entry(k) => is_apart(object, site, k, j),
+    Trail {
+        offset,
+        start: trail.start,
+        end: trail.end,
+        width: trail.width,
     }
 }
 
-fn is_apart(object: &[u8], site: Site, k: usize, j: usize) -> bool
-    requires { ⌜ There (now object) site k × There (now object) site j ⌝ }
-    ensures { λ r. ⌜ r ≡ clears (now (object .entry)) site j (Previous.Entry k) ⌝ }
+// Whether a relocation and the previous non-marker are ADD, SUB or SET at one place with one width.
+pub fn shares_place(trail: Trail, decision: Decision, at: SectionOffset) -> bool
+    ensures { λ r. ⌜ r ≡ sharesBy trail decision (at .0) ⌝ }
 {
-    let earlier = elf_read::read_relocation(object, site.rela, k);
-    let later = elf_read::read_relocation(object, site.rela, j);
-    let first = decide(earlier.kind);
-    let second = decide(later.kind);
-    let width = stack_width(first);
-    let end = earlier.offset.0 as usize + bytes_touched(first);
-    (end <= later.offset.0 as usize)
-        | ((earlier.offset.0 == later.offset.0) & (0 < width) & (width == stack_width(second)))
+    let width = stack_width(decision) as u64;
+    (trail.start == at.0 as u64) & (0 < trail.width) & (trail.width == width)
 }
 
 // The addend rules, at an offset in a section of some size.
@@ -92,17 +92,17 @@ fn is_padding(at: SectionOffset, size: u32, addend: u64) -> bool
 }
 
 // Check 9.
-pub fn is_shape_well(object: &[u8], site: Site, previous: Previous, j: usize) -> bool
-    requires { ⌜ There (now object) site j × (previous ≡ «the-previous» (now object) site j) ⌝ }
-    ensures { λ r. ⌜ r ≡ shapeWell (now (object .entry)) site j ⌝ }
+pub fn is_shape_well(trail: Trail, decision: Decision, here: Relocation, size: u32) -> bool
+    ensures { λ r. ⌜ r ≡ shapeBy trail decision here size ⌝ }
 {
-    let here = elf_read::read_relocation(object, site.rela, j);
-    let decision = decide(here.kind);
-    let inside = here.offset.0 as usize + bytes_touched(decision) <= site.target.size as usize;
-    let clear = !is_store(decision) | is_clear(object, site, previous, j);
+    let offset = here.offset.0 as u64;
+    let rises = trail.offset <= offset;
+    let inside = offset + bytes_touched(decision) as u64 <= size as u64;
+    let shares = shares_place(trail, decision, here.offset);
+    let clear = !is_store(decision) | (trail.end <= offset) | shares;
     !is_refused(decision)
-        & never_falls(object, site, j)
+        & rises
         & inside
         & clear
-        & is_addend_allowed(decision, here.offset, site.target.size, here.addend)
+        & is_addend_allowed(decision, here.offset, size, here.addend)
 }

@@ -31,7 +31,7 @@ pub record Check : Type 0 where
   pub broken : Finding
   pub kept : Bool
 
-abbrev check : Finding → Bool → Check
+abbrev pub check : Finding → Bool → Check
 check f b = record { broken = f; kept = b }
 
 -- the first check of a list that is broken, if one is

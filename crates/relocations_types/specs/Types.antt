@@ -43,6 +43,10 @@ jump f form n = of Distance PcRelative f form n
 abbrev pub pairing : Decision
 pairing = Store (record { calculation = Of High PcRelative; field = U; form = Auipc; size = 4; role = HighOfPair })
 
+-- its type
+abbrev pub pairingType : ℕ
+pairingType = 23
+
 -- ADD, SUB or SET, on n bytes of data
 abbrev pub stacking : Calculation → Width → ℕ → Decision
 stacking c width n = Store (record { calculation = c; field = Data width; form = Any; size = n; role = Plain })
@@ -65,7 +69,7 @@ table =
     -- CALL, CALL_PLT
     ∷ line (18 ∷ 19 ∷ []) (of BothHalves PcRelative Call CallPair 8)
     -- PCREL_HI20, HI20
-    ∷ line (23 ∷ []) pairing
+    ∷ line (pairingType ∷ []) pairing
     ∷ line (26 ∷ []) (of High Absolute U Lui 4)
     -- LO12_I, LO12_S
     ∷ line (27 ∷ []) (of Low Absolute I LowI 4)

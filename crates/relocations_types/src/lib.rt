@@ -1,6 +1,7 @@
 // The decision from a relocation's type number to its calculation, field and width, or a refusal.
 ghost use mathlib.Core.Path.{_≡_};
-ghost use Rattle.relocations_types.specs.Types.{of as «of-operand», word as «the-word», jump as «the-jump», pairing as «the-pairing», stacking as «the-stacking», decision};
+ghost use lib.Dec.{eqb};
+ghost use Rattle.relocations_types.specs.Types.{of as «of-operand», word as «the-word», jump as «the-jump», pairing as «the-pairing», stacking as «the-stacking», pairingType, decision};
 use instructions_fields::Field;
 use instructions_fields::Width;
 use instructions_riscv::forms::Form;
@@ -44,12 +45,13 @@ pub enum Role {
 }
 
 // What a type that stores bytes asks for: a calculation, the field that its result goes into, the form that the
-// instruction there must have, how many bytes are touched, and its role.
+// instruction there must have, how many bytes are touched, and its role. It has no padding, which would be copied
+// with it.
 pub struct Rule {
     pub calculation: Calculation,
     pub field: Field,
     pub form: Form,
-    pub size: usize,
+    pub size: u8,
     pub role: Role,
 }
 
@@ -64,7 +66,7 @@ pub enum Decision {
 }
 
 // A part of an operand.
-fn of(part: Part, operand: Operand, field: Field, form: Form, size: usize) -> Decision
+fn of(part: Part, operand: Operand, field: Field, form: Form, size: u8) -> Decision
     ensures { λ r. ⌜ r ≡ «of-operand» part operand field form size ⌝ }
 {
     Decision::Store(Rule {
@@ -84,7 +86,7 @@ fn word(operand: Operand) -> Decision
 }
 
 // A distance.
-fn jump(field: Field, form: Form, size: usize) -> Decision
+fn jump(field: Field, form: Form, size: u8) -> Decision
     ensures { λ r. ⌜ r ≡ «the-jump» field form size ⌝ }
 {
     of(Part::Distance, Operand::PcRelative, field, form, size)
@@ -104,7 +106,7 @@ fn pairing() -> Decision
 }
 
 // ADD, SUB or SET on data.
-fn stacking(calculation: Calculation, width: Width, size: usize) -> Decision
+fn stacking(calculation: Calculation, width: Width, size: u8) -> Decision
     ensures { λ r. ⌜ r ≡ «the-stacking» calculation width size ⌝ }
 {
     Decision::Store(Rule {
@@ -114,6 +116,16 @@ fn stacking(calculation: Calculation, width: Width, size: usize) -> Decision
         size,
         role: Role::Plain,
     })
+}
+
+// The type of the high half that a PCREL_LO12 pairs with.
+pub const PCREL_HI20: u8 = 23;
+
+// Whether a type is that of the high half that a PCREL_LO12 pairs with.
+pub fn is_pairing(number: u8) -> bool
+    ensures { λ r. ⌜ r ≡ eqb number pairingType ⌝ }
+{
+    number == PCREL_HI20
 }
 
 pub fn decide(number: u8) -> Decision

@@ -1,5 +1,7 @@
 // What a relocation is calculated from: T and P, and the paired high half of a PCREL_LO12.
+pub mod highs;
 pub mod pairs;
+mod sorting;
 
 ghost use mathlib.Core.Path.{_≡_};
 ghost use Rattle.numbers_definitions.specs.Whole.{signed, plus};

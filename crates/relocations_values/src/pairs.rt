@@ -1,13 +1,15 @@
 // Check 12: the paired high half of a PCREL_LO12.
 ghost use mathlib.Core.Path.{_≡_};
-ghost use mathlib.Core.Bool.{cond};
-ghost use Rattle.relocations_values.specs.Pairs.{isPair, pairOf};
-ghost use Rattle.relocations_rela.specs.Requires.{SoundSite, There};
-use elf_read::RELOCATION_SIZE;
+ghost use mathlib.Core.Bool.{_&&_};
+ghost use lib.Dec.{ltb, eqb};
+ghost use Rattle.relocations_values.specs.Pairs.{pairOf};
+ghost use Rattle.relocations_values.specs.Highs.{Listed};
+ghost use Rattle.relocations_values.specs.Sorting.{keys, NotBelow};
+ghost use Rattle.relocations_rela.specs.Requires.{SoundSite};
+use super::sorting::number_at;
+use super::sorting::offset_at;
 use numbers_definitions::SectionOffset;
-use relocations_decisions::gives_pair;
 use relocations_rela::sites::Site;
-use relocations_types::decide;
 
 // The one PCREL_HI20 at an offset, or `NotOne` if there is not exactly one.
 pub enum Pair {
@@ -15,41 +17,65 @@ pub enum Pair {
     NotOne,
 }
 
-// Whether relocation k is a PCREL_HI20 at an offset.
-fn is_pair(object: &[u8], site: Site, offset: SectionOffset, k: usize) -> bool
-    requires { ⌜ There (now object) site k ⌝ }
-    ensures { λ r. ⌜ r ≡ isPair (now (object .entry)) site offset k ⌝ }
+// The first of the m listed high halves whose offset is not below the given one, by halving.
+fn first_not_below(
+    object: &[u8],
+    site: Site,
+    highs: &[u32],
+    m: usize,
+    offset: SectionOffset,
+) -> usize
+    requires { ⌜ SoundSite (now object) site × Listed (now object) site (now highs) m ⌝ }
+    ensures { λ r. ⌜ NotBelow (keys (now (object .entry)) site (now (highs .entry))) m (offset .0) r ⌝ }
 {
-    let r = elf_read::read_relocation(object, site.rela, k);
-    gives_pair(decide(r.kind)) & (r.offset.0 == offset.0)
+    let mut low: usize = 0;
+    let mut high: usize = m;
+    while low < high {
+        let middle = low + (high - low) / 2;
+        let here = offset_at(object, site, highs, middle);
+        if here.0 < offset.0 {
+            low = middle + 1;
+        } else {
+            high = middle;
+        }
+    }
+    low
 }
 
-// k if it is chosen, otherwise the one before.
-fn chosen(is: bool, k: usize, before: usize) -> usize
-    ensures { λ r. ⌜ r ≡ cond is k before ⌝ }
+// Whether place i is one of the m places, and the high half there is at an offset.
+fn is_at(
+    object: &[u8],
+    site: Site,
+    highs: &[u32],
+    m: usize,
+    i: usize,
+    offset: SectionOffset,
+) -> bool
+    requires { ⌜ SoundSite (now object) site × Listed (now object) site (now highs) m ⌝ }
+    ensures { λ r. ⌜ r ≡ (ltb i m && eqb (keys (now (object .entry)) site (now (highs .entry)) i) (offset .0)) ⌝ }
 {
-    if is { k } else { before }
+    if m <= i {
+        return false;
+    }
+    let here = offset_at(object, site, highs, i);
+    here.0 == offset.0
 }
 
-// The PCREL_HI20 of a site at an offset.
-pub fn hi20_pair(object: &[u8], site: Site, offset: SectionOffset) -> Pair
-    requires { ⌜ SoundSite (now object) site ⌝ }
+// The one high half at an offset, or `NotOne` if there is not exactly one.
+pub fn pair_at(object: &[u8], site: Site, highs: &[u32], m: usize, offset: SectionOffset) -> Pair
+    requires { ⌜ SoundSite (now object) site × Listed (now object) site (now highs) m ⌝ }
     ensures { λ r. ⌜ r ≡ pairOf (now (object .entry)) site offset ⌝ }
 {
-    let n = (site.rela.size / RELOCATION_SIZE) as usize;
-    let mut at = n;
-    let mut k: usize = 0;
-    'search: while k < n {
-        let here = is_pair(object, site, offset, k);
-        if here & (at < n) {
-            at = n;
+    let first = first_not_below(object, site, highs, m, offset);
+    let mut n: usize = 0;
+    'search: while is_at(object, site, highs, m, first + n, offset) {
+        n += 1;
+        if n == 2 {
             break 'search;
         }
-        at = chosen(here, k, at);
-        k += 1;
     }
-    if at < n {
-        return Pair::At(at);
+    if n == 1 {
+        return Pair::At(number_at(highs, first));
     }
     Pair::NotOne
 }

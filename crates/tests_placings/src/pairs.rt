@@ -5,6 +5,7 @@ ghost use Prim.Native.Nat.{_≤_};
 ghost use Rattle.elf_check.specs.Requires.{SoundObject};
 ghost use Rattle.order_format.specs.Orders.{reading};
 ghost use Rattle.order_format.specs.Windows.{maxImage};
+ghost use Rattle.placing_symbols.specs.Arrays.{ValueArrays};
 use elf_check::MAX_SYMBOLS;
 use elf_check::ObjectCheck;
 use numbers_definitions::Address;
@@ -61,7 +62,7 @@ fn externals(object: &[u8], order: &[u8], counts: OrderHeader, len: usize)
 fn placing(object: &[u8], order: &[u8], counts: OrderHeader, len: usize)
     requires { ⌜ SoundObject (now object) × (reading (now order) ≡ Reading.WellFormed counts) × (len ≤ maxImage) ⌝ }
 {
-    let given = order_lookup::address_array(order, counts);
+    let given = order_lookup::fill_addresses([0u32; 32], order, counts);
     let placed = placing_check::check_placing(object, given, counts.base, len);
     let fault = placed.fault;
     let array = placed.addresses;
@@ -74,9 +75,21 @@ fn placing(object: &[u8], order: &[u8], counts: OrderHeader, len: usize)
 fn passed(object: &[u8], order: &[u8], counts: OrderHeader, array: Addresses)
     requires { ⌜ SoundObject (now object) × (reading (now order) ≡ Reading.WellFormed counts) ⌝ }
 {
+    let symbols = placing_symbols::symbols_of(object);
+    let mut numbers = [0u64; MAX_SYMBOLS];
+    let mut states = [0u8; MAX_SYMBOLS];
+    let known = placing_symbols::symbol_values(
+        object,
+        order,
+        counts,
+        symbols,
+        array,
+        &mut numbers,
+        &mut states,
+    );
     tests_harness::answer(0, 0);
-    addresses(array);
-    values(object, order, counts, array);
+    addresses(known);
+    values(&numbers, &states, symbols.count);
 }
 
 fn addresses(array: Addresses) {
@@ -87,24 +100,18 @@ fn addresses(array: Addresses) {
     }
 }
 
-// The value of each symbol, and of three numbers past the table. There are at most 1,024 symbols, so the `return` is
+// The value of each of n symbols, and of three numbers past the table. There are at most 1,024 symbols, so the `return` is
 // never taken.
-fn values(object: &[u8], order: &[u8], counts: OrderHeader, array: Addresses)
-    requires { ⌜ SoundObject (now object) × (reading (now order) ≡ Reading.WellFormed counts) ⌝ }
+fn values(numbers: &[u64], states: &[u8], n: usize)
+    requires { ⌜ ValueArrays (now numbers) (now states) ⌝ }
 {
-    let symbols = placing_symbols::symbols_of(object);
-    let n = symbols.count;
     if MAX_SYMBOLS < n {
         return;
     }
     let end = n as u32 + 3;
-    let mut known = array;
     let mut k: u32 = 0;
     while k < end {
-        let found = placing_symbols::symbol_value(object, order, counts, symbols, known, k);
-        let value = found.value;
-        print(value);
-        known = found.addresses;
+        print(placing_symbols::value_at(numbers, states, k));
         k += 1;
     }
 }

@@ -36,7 +36,7 @@ fn well_formed(s: &[u8], counts: OrderHeader)
     tests_harness::then(counts.externals as u64);
     tests_harness::then(entries(s, 12, placements));
     tests_harness::then(entries(s, start, counts.externals));
-    tests_harness::then(addresses(order_lookup::address_array(s, counts)));
+    tests_harness::then(addresses(order_lookup::fill_addresses([0u32; 32], s, counts)));
     tests_harness::then(low_values(s, counts));
     tests_harness::then(near_values(s, counts, 12, placements));
     tests_harness::then(near_values(s, counts, start, counts.externals));

@@ -6,49 +6,74 @@ ghost use Prim.Native.Nat.{_<_};
 ghost use lib.ListN.{length};
 ghost use Rattle.elf_read.specs.Headers.{sectionCount};
 ghost use Rattle.elf_read.specs.Sections.{sectionAt, loaded};
-ghost use Rattle.elf_check.specs.Requires.{SoundObject};
 ghost use Rattle.order_format.specs.Orders.{reading};
-ghost use Rattle.relocations_rules.specs.Search.{relocationCheck};
-ghost use Rattle.relocations_rela.specs.Requires.{Placed};
-ghost use Rattle.plan_pieces.specs.Plans.{plan};
-ghost use Rattle.calls_judgement.specs.Judgement.{planOf, judgement};
+ghost use Rattle.tests_relocations.specs.Requires.{Layable};
 use super::lines;
+use calls_judge::Answer;
+use elf_check::MAX_RELOCATIONS;
 use order_format::OrderHeader;
 use order_format::Reading;
 use order_lookup::Addresses;
-use relocations_rules::RelocationCheck;
 
 pub fn line(object: &[u8], order: &[u8], len: usize) {
-    let answer = calls_judge::judge(object, order, len);
-    let code = calls_judge::code_of(answer);
-    tests_harness::answer(code % 4294967296, code / 4294967296);
-    if calls_judge::is_done(answer) {
-        passed(object, order, len);
+    match order_format::read_order(order) {
+        Reading::Malformed => write(Answer::OrderMalformed),
+        Reading::WellFormed(counts) => judged(object, order, counts, len),
     }
     tests_harness::end();
 }
 
-// The loaded sections, one after the other in the same room. Each finds there what those before it left.
-fn passed(object: &[u8], order: &[u8], len: usize)
-    requires { ⌜ judgement (now object) (now order) len ≡ plan (planOf (now object) (now order)) ⌝ }
+fn write(answer: Answer) {
+    let code = calls_judge::code_of(answer);
+    tests_harness::answer(code % 4294967296, code / 4294967296);
+}
+
+fn judged(object: &[u8], order: &[u8], counts: OrderHeader, len: usize)
+    requires { ⌜ reading (now order) ≡ Reading.WellFormed counts ⌝ }
 {
-    let mut room = [0u8; 65536];
-    match order_format::read_order(order) {
-        Reading::Malformed => {}
-        Reading::WellFormed(counts) => {
-            let array = order_lookup::address_array(order, counts);
-            sections(object, order, counts, array, &mut room);
-        }
+    let mut highs = [0u32; MAX_RELOCATIONS];
+    let mut words = [0u64; MAX_RELOCATIONS];
+    let mut sizes = [0u8; MAX_RELOCATIONS];
+    let judged = calls_judge::judge(
+        object,
+        order,
+        counts,
+        len,
+        [0u32; 32],
+        &mut highs,
+        &mut words,
+        &mut sizes,
+    );
+    let answer = judged.answer;
+    write(answer);
+    if calls_judge::is_done(answer) {
+        let array = judged.addresses;
+        passed(object, order, array, &words, &sizes);
     }
 }
 
-fn sections(object: &[u8], order: &[u8], counts: OrderHeader, array: Addresses, room: &mut [u8])
-    requires { ⌜ SoundObject (now object) × (reading (now order) ≡ Reading.WellFormed counts) × Placed (now object) array × (relocationCheck (now object) (now order) array ≡ RelocationCheck.Passed) × (length (now room) ≡ 65536) ⌝ }
+// The loaded sections, one after the other in the same room. Each finds there what those before it left.
+fn passed(object: &[u8], order: &[u8], array: Addresses, words: &[u64], sizes: &[u8])
+    requires { ⌜ Layable (now object) (now order) array (now words) (now sizes) ⌝ }
+{
+    let mut room = [0u8; 65536];
+    sections(object, order, array, words, sizes, &mut room);
+}
+
+fn sections(
+    object: &[u8],
+    order: &[u8],
+    array: Addresses,
+    words: &[u64],
+    sizes: &[u8],
+    room: &mut [u8],
+)
+    requires { ⌜ Layable (now object) (now order) array (now words) (now sizes) × (length (now room) ≡ 65536) ⌝ }
 {
     let n = elf_read::section_count(object);
     let mut t: usize = 0;
     while t < n {
-        section(object, order, counts, array, t, room);
+        section(object, order, array, words, sizes, t, room);
         t += 1;
     }
 }
@@ -57,20 +82,22 @@ fn sections(object: &[u8], order: &[u8], counts: OrderHeader, array: Addresses, 
 fn section(
     object: &[u8],
     order: &[u8],
-    counts: OrderHeader,
     array: Addresses,
+    words: &[u64],
+    sizes: &[u8],
     t: usize,
     room: &mut [u8],
 )
-    requires { ⌜ SoundObject (now object) × (reading (now order) ≡ Reading.WellFormed counts) × Placed (now object) array × (relocationCheck (now object) (now order) array ≡ RelocationCheck.Passed) × (t < sectionCount (now object)) × (length (now room) ≡ 65536) ⌝ }
+    requires { ⌜ Layable (now object) (now order) array (now words) (now sizes) × (t < sectionCount (now object)) × (length (now room) ≡ 65536) ⌝ }
 {
     let h = elf_read::read_section(object, t);
     if elf_read::is_loaded(h) & (0 < h.size) {
         lay(
             object,
             order,
-            counts,
             array,
+            words,
+            sizes,
             t,
             &mut room[0..h.size as usize],
         );
@@ -80,13 +107,14 @@ fn section(
 fn lay(
     object: &[u8],
     order: &[u8],
-    counts: OrderHeader,
     array: Addresses,
+    words: &[u64],
+    sizes: &[u8],
     t: usize,
     part: &mut [u8],
 )
-    requires { ⌜ SoundObject (now object) × (reading (now order) ≡ Reading.WellFormed counts) × Placed (now object) array × (relocationCheck (now object) (now order) array ≡ RelocationCheck.Passed) × (t < sectionCount (now object)) × (loaded (sectionAt (now object) t) ≡ true) × (length (now part) ≡ sectionAt (now object) t .size) ⌝ }
+    requires { ⌜ Layable (now object) (now order) array (now words) (now sizes) × (t < sectionCount (now object)) × (loaded (sectionAt (now object) t) ≡ true) × (length (now part) ≡ sectionAt (now object) t .size) ⌝ }
 {
-    relocations_apply::lay_section(object, order, counts, array, t, part);
+    relocations_apply::lay_section(object, order, array, words, sizes, t, part);
     lines::section(t, part);
 }

@@ -52,13 +52,12 @@ plan-is c = gives-plan (S c) (O c) (Len c) (c .args .counts) (c .pre .0)
 -- ---- where the span has been taken
 
 abbrev st : tie.After-span-of → tie.Start
-st c = c .before .before .before .before .before .before
+st c = c .before .before .before .before .before .before .before
 
 span-taken : (c : tie.After-span-of) → c .span-of .result ≡ spanOfPieces (pieces (st c))
 span-taken c =
-    let a : tie.After-address-array = search in
     let s = st c in
-    c .span-of .ensures ∙ ap (λ l. spanOf (S s) l (s .args .counts .base .0)) (a .address-array .ensures) ∙ ap (spanOf (S s) (addresses (O s))) (base-is s) ∙ span-is (S s) (O s) (s .args .counts) (Len s) (s .pre .0)
+    c .span-of .ensures ∙ ap (λ l. spanOf (S s) l (s .args .counts .base .0)) (s .pre .1 .addresses-are) ∙ ap (spanOf (S s) (addresses (O s))) (base-is s) ∙ span-is (S s) (O s) (s .args .counts) (Len s) (s .pre .0)
 
 -- ---- where the room has been asked for
 
@@ -82,29 +81,25 @@ asked c = c .before
 room : (c : tie.Else1) → lacks (st (taken (asked c))) ≡ false
 room c = not-true _ (sym (room-asked (asked c)) ∙ not-false _ (c .if1 .left))
 
-address-array-requires : tie.Need-address-array-requires
-address-array-requires c κs = let s : tie.Start = search in s .pre .0 .placeable .named .readable .reading-is
-
 span-of-requires : tie.Need-span-of-requires
 span-of-requires c κs =
-    let a : tie.After-address-array = search in
     let s : tie.Start = search in
-    (is-sound _ _ _ _ (s .pre .0), subst (λ l. highest (S s) l (s .args .counts .base .0) (sectionCount (S s)) < 4294967296) (sym (a .address-array .ensures)) (low s))
+    (is-sound _ _ _ _ (s .pre .0), subst (λ l. highest (S s) l (s .args .counts .base .0) (sectionCount (S s)) < 4294967296) (sym (s .pre .1 .addresses-are)) (low s))
 
 returns : tie.Need-returns
 returns c =
     let r : tie.After-has-room = search in
     let s = st (taken r) in
-    full judgement (S s) (O s) (files s) (s .pre .1) (pieces s) (plan-is s) (not-false _ (sym (room-asked r) ∙ not-true _ (c .if1 .taken)))
+    full judgement (S s) (O s) (files s) (s .pre .2) (pieces s) (plan-is s) (not-false _ (sym (room-asked r) ∙ not-true _ (c .if1 .taken)))
 
 save-requires : tie.Need-save-requires
 save-requires c κs =
     let e : tie.Else1 = search in
     let s = st (taken (asked e)) in
-    subst (Savable (s .args .image .now) (s .args .journal .now)) (sym (span-taken (taken (asked e)))) (plan-savable (s .args .image .now) (s .args .journal .now) (pieces s) (s .pre .1) (length-fits (S s) (O s) (s .args .counts) (Len s) (s .pre .0)) (room e) (plan-inside (S s) (O s) (s .args .counts) (Len s) (s .pre .0)))
+    subst (Savable (s .args .image .now) (s .args .journal .now)) (sym (span-taken (taken (asked e)))) (plan-savable (s .args .image .now) (s .args .journal .now) (pieces s) (s .pre .2) (length-fits (S s) (O s) (s .args .counts) (Len s) (s .pre .0)) (room e) (plan-inside (S s) (O s) (s .args .counts) (Len s) (s .pre .0)))
 
 lay-requires : tie.Need-lay-requires
-lay-requires c κs = let s : tie.Start = search in s .pre .0
+lay-requires c κs = let s : tie.Start = search in (s .pre .0, s .pre .1 .addresses-are, s .pre .1 .worked)
 
 returns-2 : tie.Need-returns-2
 returns-2 c =
@@ -112,13 +107,12 @@ returns-2 c =
     let kept : tie.After-save = search in
     let e : tie.Else1 = search in
     let s = st (taken (asked e)) in
-    done-with judgement (S s) (O s) (files s) (s .pre .1) (pieces s) (plan-is s) (room e) _ (laid .lay .ensures) (kept .save .ensures ∙ ap (saved (s .args .image .now) (s .args .journal .now)) (span-taken (taken (asked e))))
+    done-with judgement (S s) (O s) (files s) (s .pre .2) (pieces s) (plan-is s) (room e) _ (laid .lay .ensures) (kept .save .ensures ∙ ap (saved (s .args .image .now) (s .args .journal .now)) (span-taken (taken (asked e))))
 
 pub fit-spec : {M : Type 1} → statement M
 fit-spec =
     tie.close
     (tie.spec
-    address-array-requires
     span-of-requires
     (λ c κs. search needs)
     (λ c. search needs)

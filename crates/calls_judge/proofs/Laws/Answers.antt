@@ -1,17 +1,20 @@
 -- Laws of answers: the verdict that an answer stands for.
-use mathlib.Core.Path.{_≡_, ap, _∙_}
+use mathlib.Core.Path.{_≡_, sym, ap, _∙_}
 use mathlib.Core.Bool.{true, false, cond}
 use mathlib.Core.List.{List}
 use Prim.Native.Nat.{ℕ}
-use Rattle.plan_pieces.specs.Answers.{says}
 use lib.Dec.{eqb}
+use Rattle.numbers_definitions.proofs.Laws.Tests.{never}
+use Rattle.plan_pieces.specs.Answers.{says}
 use Rattle.plan_pieces.specs.Plans.{refused, plan}
 use Rattle.relocations_rules.specs.declared.Finding.{Finding}
 use Rattle.relocations_rules.specs.Search.{number, isBroken}
-use Rattle.calls_judgement.specs.Judgement.{planOf}
+use Rattle.calls_judgement.specs.Judgement.{planOf, judgement}
 use Rattle.calls_judgement.proofs.Laws.Judgement.{some-number}
 use Rattle.calls_judge.specs.Answers.{answerOf, verdictOf}
+use Rattle.calls_judge.specs.Judged.{JudgedWell}
 use Rattle.calls_judge.specs.declared.Answer.{Answer}
+use Rattle.calls_judge.specs.declared.Judged.{Judged}
 
 -- the answer for a relocation stands for its refusal
 pub verdict-broken : (object order : List ℕ) (r : Answer) (f : Finding) (k : ℕ) → isBroken f ≡ true → answerOf r ≡ says (number f) k
@@ -24,3 +27,9 @@ verdict-refused object order r e = rw e
 
 pub verdict-done : (object order : List ℕ) (r : Answer) → eqb (answerOf r .number) 0 ≡ true → verdictOf object order r ≡ plan (planOf object order)
 verdict-done object order r e = rw e
+
+-- after a refusal nothing is laid
+pub refused-well : (object order : List ℕ) (len : ℕ) (judged : Judged) (words sizes : List ℕ) → eqb (answerOf (judged .answer) .number) 0 ≡ false
+    → judgement object order len ≡ refused (answerOf (judged .answer)) → JudgedWell object order len judged words sizes
+refused-well object order len judged words sizes some e =
+    record { verdict-is = verdict-refused object order (judged .answer) some ∙ sym e; ready = λ done. never (sym some ∙ done) }

@@ -1,5 +1,7 @@
 -- `calls_judge::judge_placing` meets its contract.
-use mathlib.Core.Path.{_≡_, sym, ap, _∙_}
+use mathlib.Core.Path.{_≡_, refl, sym, ap, _∙_}
+use mathlib.Core.List.{List}
+use Prim.Native.Nat.{ℕ}
 use borrow.Author.Tests.{leb-true}
 use Rattle.numbers_definitions.proofs.Laws.Tests.{and-left}
 use Rattle.order_format.specs.Orders.{base}
@@ -9,63 +11,74 @@ use Rattle.order_format.proofs.Laws.Sound.{reading-sound}
 use Rattle.elf_check.proofs.Laws.Objects.{sound-object}
 use Rattle.placing_check.specs.Placing.{placingCheck}
 use Rattle.calls_judgement.proofs.Laws.Judgement.{gives-8}
+use Rattle.calls_judge.proofs.Laws.Answers.{refused-well}
 use borrow.Author.Needs.{needs}
 use Rattle.calls_judge.proofs.judge_placing.Statement.{statement}
 use Rattle.calls_judge.proofs.judge_placing.Tie as tie
 
-address-array-requires : tie.Need-address-array-requires
-address-array-requires c κs =
-    let start : tie.Start = search in
-    start .pre .readable .reading-is
+-- ---- at the start
+
+abbrev S : tie.Start → List ℕ
+S c = c .args .object .now
+
+abbrev O : tie.Start → List ℕ
+O c = c .args .order .now
+
+-- ---- where check 8 has been made
+
+abbrev filled : tie.After-check-placing → tie.After-fill-addresses
+filled c = c .before
+
+abbrev st : tie.After-check-placing → tie.Start
+st c = filled c .before .before .before .before .before .before
+
+found : (c : tie.After-check-placing) → placingCheck (S (st c)) (addresses (O (st c))) (base (O (st c))) (st c .args .len) ≡ c .check-placing .result .fault
+found c =
+    let s = st c in
+    ap (λ b. placingCheck (S s) (addresses (O s)) b (s .args .len)) (sym (reading-sound (O s) (s .args .counts) (s .pre .0 .readable .reading-is) .base-is))
+    ∙ ap (λ l. placingCheck (S s) l (s .args .counts .base .0) (s .args .len)) (sym (filled c .fill-addresses .ensures))
+    ∙ sym (c .check-placing .ensures .0)
+
+-- ---- the needs
+
+fill-addresses-requires : tie.Need-fill-addresses-requires
+fill-addresses-requires c κs = let s : tie.Start = search in (s .pre .1, s .pre .0 .readable .reading-is)
 
 check-placing-requires : tie.Need-check-placing-requires
 unfolding windowAllowed lengthAllowed
 check-placing-requires c κs =
-    let start : tie.Start = search in
-    let a = start .args in
-    let f = start .pre .readable in
-    (sound-object (a .object .now) (f .object-is), leb-true _ _ (and-left (lengthAllowed (a .len)) _ (f .window)))
+    let s : tie.Start = search in
+    let f = s .pre .0 .readable in
+    (sound-object (S s) (f .object-is), leb-true _ _ (and-left (lengthAllowed (s .args .len)) _ (f .window)))
 
 judge-relocations-requires : tie.Need-judge-relocations-requires
 judge-relocations-requires c κs =
-    let after-check-placing : tie.After-check-placing = search in
-    let after-address-array : tie.After-address-array = search in
-    let start : tie.Start = search in
-    let a = start .args in
-    let s = a .object .now in
-    let o = a .order .now in
-    let f = start .pre in
-    let r = f .readable .reading-is in
-    let found : placingCheck s (addresses o) (base o) (a .len) ≡ after-check-placing .check-placing .result .fault =
-    ap (λ b. placingCheck s (addresses o) b (a .len)) (sym (reading-sound o (a .counts) r .base-is)) ∙ ap (λ l. placingCheck s l (a .counts .base .0) (a .len)) (sym (after-address-array .address-array .ensures)) ∙ sym (after-check-placing .check-placing .ensures .0) in
-    record { named = f; placing = found ∙ c .enum-told .given .1 }
+    let p : tie.After-check-placing = search in
+    let told : tie.After-enum-told = search in
+    let s = st p in
+    (record { named = s .pre .0; placing = found p ∙ told .enum-told .given .1 }, p .check-placing .ensures .1 ∙ filled p .fill-addresses .ensures, s .pre .2)
 
 returns : tie.Need-returns
-returns c = c .judge-relocations .ensures
+returns c = let j : tie.After-judge-relocations = search in j .judge-relocations .ensures
 
 returns-2 : tie.Need-returns-2
 returns-2 c =
-    let after-fault : tie.After-fault = search in
-    let after-check-placing : tie.After-check-placing = search in
-    let after-address-array : tie.After-address-array = search in
-    let start : tie.Start = search in
-    let a = start .args in
-    let s = a .object .now in
-    let o = a .order .now in
-    let f = start .pre in
-    let r = f .readable .reading-is in
-    let found : placingCheck s (addresses o) (base o) (a .len) ≡ after-check-placing .check-placing .result .fault =
-    ap (λ b. placingCheck s (addresses o) b (a .len)) (sym (reading-sound o (a .counts) r .base-is)) ∙ ap (λ l. placingCheck s l (a .counts .base .0) (a .len)) (sym (after-address-array .address-array .ensures)) ∙ sym (after-check-placing .check-placing .ensures .0) in
-    sym (gives-8 s o (a .len) (a .counts) _ f (found ∙ after-fault .fault .given .1))
+    let p : tie.After-check-placing = search in
+    let f : tie.After-fault = search in
+    let s = st p in
+    refused-well (S s) (O s) (s .args .len) _ _ _ refl (gives-8 (S s) (O s) (s .args .len) (s .args .counts) _ (s .pre .0) (found p ∙ f .fault .given .1))
 
 pub judge-placing-spec : {M : Type 1} → statement M
 judge-placing-spec =
     tie.close
     (tie.spec
-    address-array-requires
+    fill-addresses-requires
     check-placing-requires
     (λ c. search needs)
     judge-relocations-requires
+    (λ c. search needs)
+    (λ c. search needs)
+    (λ c. search needs)
     (λ c. search needs)
     returns
     returns-2)

@@ -1,82 +1,118 @@
 -- `calls_judge::judge_relocations` meets its contract.
-use mathlib.Core.Path.{_≡_, sym, ap, _∙_, subst}
+use mathlib.Core.Path.{_≡_, refl, sym, ap, _∙_, subst}
+use mathlib.Core.List.{List}
+use Prim.Native.Nat.{ℕ}
+use lib.Dec.{eqb}
 use Rattle.order_format.specs.Orders.{base}
 use Rattle.order_lookup.specs.Addresses.{addresses}
+use Rattle.elf_check.specs.Requires.{SoundObject}
 use Rattle.elf_check.proofs.Laws.Objects.{sound-object}
+use Rattle.plan_pieces.specs.Plans.{refused}
 use Rattle.relocations_rela.specs.Requires.{Placed}
 use Rattle.relocations_rules.specs.Search.{relocationCheck}
 use Rattle.relocations_rules.proofs.Laws.Sites.{placed}
-use Rattle.calls_judgement.proofs.Laws.Judgement.{broken-is, gives-9-to-14, gives-plan}
-use Rattle.calls_judge.proofs.Laws.Answers.{verdict-broken}
+use Rattle.calls_judgement.proofs.Laws.Judgement.{broken-is, gives-9-to-14, gives-plan, some-number}
+use Rattle.calls_judge.proofs.Laws.Answers.{refused-well}
 use borrow.Author.Needs.{needs}
 use Rattle.calls_judge.proofs.judge_relocations.Statement.{statement}
 use Rattle.calls_judge.proofs.judge_relocations.Tie as tie
 
-address-array-requires : tie.Need-address-array-requires
-address-array-requires c κs =
-    let start : tie.Start = search in
-    start .pre .named .readable .reading-is
+-- ---- at the start
+
+abbrev S : tie.Start → List ℕ
+S c = c .args .object .now
+
+abbrev O : tie.Start → List ℕ
+O c = c .args .order .now
+
+is-sound : (c : tie.Start) → SoundObject (S c)
+is-sound c = sound-object (S c) (c .pre .0 .named .readable .object-is)
+
+placed-at : (c : tie.Start) → Placed (S c) (addresses (O c))
+placed-at c = placed (S c) (addresses (O c)) (base (O c)) (c .args .len) (c .pre .0 .placing)
+
+-- ---- where the values have been worked out
+
+abbrev st : tie.After-symbol-values → tie.Start
+st c = c .before .before .before .before .before .before .before .before .before
+
+placed-is : (c : tie.After-symbol-values) → c .symbol-values .result ≡ addresses (O (st c))
+placed-is c = c .symbol-values .ensures .0 ∙ st c .pre .1
+
+symbols-of-requires : tie.Need-symbols-of-requires
+symbols-of-requires c κs = let s : tie.Start = search in is-sound s
+
+symbol-values-requires : tie.Need-symbol-values-requires
+symbol-values-requires c κs =
+    let s : tie.Start = search in
+    let k : tie.After-symbols-of = search in
+    (is-sound s, s .pre .0 .named .readable .reading-is, k .symbols-of .ensures, refl, refl)
 
 check-relocations-requires : tie.Need-check-relocations-requires
 check-relocations-requires c κs =
-    let start : tie.Start = search in
-    let a = start .args in
-    let s = a .object .now in
-    let o = a .order .now in
-    let f = start .pre in
-    (sound-object s (f .named .readable .object-is), f .named .readable .reading-is, subst (Placed s) (sym (c .address-array .ensures)) (placed s (addresses o) (base o) (a .len) (f .placing)))
+    let s : tie.Start = search in
+    let k : tie.After-symbols-of = search in
+    let v : tie.After-symbol-values = search in
+    let l = s .pre .2 in
+    (is-sound s, k .symbols-of .ensures, subst (Placed (S s)) (sym (placed-is v)) (placed-at s), rw (v .symbol-values .ensures .0) (v .symbol-values .ensures .1), l .highs-length, l .words-length, l .sizes-length)
+
+-- ---- where the relocations have been looked at
+
+abbrev valued : tie.After-check-relocations → tie.After-symbol-values
+valued c = c .before .before .before .before .before .before .before .before
+
+found : (c : tie.After-check-relocations) → relocationCheck (S (st (valued c))) (O (st (valued c))) (addresses (O (st (valued c)))) ≡ c .check-relocations .result
+found c =
+    let s = st (valued c) in
+    ap (relocationCheck (S s) (O s)) (sym (placed-is (valued c))) ∙ sym (c .check-relocations .ensures .0)
 
 refusal-requires : tie.Need-refusal-requires
 refusal-requires c κs =
-    let after-finding : tie.After-finding = search in
-    let after-check-relocations : tie.After-check-relocations = search in
-    let after-address-array : tie.After-address-array = search in
-    let start : tie.Start = search in
-    let a = start .args in
-    let s = a .object .now in
-    let o = a .order .now in
-    let f = start .pre in
-    let found : relocationCheck s o (addresses o) ≡ after-check-relocations .check-relocations .result =
-    ap (relocationCheck s o) (sym (after-address-array .address-array .ensures)) ∙ sym (after-check-relocations .check-relocations .ensures) in
-    broken-is s o (addresses o) _ _ (found ∙ after-finding .finding .given .1)
+    let r : tie.After-check-relocations = search in
+    let b : tie.After-finding = search in
+    let s = st (valued r) in
+    broken-is (S s) (O s) (addresses (O s)) _ _ (found r ∙ b .finding .given .1)
 
 returns : tie.Need-returns
 returns c =
-    let after-check-relocations : tie.After-check-relocations = search in
-    let after-address-array : tie.After-address-array = search in
-    let start : tie.Start = search in
-    let a = start .args in
-    let s = a .object .now in
-    let o = a .order .now in
-    let f = start .pre in
-    let found : relocationCheck s o (addresses o) ≡ after-check-relocations .check-relocations .result =
-    ap (relocationCheck s o) (sym (after-address-array .address-array .ensures)) ∙ sym (after-check-relocations .check-relocations .ensures) in
-    sym (gives-plan s o (a .len) (a .counts) (record { placeable = f; relocations = found ∙ c .enum-told .given .1 }))
+    let r : tie.After-check-relocations = search in
+    let s = st (valued r) in
+    let e = r .check-relocations .ensures in
+    record {
+      verdict-is = sym (gives-plan (S s) (O s) (s .args .len) (s .args .counts) (record { placeable = s .pre .0; relocations = found r ∙ c .enum-told .given .1 }));
+      ready = λ _. record { addresses-are = placed-is (valued r); worked = record { worded = e .1 (c .enum-told .given .1); words-length = e .3; sizes-length = e .4 } };
+    }
 
 returns-2 : tie.Need-returns-2
 returns-2 c =
-    let after-finding : tie.After-finding = search in
-    let after-check-relocations : tie.After-check-relocations = search in
-    let after-address-array : tie.After-address-array = search in
-    let start : tie.Start = search in
-    let a = start .args in
-    let s = a .object .now in
-    let o = a .order .now in
-    let f = start .pre in
-    let found : relocationCheck s o (addresses o) ≡ after-check-relocations .check-relocations .result =
-    ap (relocationCheck s o) (sym (after-address-array .address-array .ensures)) ∙ sym (after-check-relocations .check-relocations .ensures) in
-    let broken = found ∙ after-finding .finding .given .1 in
-    let told = after-finding .finding .given .0 in
-    verdict-broken s o (c .refusal .result) (told .0) (told .1 .0) (broken-is s o (addresses o) (told .0) (told .1 .0) broken) (c .refusal .ensures) ∙ sym (gives-9-to-14 s o (a .len) (a .counts) _ _ f broken)
+    let r : tie.After-check-relocations = search in
+    let b : tie.After-finding = search in
+    let s = st (valued r) in
+    let told = b .finding .given .0 in
+    let is = found r ∙ b .finding .given .1 in
+    let broken = broken-is (S s) (O s) (addresses (O s)) (told .0) (told .1 .0) is in
+    refused-well (S s) (O s) (s .args .len) _ _ _ (ap (λ a. eqb (a .number) 0) (c .refusal .ensures) ∙ some-number (told .0) broken)
+    (gives-9-to-14 (S s) (O s) (s .args .len) (s .args .counts) _ _ (s .pre .0) is ∙ ap refused (sym (c .refusal .ensures)))
 
 pub judge-relocations-spec : {M : Type 1} → statement M
 judge-relocations-spec =
     tie.close
     (tie.spec
-    address-array-requires
+    symbols-of-requires
+    (λ c. search needs)
+    (λ c. search needs)
+    symbol-values-requires
+    (λ c. search needs)
+    (λ c. search needs)
     check-relocations-requires
     (λ c. search needs)
     (λ c. search needs)
     refusal-requires
+    (λ c. search needs)
+    (λ c. search needs)
+    (λ c. search needs)
     returns
+    (λ c. search needs)
+    (λ c. search needs)
+    (λ c. search needs)
     returns-2)

@@ -13,10 +13,10 @@ use Rattle.calls_lay.proofs.lay.Statement.{statement}
 use Rattle.calls_lay.proofs.lay.Tie as tie
 
 abbrev Inv-loop : tie.InvT-loop
-Inv-loop object order counts image₀ addresses n t₀ image t = (t ≤ n) × (length image ≡ length image₀) × (image ≡ laidBelow object order image₀ t)
+Inv-loop object order counts addresses words sizes image₀ n t₀ image t = (t ≤ n) × (length image ≡ length image₀) × (image ≡ laidBelow object order image₀ t)
 
 abbrev μ-loop : tie.MeasureT-loop
-μ-loop object order counts image₀ addresses n t₀ image t = n - t
+μ-loop object order counts addresses words sizes image₀ n t₀ image t = n - t
 
 -- ---- at the start
 
@@ -35,16 +35,13 @@ Image c = c .args .image .now
 -- ---- where the sections have been counted
 
 abbrev st : tie.After-section-count Inv-loop μ-loop → Start
-st c = c .before .before .before .before .before
+st c = c .before .before .before .before .before .before
 
 count-is : (c : tie.After-section-count Inv-loop μ-loop) → c .section-count .result ≡ sectionCount (S (st c))
 count-is c = c .section-count .ensures
 
-address-array-requires : tie.Need-address-array-requires Inv-loop μ-loop
-address-array-requires c κs = let s : Start = search in s .pre .placeable .named .readable .reading-is
-
 section-count-requires : tie.Need-section-count-requires Inv-loop μ-loop
-section-count-requires c κs = let s : Start = search in is-sound (S s) (O s) (s .args .counts) (length (Image s)) (s .pre) .table .header
+section-count-requires c κs = let s : Start = search in is-sound (S s) (O s) (s .args .counts) (length (Image s)) (s .pre .0) .table .header
 
 loop-holds : tie.Need-loop-holds Inv-loop μ-loop
 loop-holds c = let s : Start = search in (omega arith, refl, sym (laid-none (S s) (O s) (Image s)))
@@ -52,9 +49,8 @@ loop-holds c = let s : Start = search in (omega arith, refl, sym (laid-none (S s
 lay-one-requires : tie.Need-lay-one-requires Inv-loop μ-loop
 lay-one-requires c κs =
     let s : Start = search in
-    let a : tie.After-address-array Inv-loop μ-loop = search in
     let l : tie.At-loop Inv-loop μ-loop = search in
-    (subst (Fitting (S s) (O s) (s .args .counts)) (sym (l .loop .inv .1)) (s .pre), a .address-array .ensures, omega (arith, count-is (search)))
+    (subst (Fitting (S s) (O s) (s .args .counts)) (sym (l .loop .inv .1)) (s .pre .0), s .pre .1, s .pre .2, omega (arith, count-is (search)))
 
 loop-again : tie.Need-loop-again Inv-loop μ-loop
 loop-again c =
@@ -79,7 +75,6 @@ lay-spec =
     (tie.spec
     Inv-loop
     μ-loop
-    address-array-requires
     section-count-requires
     loop-holds
     lay-one-requires

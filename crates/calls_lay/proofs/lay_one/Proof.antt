@@ -58,12 +58,12 @@ some : (c : tie.Else1) → hasBytes (sectionAt (S (st (read c))) (T c)) ≡ true
 some c = has-bytes-is (read c) ∙ not-false _ (c .if1 .left)
 
 inside : (c : tie.Else1) → let s = st (read c) in (base (O s) ≤ getD (addresses (O s)) (T c) 0) × (getD (addresses (O s)) (T c) 0 - base (O s) + sectionAt (S s) (T c) .size ≤ Len s)
-inside c = let s = st (read c) in bytes-inside (S s) (O s) (s .args .counts) (Len s) (s .pre .0) (T c) (s .pre .2) (some c)
+inside c = let s = st (read c) in bytes-inside (S s) (O s) (s .args .counts) (Len s) (s .pre .0) (T c) (s .pre .3) (some c)
 
 read-section-requires : tie.Need-read-section-requires
 read-section-requires c κs =
     let s : tie.Start = search in
-    record { header = is-sound _ _ _ _ (s .pre .0) .table .header; inside = omega (arith, is-sound _ _ _ _ (s .pre .0) .table .inside, s .pre .2) }
+    record { header = is-sound _ _ _ _ (s .pre .0) .table .header; inside = omega (arith, is-sound _ _ _ _ (s .pre .0) .table .inside, s .pre .3) }
 
 returns : tie.Need-returns
 returns c =
@@ -72,10 +72,10 @@ returns c =
     sym (with-none (S s) (O s) (s .args .image .now) (s .args .t) (has-bytes-is r ∙ not-true _ (c .if1 .taken)))
 
 mul-at : tie.Need-mul-at
-mul-at c = let s : tie.Start = search in omega (arith, is-sound _ _ _ _ (s .pre .0) .table .few, s .pre .2)
+mul-at c = let s : tie.Start = search in omega (arith, is-sound _ _ _ _ (s .pre .0) .table .few, s .pre .3)
 
 array-read-at : tie.Need-array-read-at
-array-read-at c = let s : tie.Start = search in omega (arith, is-sound _ _ _ _ (s .pre .0) .table .few, s .pre .2)
+array-read-at c = let s : tie.Start = search in omega (arith, is-sound _ _ _ _ (s .pre .0) .table .few, s .pre .3)
 
 sub-at : tie.Need-sub-at
 sub-at c = let s : tie.Start = search in omega (arith, inside (search) .0, base-is s, address s)
@@ -89,7 +89,7 @@ lay-at-requires : tie.Need-lay-at-requires
 lay-at-requires c κs =
     let s : tie.Start = search in
     let f = s .pre in
-    (f .0, f .1, f .2, bytes-loaded (S s) (O s) (s .args .counts) (Len s) (f .0) (s .args .t) (some (search)), omega (arith, inside (search) .0, inside (search) .1, base-is s, address s))
+    (f .0, f .1, f .2, f .3, bytes-loaded (S s) (O s) (s .args .counts) (Len s) (f .0) (s .args .t) (some (search)), omega (arith, inside (search) .0, inside (search) .1, base-is s, address s))
 
 returns-2 : tie.Need-returns-2
 returns-2 c =

@@ -12,15 +12,6 @@ use borrow.Author.Needs.{needs}
 use Rattle.placing_symbols.proofs.value_in_section.Statement.{statement}
 use Rattle.placing_symbols.proofs.value_in_section.Tie as tie
 
-array-read-address : tie.Need-array-read-address
-array-read-address c =
-    let a = c .before .before .before .before .args in
-    let s = a .object .now in
-    let inside : isAllocated s (a .symbol .section) ≡ true = sym (c .before .is-allocated-section .ensures) ∙ c .if1 .taken in
-    let there = allocated-there s (a .symbol .section) inside in
-    let few = c .before .before .before .before .pre .0 .table .few in
-    omega arith
-
 returns : tie.Need-returns
 unfolding ofSection
 returns c =
@@ -59,9 +50,6 @@ value-in-section-spec =
     (tie.spec
     (λ c. search needs)
     (λ c κs. search needs)
-    (λ c. search needs)
-    (λ c. search needs)
-    array-read-address
     (λ c. search needs)
     (λ c κs. search needs)
     returns

@@ -120,7 +120,7 @@ same-end object x i j s p q = go (decisionAt object x i) refl (decisionAt object
 
 module _ (object : List ℕ) (x : Site) (n : ℕ) (kept : (j : ℕ) → j < n → shapeWell object x j ≡ true) where
   -- offsets never fall
-  rises : (i j : ℕ) → i ≤ j → j < n → offset object x i ≤ offset object x j
+  pub rises : (i j : ℕ) → i ≤ j → j < n → offset object x i ≤ offset object x j
   unfolding neverFalls
   rises i zero h l = let same : i ≡ 0 = omega arith in omega (arith, ap (offset object x) same)
   rises i (suc j) h l = go (decLt i (suc j)) (rises i j)

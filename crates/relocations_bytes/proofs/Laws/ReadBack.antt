@@ -67,7 +67,7 @@ radix (Data W16) = refl
 radix (Data W32) = refl
 radix (Data W64) = refl
 
-patched-lt : (w : ℕ) (c : Calculation) (f : Field) (b : ℕ) (x : ℤ) (p d n : ℕ) → n ≡ fieldBytes f → patched w c f b x p d < 256 ^ n
+pub patched-lt : (w : ℕ) (c : Calculation) (f : Field) (b : ℕ) (x : ℤ) (p d n : ℕ) → n ≡ fieldBytes f → patched w c f b x p d < 256 ^ n
 unfolding patched
 patched-lt w c f b x p d n e = rw (e, ← (radix f)) (put-lt (layout f) b _)
 

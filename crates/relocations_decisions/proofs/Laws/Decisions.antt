@@ -15,7 +15,7 @@ use Rattle.instructions_fields.specs.declared.Field.the-variants.{U, I, S, B, J
 use Rattle.relocations_types.specs.declared.Rule.{Rule}
 use Rattle.relocations_types.specs.declared.Decision.{Decision}
 use Rattle.relocations_types.specs.declared.Decision.the-variants.{Marker, Align, Store, Refused}
-use Rattle.relocations_types.specs.Types.{Line, pairing, table, among, lookup, decision}
+use Rattle.relocations_types.specs.Types.{Line, pairing, pairingType, table, among, lookup, decision}
 use Rattle.relocations_decisions.specs.Decisions.{touched, givesPair}
 use Rattle.relocations_decisions.specs.Widths.{onData}
 
@@ -129,3 +129,30 @@ OnlyPairing d = givesPair d ≡ true → d ≡ pairing
 pub pair-is : (t : ℕ) → givesPair (decision t) ≡ true → decision t ≡ pairing
 unfolding decision table
 pair-is t = each OnlyPairing table (never, (never, (never, (never, (never, (never, (never, (never, (never, ((λ e. refl), (never, (never, (never, (never, (never, (never, (never, (never, (never, (never, (never, (never, (never, (never, (never, (never, (never, (never, never)))))))))))))))))))))))))))) t
+
+-- a line that gives a pair has the type
+unfoldable givesAt : ℕ → List Line → Bool
+givesAt t [] = false
+givesAt t (l ∷ ls) = (givesPair (l .decisionAt) && among t (l .types)) || givesAt t ls
+
+gives-at : (t : ℕ) (ls : List Line) → givesPair (lookup t ls) ≡ true → givesAt t ls ≡ true
+unfolding givesAt lookup
+gives-at t [] e = never e
+gives-at t (l ∷ ls) e = go (among t (l .types)) (givesPair (l .decisionAt)) refl e (gives-at t ls)
+  where
+    go : (a g : Bool) → givesPair (l .decisionAt) ≡ g → givesPair (cond a (l .decisionAt) (lookup t ls)) ≡ true → (givesPair (lookup t ls) ≡ true → givesAt t ls ≡ true)
+        → ((g && a) || givesAt t ls) ≡ true
+    go true true p q rest = refl
+    go true false p q rest = never (sym p ∙ q)
+    go false true p q rest = rest q
+    go false false p q rest = rest q
+
+-- and the one type that gives a pair
+pub pair-type : (t : ℕ) → givesPair (decision t) ≡ eqb t pairingType
+unfolding decision table lookup among givesAt
+pair-type t = go (eqb t pairingType) refl (givesPair (decision t)) refl
+  where
+    go : (b : Bool) → eqb t pairingType ≡ b → (g : Bool) → givesPair (decision t) ≡ g → givesPair (decision t) ≡ b
+    go true e g q = rw (eqb-true t pairingType e)
+    go false e false q = q
+    go false e true q = never (rw e at (gives-at t table q))

@@ -55,21 +55,15 @@ module _ (p : ℕ → Bool) where
 
 -- ---- what the search gives
 
--- what is known about the first k relocations: if `at` is n, none is a pair; otherwise only `at` is
-pub record Searched (p : ℕ → Bool) (n at k : ℕ) : Type 0 where
-  pub fits : at ≤ n
-  pub none : n ≤ at → (i : ℕ) → i < k → p i ≡ false
-  pub here : at < n → p at ≡ true
-  pub before : at < n → at < k
-  pub alone : at < n → (i : ℕ) → i < k → (i ≡ at → ⊥) → p i ≡ false
-
 module _ (object : List ℕ) (x : Site) (value : SectionOffset) where
-  pub pair-found : (at : ℕ) → at < count x → Searched (isPair object x value) (count x) at (count x) → pairOf object x value ≡ At at
+  -- one relocation is a pair, and no other
+  pub pair-alone : (at : ℕ) → at < count x → isPair object x value at ≡ true → ((i : ℕ) → i < count x → (i ≡ at → ⊥) → isPair object x value i ≡ false)
+      → pairOf object x value ≡ At at
   unfolding pairOf
-  pair-found at l s =
-      let one : howMany (isPair object x value) (count x) ≡ 1 = one-holds _ (count x) at l (s .here l) (s .alone l) in
+  pair-alone at l here alone =
+      let one : howMany (isPair object x value) (count x) ≡ 1 = one-holds _ (count x) at l here alone in
       let is : first (isPair object x value) (count x) ≡ at =
-      first-is _ (count x) at (omega arith) (λ k m. s .alone l k (omega arith) (λ z. omega arith)) (λ _. s .here l) in
+      first-is _ (count x) at (omega arith) (λ k m. alone k (omega arith) (λ z. omega arith)) (λ _. here) in
       rw (one, is)
 
   pub pair-missing : ((i : ℕ) → i < count x → isPair object x value i ≡ false) → pairOf object x value ≡ NotOne
@@ -82,44 +76,6 @@ module _ (object : List ℕ) (x : Site) (value : SectionOffset) where
       let many : eqb (howMany (isPair object x value) (count x)) 1 ≡ false =
       ne-eqb (howMany (isPair object x value) (count x)) 1 (λ z. omega (arith, two-hold (isPair object x value) (count x) a b l m e f)) in
       rw many
-
--- one more relocation, if it is not a second pair
-pub searched-more : (p : ℕ → Bool) (n at k : ℕ) → k < n → Searched p n at k → (p k && ltb at n) ≡ false → Searched p n (cond (p k) k at) (k + 1)
-searched-more p n at k h s e = go (p k) refl e
-  where
-    go : (b : Bool) → p k ≡ b → (b && ltb at n) ≡ false → Searched p n (cond b k at) (k + 1)
-    go true q r =
-        let none : n ≤ at = ltb-false at n r in
-        record {
-          fits = omega arith;
-          none = λ l i m. absurd (omega arith);
-          here = λ _. q;
-          before = λ _. omega arith;
-          alone = λ _ i m z. s .none none i (lower i k m z);
-        }
-      where
-        lower : (i k : ℕ) → i < k + 1 → (i ≡ k → ⊥) → i < k
-        lower i k m z = omega arith
-    go false q r =
-        record {
-          fits = s .fits;
-          none = λ l i m. extended (λ i m. s .none l i m) i m;
-          here = s .here;
-          before = λ l. omega (arith, s .before l);
-          alone = λ l i m z. apart (s .alone l) i m z;
-        }
-      where
-        extended : ((i : ℕ) → i < k → p i ≡ false) → (i : ℕ) → i < k + 1 → p i ≡ false
-        extended below i m = below-more (λ i. p i ≡ false) k below q i m
-
-        apart : ((i : ℕ) → i < k → (i ≡ at → ⊥) → p i ≡ false) → (i : ℕ) → i < k + 1 → (i ≡ at → ⊥) → p i ≡ false
-        apart below i m z = choose (decLt i k)
-          where
-            choose : Dec (i < k) → p i ≡ false
-            choose (yes l) = below i l z
-            choose (no l) =
-                let same : i ≡ k = omega arith in
-                ap p same ∙ q
 
 -- a pair that was found is one of the relocations, and a PCREL_HI20 at the offset
 pub pair-there : (object : List ℕ) (x : Site) (value : SectionOffset) (k : ℕ) → pairOf object x value ≡ At k → (k < count x) × (isPair object x value k ≡ true)

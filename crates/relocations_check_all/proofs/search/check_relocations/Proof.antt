@@ -1,224 +1,204 @@
--- `relocations_check_all::search::check_relocations` meets its contract. The outer loop's invariant: `number` relocations are below section `i`, and none of them breaks a rule; the inner one's: nor does one of the next `j`. The measures are what is left.
+-- `relocations_check_all::search::check_relocations` meets its contract. The invariant: `number` relocations are below section `i`, none of them breaks a rule, and their words are stored. The measure is what is left.
 use mathlib.Core.Path.{_≡_, refl, sym, ap, _∙_, subst}
 use mathlib.Core.Bool.{true, false}
-use Prim.Native.Nat.{ℕ, _+_, _-_, _/_, _≤_, _<_}
+use Prim.Native.Nat.{ℕ, _+_, _-_, _≤_, _<_}
 use native.Mathlib.Numerals.{add-one}
 use native.Mathlib.Omega.{arith}
-use borrow.Author.Count.{below-more}
+use lib.ListN.{length}
 use borrow.Author.Tests.{not-true, not-false}
-use Rattle.numbers_definitions.specs.Sums.{sum}
 use Rattle.elf_read.specs.Headers.{sectionCount}
-use Rattle.elf_read.specs.Sections.{countingRela, relocationsIn, relocationsBelow}
-use Rattle.elf_read.specs.Entries.{relocationCount}
+use Rattle.elf_read.specs.Sections.{countingRela, relocationsIn}
+use Rattle.elf_check.specs.Rules.{maxRelocations}
 use Rattle.elf_check.proofs.Laws.Bounds.{relocations-few}
-use Rattle.relocations_rules.specs.declared.RelocationCheck.the-variants.{Passed, Broken}
-use Rattle.relocations_rela.specs.Sites.{siteAt}
-use Rattle.relocations_rela.specs.Shape.{previous as the-previous}
-use Rattle.relocations_rules.specs.Search.{finding, findingOf, isBroken}
+use Rattle.placing_symbols.proofs.Laws.Arrays.{listed-is}
+use Rattle.relocations_rela.specs.declared.sites.Site.{Site}
+use Rattle.relocations_rela.specs.Sites.{siteAt, count}
 use Rattle.relocations_rela.specs.Requires.{SoundSite}
 use Rattle.relocations_rela.proofs.Laws.Sites.{sound-site, count-is}
-use Rattle.relocations_rules.proofs.Laws.Search.{counted, finding-entry, check-broken, check-passed}
+use Rattle.relocations_rules.specs.declared.RelocationCheck.the-variants.{Passed, Broken}
+use Rattle.relocations_rules.specs.Rules.{isResolved}
+use Rattle.relocations_rules.proofs.Laws.Rules.{resolved-there}
+use Rattle.relocations_rules.proofs.Laws.Search.{counted}
+use Rattle.relocations_check_all.specs.Sites.{WordedBelow, SiteChecked}
+use Rattle.relocations_check_all.proofs.Laws.Search.{Below, below-start, below-skip, site-room, below-site, broken-there, below-broken, below-all, broken-passed}
 use borrow.Author.Needs.{needs}
 use Rattle.relocations_check_all.proofs.search.check_relocations.Statement.{statement}
 use Rattle.relocations_check_all.proofs.search.check_relocations.Tie as tie
 
-abbrev Inv-loop : tie.InvT-loop
-Inv-loop object order counts addresses symbols n result₀ number₀ i site count previous₀ j₀ result number previous j = (j ≤ count) × (number ≡ number₀ + j) × (previous ≡ the-previous object site j) × ((k : ℕ) → k < number → isBroken (findingOf object order addresses k) ≡ false) × (result ≡ Passed)
-
-abbrev μ-loop : tie.MeasureT-loop
-μ-loop object order counts addresses symbols n result₀ number₀ i site count previous₀ j₀ result number previous j = count - j
-
 abbrev Inv-search : tie.InvT-search
-Inv-search object order counts addresses symbols n result₀ number₀ i₀ result number i = (i ≤ n) × (number ≡ relocationsBelow object i) × ((k : ℕ) → k < number → isBroken (findingOf object order addresses k) ≡ false) × (result ≡ Passed)
+Inv-search object order symbols addresses values states highs₀ words₀ sizes₀ n result₀ number₀ i₀ highs words sizes result number i =
+    (i ≤ n)
+    × Below object order addresses i number words sizes
+    × (length highs ≡ length highs₀)
+    × (length words ≡ length words₀)
+    × (length sizes ≡ length sizes₀)
+    × (result ≡ Passed)
 
 abbrev μ-search : tie.MeasureT-search
-μ-search object order counts addresses symbols n result₀ number₀ i₀ result number i = n - i
+μ-search object order symbols addresses values states highs₀ words₀ sizes₀ n result₀ number₀ i₀ highs words sizes result number i = n - i
 
-search-holds : tie.Need-search-holds Inv-loop μ-loop Inv-search μ-search
-unfolding sum
-search-holds c = (omega arith, refl, λ k h. absurd (omega arith), refl)
+-- ---- the places on the way: an inserted line moves one of them
 
-search-again : tie.Need-search-again Inv-loop μ-loop Inv-search μ-search
-unfolding sum relocationsIn
+abbrev entered : tie.After-section-count Inv-search μ-search → tie.Start Inv-search μ-search
+entered c = c .before .before .before .before .before .before .before .before
+
+abbrev begun : tie.At-search Inv-search μ-search → tie.After-section-count Inv-search μ-search
+begun c = c .before
+
+abbrev head : tie.After-is-counting-rela Inv-search μ-search → tie.At-search Inv-search μ-search
+head c = c .before .before
+
+abbrev counted-at : tie.After-site-at Inv-search μ-search → tie.After-is-counting-rela Inv-search μ-search
+counted-at c = c .before .before
+
+-- ---- what they say
+
+here : (c : tie.After-is-counting-rela Inv-search μ-search) → head c .search .i < sectionCount (entered (begun (head c)) .args .object .now)
+here c = omega (arith, begun (head c) .section-count .ensures)
+
+abbrev site-of : tie.After-site-at Inv-search μ-search → Site
+site-of c = let at = entered (begun (head (counted-at c))) .args in siteAt (at .object .now) (at .addresses) (head (counted-at c) .search .i)
+
+counts : (c : tie.After-site-at Inv-search μ-search) → countingRela (entered (begun (head (counted-at c))) .args .object .now) (head (counted-at c) .search .i) ≡ true
+counts c = sym (counted-at c .is-counting-rela .ensures) ∙ not-false _ (c .before .if1 .left)
+
+site-is : (c : tie.After-site-at Inv-search μ-search) → c .site-at .result ≡ site-of c
+site-is c = c .site-at .ensures
+
+-- ---- the needs
+
+search-holds : tie.Need-search-holds Inv-search μ-search
+search-holds c = (omega arith, below-start _ _ _ _ _, refl, refl, refl, refl)
+
+search-again : tie.Need-search-again Inv-search μ-search
 search-again c =
-    let a = c .before .before .before .before .before .before .before .before .args in
-    let s = a .object .now in
-    let o = a .order .now in
-    let f = c .before .before .before .before .before .before .before .before .pre in
-    let at = c .before .before .before .search in
-    let count : c .before .before .before .before .section-count .result ≡ sectionCount s = c .before .before .before .before .section-count .ensures in
-    let out : countingRela s (at .i) ≡ false = sym (c .before .is-counting-rela .ensures) ∙ not-true _ (c .if1 .taken) in
-    let none : relocationsIn s (at .i) ≡ 0 = rw out in
-    let next : at .number ≡ relocationsBelow s (at .i + 1) = rw add-one (omega (arith, at .inv .1)) in
-    (omega arith, next, at .inv .2, at .inv .3)
+    let at = c .before in
+    let inv = head at .search .inv in
+    (omega arith, rw add-one (below-skip _ _ _ _ _ _ _ (inv .1) (sym (at .is-counting-rela .ensures) ∙ not-true _ (c .if1 .taken))), inv .2, inv .3, inv .4, inv .5)
 
-site-at-requires : tie.Need-site-at-requires Inv-loop μ-loop Inv-search μ-search
+site-at-requires : tie.Need-site-at-requires Inv-search μ-search
 site-at-requires c κs =
-    let a = c .before .before .before .before .before .before .before .before .args in
-    let s = a .object .now in
-    let o = a .order .now in
-    let f = c .before .before .before .before .before .before .before .before .pre in
-    let at = c .before .before .before .search in
-    let count : c .before .before .before .before .section-count .result ≡ sectionCount s = c .before .before .before .before .section-count .ensures in
-    let here : at .i < sectionCount s = omega arith in
-    (f .0, here, sym (c .before .is-counting-rela .ensures) ∙ not-false _ (c .if1 .left))
+    let at = c .before in
+    (entered (begun (head at)) .pre .0, here at, sym (at .is-counting-rela .ensures) ∙ not-false _ (c .if1 .left))
 
-loop-holds : tie.Need-loop-holds Inv-loop μ-loop Inv-search μ-search
-unfolding the-previous
-loop-holds c =
-    let at = c .before .before .before .before .before .search in
-    (omega arith, omega arith, refl, at .inv .2, at .inv .3)
+abbrev sited : tie.After-check-site-arg3 Inv-search μ-search → tie.After-site-at Inv-search μ-search
+sited c = c .before .before .before
 
-read-relocation-requires : tie.Need-read-relocation-requires Inv-loop μ-loop Inv-search μ-search
-read-relocation-requires c κs =
-    let a = c .before .before .before .before .before .before .before .before .before .before .before .before .args in
-    let s = a .object .now in
-    let o = a .order .now in
-    let f = c .before .before .before .before .before .before .before .before .before .before .before .before .pre in
-    let at = c .before .before .before .before .before .before .before .search in
-    let count : c .before .before .before .before .before .before .before .before .section-count .result ≡ sectionCount s = c .before .before .before .before .before .before .before .before .section-count .ensures in
-    let here : at .i < sectionCount s = omega arith in
-    let counting : countingRela s (at .i) ≡ true = sym (c .before .before .before .before .before .is-counting-rela .ensures) ∙ not-false _ (c .before .before .before .before .if1 .left) in
-    let site : c .before .before .before .site-at .result ≡ siteAt s (a .addresses) (at .i) = c .before .before .before .site-at .ensures in
-    let sound : SoundSite s (c .before .before .before .site-at .result) = subst (SoundSite s) (sym site) (sound-site s (a .addresses) (f .0) (at .i) here counting (f .2)) in
-    let many : c .before .before .before .site-at .result .rela .size / 12 ≡ relocationsIn s (at .i) = ap (λ x. x .rela .size / 12) site ∙ count-is s (a .addresses) (f .0) (at .i) here counting in
-    let turn = c .before .loop in
-    record { inside = omega (arith, sound .entries) }
+-- the relocations of the site have room in the lists
+room : (c : tie.After-site-at Inv-search μ-search) → head (counted-at c) .search .number + count (c .site-at .result) ≤ maxRelocations
+room c =
+    let at = head (counted-at c) in
+    let start = entered (begun at) in
+    omega (arith, at .search .inv .1 .number-is, ap count (site-is c), site-room (start .args .object .now) (start .args .order .now) (start .args .addresses) (start .pre .0) (at .search .i) (here (counted-at c)) (counts c))
 
-find-broken-requires : tie.Need-find-broken-requires Inv-loop μ-loop Inv-search μ-search
-find-broken-requires c κs =
-    let a = c .before .before .before .before .before .before .before .before .before .before .before .before .before .args in
-    let s = a .object .now in
-    let o = a .order .now in
-    let f = c .before .before .before .before .before .before .before .before .before .before .before .before .before .pre in
-    let at = c .before .before .before .before .before .before .before .before .search in
-    let count : c .before .before .before .before .before .before .before .before .before .section-count .result ≡ sectionCount s = c .before .before .before .before .before .before .before .before .before .section-count .ensures in
-    let here : at .i < sectionCount s = omega arith in
-    let counting : countingRela s (at .i) ≡ true = sym (c .before .before .before .before .before .before .is-counting-rela .ensures) ∙ not-false _ (c .before .before .before .before .before .if1 .left) in
-    let site : c .before .before .before .before .site-at .result ≡ siteAt s (a .addresses) (at .i) = c .before .before .before .before .site-at .ensures in
-    let sound : SoundSite s (c .before .before .before .before .site-at .result) = subst (SoundSite s) (sym site) (sound-site s (a .addresses) (f .0) (at .i) here counting (f .2)) in
-    let many : c .before .before .before .before .site-at .result .rela .size / 12 ≡ relocationsIn s (at .i) = ap (λ x. x .rela .size / 12) site ∙ count-is s (a .addresses) (f .0) (at .i) here counting in
-    let turn = c .before .before .loop in
-    (f .0, f .1, c .before .before .before .before .before .before .before .before .before .before .symbols-of .ensures, record { site = sound; there = omega arith }, turn .inv .2)
+check-site-requires : tie.Need-check-site-requires Inv-search μ-search
+check-site-requires c κs =
+    let at = sited c in
+    let now = head (counted-at at) in
+    let start = entered (begun now) in
+    let a = start .args in
+    let f = start .pre in
+    let inv = now .search .inv in (
+      record {
+        sound = f .0;
+        symbols-are = f .1;
+        arrays = f .3 .arrays;
+        tabled = λ k r some. resolved-there (a .object .now) (a .order .now) (a .addresses) k (ap isResolved (sym (listed-is (f .3) (f .0) k)) ∙ r) some;
+      },
+      subst (SoundSite (a .object .now)) (sym (site-is at)) (sound-site (a .object .now) (a .addresses) (f .0) (now .search .i) (here (counted-at at)) (counts at) (f .2)),
+      omega (arith, room at, inv .2, f .4),
+      omega (arith, inv .2, f .4),
+      omega (arith, room at, inv .3, f .5),
+      omega (arith, room at, inv .4, f .6),
+      omega (arith, inv .3, f .5),
+    )
 
-add-number : tie.Need-add-number Inv-loop μ-loop Inv-search μ-search
+abbrev site-checked : tie.After-check-site Inv-search μ-search → tie.After-site-at Inv-search μ-search
+site-checked c = sited (c .before)
+
+abbrev halted : tie.Then2 Inv-search μ-search → tie.After-check-site Inv-search μ-search
+halted c = c .before .before .before .before .before .before .before .before
+
+-- the number of the relocation that breaks a rule
+place : (c : tie.Then2 Inv-search μ-search) → head (counted-at (site-checked (halted c))) .search .number + halted c .check-site .result .at < maxRelocations
+place c =
+    let one = halted c in
+    let at = site-checked one in
+    let now = head (counted-at at) in
+    let start = entered (begun now) in
+    let a = start .args in
+    let f = start .pre in
+    omega (
+      arith,
+      relocations-few (a .object .now) (f .0),
+      broken-there (a .object .now) (a .order .now) (a .addresses) (f .0) (now .search .i) (here (counted-at at)) (counts at) _ _ _ _ _ (now .search .inv .1) _ _ _ (site-is at)
+          (one .check-site .ensures .0 (a .order .now) (a .addresses) (f .3)) (c .if2 .taken),
+    )
+
+add-t25 : tie.Need-add-t25 Inv-search μ-search
+add-t25 c = let at : tie.Then2 Inv-search μ-search = search in omega (arith, place at)
+
+cast-t26 : tie.Need-cast-t26 Inv-search μ-search
+cast-t26 c = let at : tie.Then2 Inv-search μ-search = search in omega (arith, place at)
+
+abbrev went-on : tie.Else2 Inv-search μ-search → tie.After-check-site Inv-search μ-search
+went-on c = c .before .before .before .before .before .before .before .before
+
+add-number : tie.Need-add-number Inv-search μ-search
 add-number c =
-    let a = c .before .before .before .before .before .before .before .before .before .before .before .before .before .before .before .before .before .before .args in
-    let s = a .object .now in
-    let o = a .order .now in
-    let f = c .before .before .before .before .before .before .before .before .before .before .before .before .before .before .before .before .before .before .pre in
-    let at = c .before .before .before .before .before .before .before .before .before .before .before .before .before .search in
-    let count : c .before .before .before .before .before .before .before .before .before .before .before .before .before .before .section-count .result ≡ sectionCount s = c .before .before .before .before .before .before .before .before .before .before .before .before .before .before .section-count .ensures in
-    let here : at .i < sectionCount s = omega arith in
-    let counting : countingRela s (at .i) ≡ true = sym (c .before .before .before .before .before .before .before .before .before .before .before .is-counting-rela .ensures) ∙ not-false _ (c .before .before .before .before .before .before .before .before .before .before .if1 .left) in
-    let site : c .before .before .before .before .before .before .before .before .before .site-at .result ≡ siteAt s (a .addresses) (at .i) = c .before .before .before .before .before .before .before .before .before .site-at .ensures in
-    let sound : SoundSite s (c .before .before .before .before .before .before .before .before .before .site-at .result) = subst (SoundSite s) (sym site) (sound-site s (a .addresses) (f .0) (at .i) here counting (f .2)) in
-    let many : c .before .before .before .before .before .before .before .before .before .site-at .result .rela .size / 12 ≡ relocationsIn s (at .i) = ap (λ x. x .rela .size / 12) site ∙ count-is s (a .addresses) (f .0) (at .i) here counting in
-    let turn = c .before .before .before .before .before .before .before .loop in
-    let low : at .number ≡ relocationsBelow s (at .i) = at .inv .1 in
-    omega (arith, turn .inv .1, counted s (at .i) (turn .j) here (omega arith), relocations-few s (f .0))
+    let on : tie.Else2 Inv-search μ-search = search in
+    omega (arith, room (site-checked (went-on on)), c .relocation-entries .ensures .0)
 
-add-j : tie.Need-add-j Inv-loop μ-loop Inv-search μ-search
-add-j c =
-    let a = c .before .before .before .before .before .before .before .before .before .before .before .before .before .before .before .before .before .before .args in
-    let s = a .object .now in
-    let o = a .order .now in
-    let f = c .before .before .before .before .before .before .before .before .before .before .before .before .before .before .before .before .before .before .pre in
-    let at = c .before .before .before .before .before .before .before .before .before .before .before .before .before .search in
-    let count : c .before .before .before .before .before .before .before .before .before .before .before .before .before .before .section-count .result ≡ sectionCount s = c .before .before .before .before .before .before .before .before .before .before .before .before .before .before .section-count .ensures in
-    let here : at .i < sectionCount s = omega arith in
-    let counting : countingRela s (at .i) ≡ true = sym (c .before .before .before .before .before .before .before .before .before .before .before .is-counting-rela .ensures) ∙ not-false _ (c .before .before .before .before .before .before .before .before .before .before .if1 .left) in
-    let site : c .before .before .before .before .before .before .before .before .before .site-at .result ≡ siteAt s (a .addresses) (at .i) = c .before .before .before .before .before .before .before .before .before .site-at .ensures in
-    let sound : SoundSite s (c .before .before .before .before .before .before .before .before .before .site-at .result) = subst (SoundSite s) (sym site) (sound-site s (a .addresses) (f .0) (at .i) here counting (f .2)) in
-    let many : c .before .before .before .before .before .before .before .before .before .site-at .result .rela .size / 12 ≡ relocationsIn s (at .i) = ap (λ x. x .rela .size / 12) site ∙ count-is s (a .addresses) (f .0) (at .i) here counting in
-    let turn = c .before .before .before .before .before .before .before .loop in
-    omega (arith, counted s (at .i) (turn .j) here (omega arith), relocations-few s (f .0))
-
-loop-again : tie.Need-loop-again Inv-loop μ-loop Inv-search μ-search
-unfolding the-previous
-loop-again c =
-    let a = c .before .before .before .before .before .before .before .before .before .before .before .before .before .before .before .before .before .before .args in
-    let s = a .object .now in
-    let o = a .order .now in
-    let f = c .before .before .before .before .before .before .before .before .before .before .before .before .before .before .before .before .before .before .pre in
-    let at = c .before .before .before .before .before .before .before .before .before .before .before .before .before .search in
-    let count : c .before .before .before .before .before .before .before .before .before .before .before .before .before .before .section-count .result ≡ sectionCount s = c .before .before .before .before .before .before .before .before .before .before .before .before .before .before .section-count .ensures in
-    let here : at .i < sectionCount s = omega arith in
-    let counting : countingRela s (at .i) ≡ true = sym (c .before .before .before .before .before .before .before .before .before .before .before .is-counting-rela .ensures) ∙ not-false _ (c .before .before .before .before .before .before .before .before .before .before .if1 .left) in
-    let site : c .before .before .before .before .before .before .before .before .before .site-at .result ≡ siteAt s (a .addresses) (at .i) = c .before .before .before .before .before .before .before .before .before .site-at .ensures in
-    let sound : SoundSite s (c .before .before .before .before .before .before .before .before .before .site-at .result) = subst (SoundSite s) (sym site) (sound-site s (a .addresses) (f .0) (at .i) here counting (f .2)) in
-    let many : c .before .before .before .before .before .before .before .before .before .site-at .result .rela .size / 12 ≡ relocationsIn s (at .i) = ap (λ x. x .rela .size / 12) site ∙ count-is s (a .addresses) (f .0) (at .i) here counting in
-    let turn = c .before .before .before .before .before .before .before .loop in
-    let low : at .number ≡ relocationsBelow s (at .i) = at .inv .1 in
-    let x = c .before .before .before .before .before .before .before .before .before .site-at .result in
-    let number : turn .number ≡ relocationsBelow s (at .i) + turn .j = omega (arith, turn .inv .1) in
-    let fine : isBroken (findingOf s o (a .addresses) (turn .number)) ≡ false =
-    ap (λ k. isBroken (findingOf s o (a .addresses) k)) number ∙ ap isBroken (finding-entry s (at .i) (turn .j) here (omega arith) o (a .addresses)) ∙ ap (λ x. isBroken (finding s o (a .addresses) x (turn .j))) (sym site) ∙ ap isBroken (sym (c .before .before .before .before .find-broken .ensures)) ∙ sym (c .before .before .before .is-broken .ensures) ∙ c .before .before .if2 .left in
-    let next : c .step .result ≡ the-previous s x (turn .j + 1) = rw (add-one, c .step .ensures, c .before .decide .ensures, c .before .before .before .before .before .read-relocation .ensures, turn .inv .2) in
-    (omega arith, omega (arith, turn .inv .1), next, below-more (λ k. isBroken (findingOf s o (a .addresses) k) ≡ false) _ (turn .inv .3) fine, turn .inv .4)
-
-search-again-2 : tie.Need-search-again-2 Inv-loop μ-loop Inv-search μ-search
-unfolding sum
+search-again-2 : tie.Need-search-again-2 Inv-search μ-search
 search-again-2 c =
-    let a = c .before .before .before .before .before .before .before .before .before .before .before .before .args in
-    let s = a .object .now in
-    let o = a .order .now in
-    let f = c .before .before .before .before .before .before .before .before .before .before .before .before .pre in
-    let at = c .before .before .before .before .before .before .before .search in
-    let count : c .before .before .before .before .before .before .before .before .section-count .result ≡ sectionCount s = c .before .before .before .before .before .before .before .before .section-count .ensures in
-    let here : at .i < sectionCount s = omega arith in
-    let counting : countingRela s (at .i) ≡ true = sym (c .before .before .before .before .before .is-counting-rela .ensures) ∙ not-false _ (c .before .before .before .before .if1 .left) in
-    let site : c .before .before .before .site-at .result ≡ siteAt s (a .addresses) (at .i) = c .before .before .before .site-at .ensures in
-    let sound : SoundSite s (c .before .before .before .site-at .result) = subst (SoundSite s) (sym site) (sound-site s (a .addresses) (f .0) (at .i) here counting (f .2)) in
-    let many : c .before .before .before .site-at .result .rela .size / 12 ≡ relocationsIn s (at .i) = ap (λ x. x .rela .size / 12) site ∙ count-is s (a .addresses) (f .0) (at .i) here counting in
-    let turn = c .before .loop in
-    let stop : turn .j ≡ relocationsIn s (at .i) = omega (arith, turn .inv .0) in
-    let next : turn .number ≡ relocationsBelow s (at .i + 1) = rw add-one (omega (arith, at .inv .1, turn .inv .1)) in
-    (omega arith, next, turn .inv .3, turn .inv .4)
+    let on : tie.Else2 Inv-search μ-search = search in
+    let one = went-on on in
+    let at = site-checked one in
+    let now = head (counted-at at) in
+    let start = entered (begun now) in
+    let a = start .args in
+    let f = start .pre in
+    let inv = now .search .inv in
+    let e = one .check-site .ensures in
+    let next =
+    below-site (a .object .now) (a .order .now) (a .addresses) (f .0) (now .search .i) (here (counted-at at)) (counts at) _ _ _ _ _ (inv .1) _ _ _ (site-is at)
+    (e .0 (a .order .now) (a .addresses) (f .3)) (on .if2 .left) in
+    (omega (arith, counted-at at .before .search-test .taken), rw (add-one, c .relocation-entries .ensures .0) next, e .3 ∙ inv .2, e .1 ∙ inv .3, e .2 ∙ inv .4, inv .5)
 
-returns : tie.Need-returns Inv-loop μ-loop Inv-search μ-search
+returns : tie.Need-returns Inv-search μ-search
 returns c =
-    let a = c .before .before .before .before .before .before .args in
-    let s = a .object .now in
-    let o = a .order .now in
-    let f = c .before .before .before .before .before .before .pre in
-    let at = c .before .search in
-    let count : c .before .before .section-count .result ≡ sectionCount s = c .before .before .section-count .ensures in
-    let stop : at .i ≡ sectionCount s = omega (arith, at .inv .0) in
-    let all : at .number ≡ relocationsBelow s (sectionCount s) = at .inv .1 ∙ ap (relocationsBelow s) stop in
-    at .inv .3 ∙ sym (check-passed s o (a .addresses) (λ k h. at .inv .2 k (omega arith)))
+    let at = c .before in
+    let start = entered (begun at) in
+    let a = start .args in
+    let f = start .pre in
+    let inv = at .search .inv in
+    let stop : at .search .i ≡ sectionCount (a .object .now) = omega (arith, inv .0, begun at .section-count .ensures) in
+    let all : Below (a .object .now) (a .order .now) (a .addresses) (sectionCount (a .object .now)) (at .search .number) (at .search .words) (at .search .sizes) =
+    subst (λ i. Below (a .object .now) (a .order .now) (a .addresses) i (at .search .number) (at .search .words) (at .search .sizes)) stop (inv .1) in
+    (inv .5 ∙ sym (below-all (a .object .now) (a .order .now) (a .addresses) _ _ _ all), (λ _. all .worded), inv .2 ∙ f .4, inv .3 ∙ f .5, inv .4 ∙ f .6)
 
-returns-2 : tie.Need-returns-2 Inv-loop μ-loop Inv-search μ-search
+returns-2 : tie.Need-returns-2 Inv-search μ-search
 returns-2 c =
-    let a = c .before .before .before .before .before .before .before .before .before .before .before .before .before .before .before .before .args in
-    let s = a .object .now in
-    let o = a .order .now in
-    let f = c .before .before .before .before .before .before .before .before .before .before .before .before .before .before .before .before .pre in
-    let at = c .before .before .before .before .before .before .before .before .before .before .before .search in
-    let count : c .before .before .before .before .before .before .before .before .before .before .before .before .section-count .result ≡ sectionCount s = c .before .before .before .before .before .before .before .before .before .before .before .before .section-count .ensures in
-    let here : at .i < sectionCount s = omega arith in
-    let counting : countingRela s (at .i) ≡ true = sym (c .before .before .before .before .before .before .before .before .before .is-counting-rela .ensures) ∙ not-false _ (c .before .before .before .before .before .before .before .before .if1 .left) in
-    let site : c .before .before .before .before .before .before .before .site-at .result ≡ siteAt s (a .addresses) (at .i) = c .before .before .before .before .before .before .before .site-at .ensures in
-    let sound : SoundSite s (c .before .before .before .before .before .before .before .site-at .result) = subst (SoundSite s) (sym site) (sound-site s (a .addresses) (f .0) (at .i) here counting (f .2)) in
-    let many : c .before .before .before .before .before .before .before .site-at .result .rela .size / 12 ≡ relocationsIn s (at .i) = ap (λ x. x .rela .size / 12) site ∙ count-is s (a .addresses) (f .0) (at .i) here counting in
-    let turn = c .before .before .before .before .before .loop in
-    let low : at .number ≡ relocationsBelow s (at .i) = at .inv .1 in
-    let number : turn .number ≡ relocationsBelow s (at .i) + turn .j = omega (arith, turn .inv .1) in
-    let what : c .before .before .find-broken .result ≡ findingOf s o (a .addresses) (turn .number) =
-    c .before .before .find-broken .ensures ∙ ap (λ x. finding s o (a .addresses) x (turn .j)) site ∙ sym (finding-entry s (at .i) (turn .j) here (omega arith) o (a .addresses)) ∙ sym (ap (findingOf s o (a .addresses)) number) in
-    let broken : isBroken (findingOf s o (a .addresses) (turn .number)) ≡ true = ap isBroken (sym what) ∙ sym (c .before .is-broken .ensures) ∙ c .if2 .taken in
-    let there : turn .number < relocationCount s = omega (arith, counted s (at .i) (turn .j) here (omega arith)) in
-    ap (λ f. Broken f (turn .number)) what ∙ sym (check-broken s o (a .addresses) (turn .number) there (turn .inv .3) broken)
+    let on : tie.Then2 Inv-search μ-search = search in
+    let one = halted on in
+    let at = site-checked one in
+    let now = head (counted-at at) in
+    let start = entered (begun now) in
+    let a = start .args in
+    let f = start .pre in
+    let inv = now .search .inv in
+    let e = one .check-site .ensures in
+    let is =
+    below-broken (a .object .now) (a .order .now) (a .addresses) (f .0) (now .search .i) (here (counted-at at)) (counts at) _ _ _ _ _ (inv .1) _ _ _ (site-is at)
+    (e .0 (a .order .now) (a .addresses) (f .3)) (on .if2 .taken) in
+    (ap (λ g. Broken g (now .search .number + one .check-site .result .at)) (c .before .finding-of .ensures) ∙ sym is, (λ z. broken-passed _ _ z), e .3 ∙ inv .2 ∙ f .4, e .1 ∙ inv .3 ∙ f .5, e .2 ∙ inv .4 ∙ f .6)
 
 pub check-relocations-spec : {M : Type 1} → statement M
 check-relocations-spec =
     tie.close
     (tie.spec
-    Inv-loop
-    μ-loop
     Inv-search
     μ-search
-    (λ c κs. search needs)
     (λ c κs. search needs)
     search-holds
     (λ c κs. search needs)
@@ -226,19 +206,20 @@ check-relocations-spec =
     (λ c. search needs)
     search-again
     site-at-requires
-    (λ c. search needs)
-    loop-holds
-    read-relocation-requires
-    find-broken-requires
+    check-site-requires
     (λ c κs. search needs)
-    (λ c κs. search needs)
+    add-t25
+    cast-t26
     (λ c κs. search needs)
     add-number
-    add-j
-    (λ c. search needs)
-    loop-again
     (λ c. search needs)
     (λ c. search needs)
     search-again-2
+    (λ c. search needs)
+    (λ c. search needs)
+    (λ c. search needs)
     returns
+    (λ c. search needs)
+    (λ c. search needs)
+    (λ c. search needs)
     returns-2)

@@ -5,10 +5,10 @@ use Rattle.tests_placings.proofs.pairs.values.Statement.{statement}
 use Rattle.tests_placings.proofs.pairs.values.Tie as tie
 
 abbrev Inv-loop : tie.InvT-loop
-Inv-loop object order counts symbols n end known₀ k₀ known k = k ≤ end
+Inv-loop numbers states n end k₀ k = k ≤ end
 
 abbrev μ-loop : tie.MeasureT-loop
-μ-loop object order counts symbols n end known₀ k₀ known k = end - k
+μ-loop numbers states n end k₀ k = end - k
 
 pub values-spec : {M : Type 1} → statement M
 values-spec =
@@ -16,7 +16,6 @@ values-spec =
     (tie.spec
     Inv-loop
     μ-loop
-    (λ c κs. search needs)
     (λ c. search needs)
     (λ c. search needs)
     (λ c. search needs)

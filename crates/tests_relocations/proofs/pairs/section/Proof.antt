@@ -22,27 +22,43 @@ size-small s f t h e =
     let inside : Inside s (sectionAt s t .offset .0) (sectionAt s t .size) = loaded-inside s f t h e in
     omega (arith, header-short s (f .header))
 
+-- ---- where the header has been looked at
+
+abbrev read : tie.After-is-loaded → tie.After-read-section
+read c = c .before
+
+abbrev st : tie.After-is-loaded → tie.Start
+st c = read c .before .before .before .before .before .before
+
+header-is : (c : tie.After-is-loaded) → read c .read-section .result ≡ sectionAt (st c .args .object .now) (st c .args .t)
+header-is c = read c .read-section .ensures
+
+-- ---- where the section is loaded and has bytes
+
+abbrev looked : tie.Then1 → tie.After-is-loaded
+looked c = c .before .before
+
+laid : (c : tie.Then1) → loaded (sectionAt (st (looked c) .args .object .now) (st (looked c) .args .t)) ≡ true
+laid c = sym (ap loaded (header-is (looked c))) ∙ sym (looked c .is-loaded .ensures) ∙ and-left _ _ (c .if1 .taken)
+
+small : (c : tie.Then1) → read (looked c) .read-section .result .size ≤ 65536
+small c =
+    let s = st (looked c) in
+    omega (arith, size-small (s .args .object .now) (s .pre .0 .sound) (s .args .t) (s .pre .1) (laid c), ap (λ h. h .size) (header-is (looked c)))
+
 part-lay-end : tie.Need-part-lay-end
 part-lay-end c =
-    let start = c .before .before .before .before .before .before .before .before in
-    let s = start .args .object .now in
-    let t = start .args .t in
-    let read : c .before .before .before .before .read-section .result ≡ sectionAt s t = c .before .before .before .before .read-section .ensures in
-    let laid : loaded (sectionAt s t) ≡ true = sym (ap loaded read) ∙ sym (c .before .before .before .is-loaded .ensures) ∙ and-left _ _ (c .before .if1 .taken) in
-    omega (arith, size-small s (start .pre .0) t (start .pre .4) laid, ap (λ h. h .size) read)
+    let t : tie.Then1 = search in
+    let s = st (looked t) in
+    omega (arith, small t, s .pre .2)
 
 lay-requires : tie.Need-lay-requires
 lay-requires c κs =
-    let start = c .before .before .before .before .before .before .before .before .before in
-    let s = start .args .object .now in
-    let t = start .args .t in
-    let pre = start .pre in
-    let read : c .before .before .before .before .before .read-section .result ≡ sectionAt s t = c .before .before .before .before .before .read-section .ensures in
-    let laid : loaded (sectionAt s t) ≡ true = sym (ap loaded read) ∙ sym (c .before .before .before .before .is-loaded .ensures) ∙ and-left _ _ (c .before .before .if1 .taken) in
-    let small = size-small s (pre .0) t (pre .4) laid in
-    let n = c .before .before .before .before .before .read-section .result .size in
-    let size : n ≡ sectionAt s t .size = ap (λ h. h .size) read in
-    (pre .0, pre .1, pre .2, pre .3, pre .4, laid, length-take-le (n - 0) (start .args .room .now) (omega arith) ∙ omega arith)
+    let t : tie.Then1 = search in
+    let s = st (looked t) in
+    let n = read (looked t) .read-section .result .size in
+    let size : n ≡ sectionAt (s .args .object .now) (s .args .t) .size = ap (λ h. h .size) (header-is (looked t)) in
+    (s .pre .0, s .pre .1, laid t, length-take-le (n - 0) (s .args .room .now) (omega (arith, small t, s .pre .2)) ∙ omega arith)
 
 pub section-spec : {M : Type 1} → statement M
 section-spec =

@@ -7,10 +7,10 @@ use Rattle.tests_relocations.proofs.pairs.sections.Statement.{statement
 use Rattle.tests_relocations.proofs.pairs.sections.Tie as tie
 
 abbrev Inv-loop : tie.InvT-loop
-Inv-loop object order counts array room₀ n t₀ room t = (t ≤ n) × (length room ≡ length room₀)
+Inv-loop object order array words sizes room₀ n t₀ room t = (t ≤ n) × (length room ≡ length room₀)
 
 abbrev μ-loop : tie.MeasureT-loop
-μ-loop object order counts array room₀ n t₀ room t = n - t
+μ-loop object order array words sizes room₀ n t₀ room t = n - t
 
 pub sections-spec : {M : Type 1} → statement M
 sections-spec =

@@ -1,0 +1,111 @@
+-- The arrays of S, as they fill.
+use mathlib.Core.Path.{_≡_, refl, sym, _∙_}
+use mathlib.Core.Bool.{Bool, true, false, cond}
+use mathlib.Core.List.{List}
+use Prim.Native.Nat.{ℕ, _+_, _^_, _≤_, _<_}
+use native.Mathlib.Omega.{arith}
+use lib.ListN.{length, getD, set, replicate, length-set, length-replicate, getD-replicate, List·getD-eq-default}
+use lib.Seq.{getD-set-same, getD-set-other}
+use lib.Dec.{ltb, eqb}
+use borrow.Author.Tests.{ltb-true, ltb-false, eqb-true, eqb-false}
+use borrow.Author.Count.{below-more}
+use Rattle.elf_read.specs.Entries.{symbolCount}
+use Rattle.elf_check.specs.Rules.{maxSymbols}
+use Rattle.elf_check.specs.Requires.{SoundObject}
+use Rattle.elf_check.proofs.Laws.Bounds.{symbols-few}
+use Rattle.placing_symbols.specs.declared.SymbolValue.{SymbolValue}
+use Rattle.placing_symbols.specs.declared.SymbolValue.the-variants.{Resolved, Unresolved}
+use Rattle.placing_symbols.specs.Values.{symbolValue}
+use Rattle.placing_symbols.specs.Arrays.{noValues, stateOf, numberOf, decoded, listed, ValueArrays, Valued}
+use Rattle.placing_symbols.proofs.Laws.Values.{value-past}
+
+-- what is stored for S is read as S
+decoded-stored : (v : SymbolValue) → decoded (stateOf v) (numberOf v) ≡ v
+decoded-stored (Resolved a) = refl
+decoded-stored Unresolved = refl
+
+-- zeros are 0 at each place, past their end too
+abbrev zeros : ℕ → List ℕ
+zeros n = replicate n 0
+
+zeros-length : (n : ℕ) → length (zeros n) ≡ n
+zeros-length n = length-replicate {A = ℕ} n 0
+
+zeros-at : (n k : ℕ) → getD (zeros n) k 0 ≡ 0
+zeros-at n k = go (ltb k n) refl
+  where
+    go : (b : Bool) → ltb k n ≡ b → getD (zeros n) k 0 ≡ 0
+    go true e = getD-replicate n k 0 0 (ltb-true k n e)
+    go false e = List·getD-eq-default (zeros n) 0 (rw (zeros-length n) (ltb-false k n e))
+
+-- a store of a value that fits keeps the values small
+set-small : (l : List ℕ) (n x : ℕ) → n < length l → x < 2 ^ 32 → ((k : ℕ) → getD l k 0 < 2 ^ 32) → (k : ℕ) → getD (set l n x) k 0 < 2 ^ 32
+set-small l n x h fits small k = go (eqb k n) refl
+  where
+    go : (b : Bool) → eqb k n ≡ b → getD (set l n x) k 0 < 2 ^ 32
+    go true e = rw (eqb-true k n e, getD-set-same l n x 0 h) fits
+    go false e = rw (getD-set-other l n k x 0 (eqb-false k n e)) (small k)
+
+module _ (object order addresses : List ℕ) where
+  -- the arrays hold S of each symbol below n, and no state is stored from n on
+  pub record ValuedBelow (values states : List ℕ) (n : ℕ) : Type 0 where
+    pub arrays : ValueArrays values states
+    pub below : (k : ℕ) → k < n → decoded (getD states k 0) (getD values k 0) ≡ symbolValue object order addresses k
+    pub rest : (k : ℕ) → n ≤ k → getD states k 0 ≡ 0
+
+  -- the zeros, with the state of symbol 0
+  pub below-one : ValuedBelow noValues (set noValues 0 1) 1
+  unfolding symbolValue
+  below-one =
+      record {
+        arrays = record {
+          values-length = zeros-length maxSymbols;
+          states-length = length-set noValues 0 1 ∙ zeros-length maxSymbols;
+          small = λ k. rw (zeros-at maxSymbols k) (omega arith);
+        };
+        below = λ k h. let z : k ≡ 0 = omega arith in rw z;
+        rest = λ k h. getD-set-other noValues 0 k 1 0 (λ z. omega arith) ∙ zeros-at maxSymbols k;
+      }
+
+  -- one more symbol
+  pub below-next : (values states : List ℕ) (n : ℕ) → ValuedBelow values states n → n < maxSymbols
+      → (v : SymbolValue) → v ≡ symbolValue object order addresses n → numberOf v < 2 ^ 32
+      → ValuedBelow (set values n (numberOf v)) (set states n (stateOf v)) (n + 1)
+  below-next values states n b h v is fits =
+      let long : n < length values = omega (arith, b .arrays .values-length) in
+      let wide : n < length states = omega (arith, b .arrays .states-length) in
+      record {
+        arrays = record {
+          values-length = length-set values n (numberOf v) ∙ b .arrays .values-length;
+          states-length = length-set states n (stateOf v) ∙ b .arrays .states-length;
+          small = set-small values n (numberOf v) long fits (b .arrays .small);
+        };
+        below =
+            below-more (λ k. decoded (getD (set states n (stateOf v)) k 0) (getD (set values n (numberOf v)) k 0) ≡ symbolValue object order addresses k) n
+            (λ k l. rw (getD-set-other states n k (stateOf v) 0 (λ z. omega arith), getD-set-other values n k (numberOf v) 0 (λ z. omega arith)) (b .below k l))
+            (rw (getD-set-same states n (stateOf v) 0 wide, getD-set-same values n (numberOf v) 0 long) (decoded-stored v ∙ is));
+        rest = λ k l. getD-set-other states n k (stateOf v) 0 (λ z. omega arith) ∙ b .rest k (omega arith);
+      }
+
+  -- every symbol of the table
+  pub below-all : (values states : List ℕ) (n : ℕ) → ValuedBelow values states n → 0 < n → symbolCount object ≤ n
+      → Valued object order addresses values states
+  below-all values states n b some all = record { arrays = b .arrays; is = λ k h. go k (ltb k n) refl }
+    where
+      go : (k : ℕ) (t : Bool) → ltb k n ≡ t → decoded (getD states k 0) (getD values k 0) ≡ symbolValue object order addresses k
+      go k true e = b .below k (ltb-true k n e)
+      go k false e =
+          let past : n ≤ k = ltb-false k n e in
+          rw (b .rest k past, value-past object order addresses k (omega arith) (omega arith))
+
+-- what the arrays say about any symbol is S of that symbol
+pub listed-is : {object order addresses values states : List ℕ} → Valued object order addresses values states → SoundObject object
+    → (k : ℕ) → listed values states k ≡ symbolValue object order addresses k
+unfolding listed
+listed-is {object} {order} {addresses} {values} {states} v f k = go (ltb k maxSymbols) refl
+  where
+    go : (b : Bool) → ltb k maxSymbols ≡ b → cond b (decoded (getD states k 0) (getD values k 0)) Unresolved ≡ symbolValue object order addresses k
+    go true e = v .is k (ltb-true k maxSymbols e)
+    go false e =
+        let past : maxSymbols ≤ k = ltb-false k maxSymbols e in
+        sym (value-past object order addresses k (omega arith) (omega (arith, symbols-few object f)))

@@ -1,0 +1,117 @@
+-- `placing_symbols::symbol_values` meets its contract.
+use mathlib.Core.Path.{_≡_, refl, sym, ap, _∙_}
+use mathlib.Core.Logic.{⊎-elim}
+use Prim.Native.Nat.{_-_, _≤_, _<_}
+use native.Mathlib.Omega.{arith}
+use lib.ListN.{getD, List·getD-eq-default}
+use Rattle.elf_read.specs.Sections.{sectionAt, symbolTable}
+use Rattle.elf_read.specs.Entries.{symbolAt, symbolCount}
+use Rattle.elf_check.specs.Rules.{maxSymbols}
+use Rattle.elf_check.proofs.Laws.Bounds.{symbol-inside, symbols-few}
+use Rattle.placing_symbols.specs.Values.{symbolValue}
+use Rattle.placing_symbols.proofs.Laws.Values.{value-read}
+use Rattle.placing_symbols.proofs.Laws.Arrays.{ValuedBelow, below-one, below-next, below-all}
+use borrow.Author.Needs.{needs}
+use Rattle.placing_symbols.proofs.symbol_values.Statement.{statement}
+use Rattle.placing_symbols.proofs.symbol_values.Tie as tie
+
+abbrev Inv-loop : tie.InvT-loop
+Inv-loop object order counts values₀ states₀ addresses table count k₀ values states k =
+    (0 < k) × ValuedBelow object order addresses values states k
+
+abbrev μ-loop : tie.MeasureT-loop
+μ-loop object order counts values₀ states₀ addresses table count k₀ values states k = count - k
+
+-- ---- in a turn
+
+-- the symbol is one of the table
+in-table : (c : tie.In-loop Inv-loop μ-loop) → let s = c .before .before .before .before .before .before .before .args .object .now in
+    (c .before .loop .k < symbolCount s) × (symbolCount s ≤ maxSymbols)
+in-table c =
+    let start : tie.Start Inv-loop μ-loop = search in
+    (omega (arith, start .pre .2 .count), symbols-few (start .args .object .now) (start .pre .0))
+
+-- ---- the needs
+
+slice-write-states : tie.Need-slice-write-states Inv-loop μ-loop
+slice-write-states c =
+    let start : tie.Start Inv-loop μ-loop = search in
+    rw (start .pre .4) (omega arith)
+
+loop-holds : tie.Need-loop-holds Inv-loop μ-loop
+loop-holds c =
+    let start : tie.Start Inv-loop μ-loop = search in
+    (search needs, rw (start .pre .3, start .pre .4) (below-one _ _ _))
+
+read-symbol-requires : tie.Need-read-symbol-requires Inv-loop μ-loop
+read-symbol-requires c κs =
+    let start : tie.Start Inv-loop μ-loop = search in
+    rw (start .pre .2 .table (omega arith)) (symbol-inside (start .args .object .now) (start .pre .0) (c .before .loop .k) (in-table c .0))
+
+-- the address that is given to `entry_value`
+start-is : (c : tie.Joined1 Inv-loop μ-loop) → c .if1 .start ≡ getD (c .before .before .before .before .before .before .before .before .before .before .args .t5) (c .before .before .read-symbol .result .section) 0
+start-is c =
+    let start : tie.Start Inv-loop μ-loop = search in
+    ⊎-elim (λ w. w .1) (λ w. w .1 ∙ sym (List·getD-eq-default (start .args .t5) 0 (omega arith))) (c .if1 .came)
+
+loop-again : tie.Need-loop-again Inv-loop μ-loop
+loop-again c =
+    let start : tie.Start Inv-loop μ-loop = search in
+    let head : tie.At-loop Inv-loop μ-loop = search in
+    let turn : tie.In-loop Inv-loop μ-loop = search in
+    let read : tie.After-read-symbol Inv-loop μ-loop = search in
+    let valued : tie.After-entry-value Inv-loop μ-loop = search in
+    let s = start .args .object .now in
+    let k = head .loop .k in
+    let symbol : read .read-symbol .result ≡ symbolAt s (sectionAt s (symbolTable s)) k =
+    read .read-symbol .ensures ∙ ap (λ h. symbolAt s h k) (start .pre .2 .table (omega arith)) in
+    let is : valued .entry-value .result ≡ symbolValue s (start .args .order .now) (start .args .t5) k =
+    valued .entry-value .ensures ∙ value-read s (start .args .order .now) (start .args .t5) k (head .loop .inv .0) (in-table turn .0) _ symbol _ (start-is (search)) in (
+      search needs,
+      rw (c .before .number-of .ensures .0, c .state-of .ensures)
+          (below-next _ _ _ _ _ _ (head .loop .inv .1) (omega (arith, in-table turn)) (valued .entry-value .result) is (omega (arith, c .before .number-of .ensures))),
+    )
+
+same-length : tie.Need-same-length Inv-loop μ-loop
+same-length c =
+    let start : tie.Start Inv-loop μ-loop = search in
+    let head : tie.At-loop Inv-loop μ-loop = search in
+    rw (start .pre .3) (head .loop .inv .1 .arrays .values-length)
+
+same-length-2 : tie.Need-same-length-2 Inv-loop μ-loop
+same-length-2 c =
+    let start : tie.Start Inv-loop μ-loop = search in
+    let head : tie.At-loop Inv-loop μ-loop = search in
+    rw (start .pre .4) (head .loop .inv .1 .arrays .states-length)
+
+returns : tie.Need-returns Inv-loop μ-loop
+returns c =
+    let start : tie.Start Inv-loop μ-loop = search in
+    let head : tie.At-loop Inv-loop μ-loop = search in
+    (refl, below-all _ _ _ _ _ _ (head .loop .inv .1) (head .loop .inv .0) (omega (arith, start .pre .2 .count)))
+
+pub symbol-values-spec : {M : Type 1} → statement M
+symbol-values-spec =
+    tie.close
+    (tie.spec
+    Inv-loop
+    μ-loop
+    slice-write-states
+    loop-holds
+    read-symbol-requires
+    (λ c. search needs)
+    (λ c. search needs)
+    (λ c. search needs)
+    (λ c. omega (arith, in-table (search)))
+    (λ c κs. search needs)
+    (λ c κs. search needs)
+    (λ c. omega (arith, in-table (search)))
+    (λ c. omega (arith, in-table (search)))
+    (λ c κs. search needs)
+    (λ c. omega (arith, in-table (search)))
+    (λ c. omega (arith, in-table (search)))
+    (λ c. search needs)
+    loop-again
+    same-length
+    same-length-2
+    returns)

@@ -1,0 +1,45 @@
+-- S of every symbol, worked out once: an array of values, and an array of states. A state is 1 for a symbol that resolves and 0 for any
+-- other. Both arrays have an entry for each symbol number below `maxSymbols`, however many symbols there are.
+use mathlib.Core.Path.{_≡_}
+use Prim.Native.Nat.{ℕ, _^_, _<_}
+use mathlib.Core.Bool.{cond}
+use mathlib.Core.List.{List}
+use lib.ListN.{length, getD, replicate}
+use lib.Dec.{ltb, eqb}
+use Rattle.numbers_definitions.specs.Places.{address}
+use Rattle.elf_check.specs.Rules.{maxSymbols}
+use Rattle.placing_symbols.specs.declared.SymbolValue.{SymbolValue}
+use Rattle.placing_symbols.specs.declared.SymbolValue.the-variants.{Resolved, Unresolved}
+use Rattle.placing_symbols.specs.Values.{symbolValue}
+
+-- an array before anything is stored
+abbrev pub noValues : List ℕ
+noValues = replicate maxSymbols 0
+
+-- the state and the value that are stored for S
+abbrev pub stateOf : SymbolValue → ℕ
+stateOf (Resolved a) = 1
+stateOf Unresolved = 0
+
+abbrev pub numberOf : SymbolValue → ℕ
+numberOf (Resolved a) = a .0
+numberOf Unresolved = 0
+
+-- S, from a state and a value
+abbrev pub decoded : ℕ → ℕ → SymbolValue
+decoded state value = cond (eqb state 1) (Resolved (address value)) Unresolved
+
+-- what two arrays say about symbol k; nothing past their end resolves
+unfoldable pub listed : List ℕ → List ℕ → ℕ → SymbolValue
+listed values states k = cond (ltb k maxSymbols) (decoded (getD states k 0) (getD values k 0)) Unresolved
+
+-- arrays of the right length, whose values fit addresses
+pub record ValueArrays (values states : List ℕ) : Type 0 where
+  pub values-length : length values ≡ maxSymbols
+  pub states-length : length states ≡ maxSymbols
+  pub small : (k : ℕ) → getD values k 0 < 2 ^ 32
+
+-- the arrays hold S of every symbol
+pub record Valued (object order addresses values states : List ℕ) : Type 0 where
+  pub arrays : ValueArrays values states
+  pub is : (k : ℕ) → k < maxSymbols → decoded (getD states k 0) (getD values k 0) ≡ symbolValue object order addresses k

@@ -1,0 +1,222 @@
+-- `relocations_check_all::search::check_site` meets its contract. The invariant: none of the first `j` relocations breaks a rule, and what they leave is stored. The measure is what is left.
+use mathlib.Core.Path.{_≡_, refl, sym, ap, _∙_, subst}
+use mathlib.Core.List.{List}
+use Prim.Native.Nat.{ℕ, _+_, _-_, _/_, _≤_, _<_}
+use native.Mathlib.Numerals.{add-one}
+use native.Mathlib.Omega.{arith}
+use lib.ListN.{length, length-set}
+use Rattle.placing_symbols.specs.Arrays.{Valued}
+use Rattle.relocations_types.specs.Types.{decision}
+use Rattle.relocations_rela.specs.Sites.{count, decisionAt}
+use Rattle.relocations_rela.specs.Trails.{trailAt}
+use Rattle.relocations_check_one.specs.Requires.{Listing}
+use Rattle.relocations_check_all.specs.Sites.{SiteChecked, KeptBelow, Worded}
+use Rattle.relocations_check_all.proofs.Laws.Sites.{Searching, searching-start, searching-next, trail-next, number-found}
+use borrow.Author.Needs.{needs}
+use Rattle.relocations_check_all.proofs.search.check_site.Statement.{statement}
+use Rattle.relocations_check_all.proofs.search.check_site.Tie as tie
+
+abbrev Inv-loop : tie.InvT-loop
+Inv-loop object symbols site values states highs₀ words₀ sizes₀ base n trail₀ last₀ made₀ j₀ highs words sizes trail last made j =
+    (j ≤ n)
+    × (trail ≡ trailAt object site j)
+    × Listing object site highs made
+    × (length highs ≡ length highs₀)
+    × (length words ≡ length words₀)
+    × (length sizes ≡ length sizes₀)
+    × ((o a : List ℕ) → Valued object o a values states → Searching object o a site base words₀ sizes₀ highs₀ words sizes highs trail last made j)
+
+abbrev μ-loop : tie.MeasureT-loop
+μ-loop object symbols site values states highs₀ words₀ sizes₀ base n trail₀ last₀ made₀ j₀ highs words sizes trail last made j = n - j
+
+-- ---- the places on the way: an inserted line moves one of them
+
+abbrev entered : tie.After-no-trail Inv-loop μ-loop → tie.Start Inv-loop μ-loop
+entered c = c .before .before .before .before .before .before .before .before
+
+abbrev head : tie.In-loop Inv-loop μ-loop → tie.At-loop Inv-loop μ-loop
+head c = c .before
+
+abbrev start : tie.At-loop Inv-loop μ-loop → tie.After-no-trail Inv-loop μ-loop
+start c = c .before
+
+abbrev turn : tie.After-read-relocation Inv-loop μ-loop → tie.In-loop Inv-loop μ-loop
+turn c = c .before
+
+abbrev read : tie.After-decide Inv-loop μ-loop → tie.After-read-relocation Inv-loop μ-loop
+read c = c .before
+
+abbrev decided : tie.After-check-one Inv-loop μ-loop → tie.After-decide Inv-loop μ-loop
+decided c = c .before .before
+
+-- ---- what they say
+
+kind : (c : tie.After-decide Inv-loop μ-loop)
+    → c .decide .result ≡ decisionAt (entered (start (head (turn (read c)))) .args .object .now) (entered (start (head (turn (read c)))) .args .site) (head (turn (read c)) .loop .j)
+kind c = c .decide .ensures ∙ ap (λ r. decision (r .kind)) (read c .read-relocation .ensures)
+
+-- ---- the needs
+
+loop-holds : tie.Need-loop-holds Inv-loop μ-loop
+unfolding trailAt
+loop-holds c =
+    let f = entered c .pre in
+    let a = entered c .args in (
+      omega arith,
+      c .no-trail .ensures,
+      record { room = f .2; short = f .3; highs = λ h. absurd (omega arith) },
+      refl,
+      refl,
+      refl,
+      λ o l v.
+          subst (λ t. Searching (a .object .now) o l (a .site) (a .base) (a .words .now) (a .sizes .now) (a .highs .now) (a .words .now) (a .sizes .now) (a .highs .now) t 0 0 0) (sym (c .no-trail .ensures))
+          (searching-start (a .object .now) o l (a .site) (a .base) (a .words .now) (a .sizes .now) (a .highs .now) (f .2) (f .3)),
+    )
+
+read-relocation-requires : tie.Need-read-relocation-requires Inv-loop μ-loop
+read-relocation-requires c κs = let f = entered (start (head c)) .pre in record { inside = omega (arith, f .1 .entries) }
+
+check-one-requires : tie.Need-check-one-requires Inv-loop μ-loop
+check-one-requires c κs =
+    let at : tie.After-decide Inv-loop μ-loop = search in
+    let now = head (turn (read at)) in
+    let f = entered (start now) .pre in
+    (f .0, record { there = record { site = f .1; there = omega arith }; read = read at .read-relocation .ensures; decided = kind at; followed = now .loop .inv .1 }, now .loop .inv .2)
+
+abbrev checked : tie.Then1 Inv-loop μ-loop → tie.After-check-one Inv-loop μ-loop
+checked c = c .before .before .before .before
+
+returns : tie.Need-returns Inv-loop μ-loop
+returns c =
+    let one = checked c in
+    let now = head (turn (read (decided one))) in
+    let at = entered (start now) in
+    let a = at .args in
+    let comes = one .check-one .ensures .0 in
+    let inv = now .loop .inv in (
+      (λ o l v.
+          let s = inv .6 o l v in
+          record {
+            passed = λ z. absurd (c .if1 .taken z);
+            broken = λ some.
+                record {
+                  there = turn (read (decided one)) .loop-test .taken;
+                  below = s .kept;
+                  number-is = number-found (a .object .now) o l (a .site) (a .values .now) (a .states .now) (at .pre .0 .sound) v (now .loop .j) _ _ _ comes;
+                  some = some;
+                };
+            words-same = s .words-same;
+            sizes-same = s .sizes-same;
+          }),
+      inv .4,
+      inv .5,
+      one .check-one .ensures .2 ∙ inv .3,
+    )
+
+abbrev passed : tie.Else1 Inv-loop μ-loop → tie.After-check-one Inv-loop μ-loop
+passed c = c .before .before .before .before
+
+-- the place where the word and the size go
+room : (c : tie.Else1 Inv-loop μ-loop) → let now = head (turn (read (decided (passed c)))) in
+    (entered (start now) .args .base + now .loop .j < length (entered (start now) .args .words .now)) × (entered (start now) .args .base + now .loop .j < length (entered (start now) .args .sizes .now))
+room c =
+    let now = head (turn (read (decided (passed c)))) in
+    let f = entered (start now) .pre in
+    (omega (arith, f .4), omega (arith, f .5))
+
+add-k : tie.Need-add-k Inv-loop μ-loop
+add-k c =
+    let now = head (turn (read (decided (passed c)))) in
+    omega (arith, room c .0, entered (start now) .pre .6)
+
+mul-words : tie.Need-mul-words Inv-loop μ-loop
+mul-words c =
+    let now = head (turn (read (decided (passed c)))) in
+    omega (arith, room c .0, entered (start now) .pre .6)
+
+slice-write-words : tie.Need-slice-write-words Inv-loop μ-loop
+slice-write-words c =
+    let now = head (turn (read (decided (passed c)))) in
+    omega (arith, room c .0, now .loop .inv .4)
+
+slice-write-sizes : tie.Need-slice-write-sizes Inv-loop μ-loop
+slice-write-sizes c =
+    let now = head (turn (read (decided (passed (c .before))))) in
+    omega (arith, room (c .before) .1, now .loop .inv .5)
+
+abbrev kept : tie.After-next-last Inv-loop μ-loop → tie.Else1 Inv-loop μ-loop
+kept c = c .before .before .before
+
+loop-again : tie.Need-loop-again Inv-loop μ-loop
+loop-again c =
+    let one = passed (kept c) in
+    let at = decided one in
+    let now = head (turn (read at)) in
+    let begun = entered (start now) in
+    let a = begun .args in
+    let f = begun .pre in
+    let inv = now .loop .inv in
+    let e = one .check-one .ensures in
+    let r = read at .read-relocation .ensures in
+    let zero : one .check-one .result .number ≡ 0 = kept c .if1 .left in (
+      omega arith,
+      rw add-one (trail-next (a .object .now) (a .site) (now .loop .j) _ _ _ _ (inv .1) (kind at) r (c .before .advance .ensures)),
+      e .1,
+      e .2 ∙ inv .3,
+      length-set (now .loop .words) (a .base + now .loop .j) (one .check-one .result .word) ∙ inv .4,
+      length-set (now .loop .sizes) (a .base + now .loop .j) (c .before .before .bytes-touched .result) ∙ inv .5,
+      (λ o l v.
+          rw add-one
+          (searching-next (a .object .now) o l (a .site) (a .base) (a .words .now) (a .sizes .now) (a .highs .now) (a .values .now) (a .states .now) (f .0 .sound) v (f .1) _ _ _ _ _ _ _ _ _ _ _ (now .loop .j) _ _ _ _
+          (inv .6 o l v) (omega arith) (f .4) (f .5) r (kind at) (e .0) zero (e .1) (e .2) (c .before .advance .ensures) (c .before .before .bytes-touched .ensures) (c .next-last .ensures))),
+    )
+
+returns-2 : tie.Need-returns-2 Inv-loop μ-loop
+returns-2 c =
+    let now : tie.At-loop Inv-loop μ-loop = search in
+    let a = entered (start now) .args in
+    let inv = now .loop .inv in
+    let all : now .loop .j ≡ count (a .site) = omega arith in (
+      (λ o l v.
+          let s = inv .6 o l v in
+          record {
+            passed = λ _. (subst (KeptBelow (a .object .now) o l (a .site)) all (s .kept), subst (λ n. Worded (a .object .now) o l (a .site) n (now .loop .words) (now .loop .sizes) (a .base)) all (s .worded));
+            broken = λ some. absurd (some refl);
+            words-same = s .words-same;
+            sizes-same = s .sizes-same;
+          }),
+      inv .4,
+      inv .5,
+      inv .3,
+    )
+
+pub check-site-spec : {M : Type 1} → statement M
+check-site-spec =
+    tie.close
+    (tie.spec
+    Inv-loop
+    μ-loop
+    (λ c. search needs)
+    (λ c κs. search needs)
+    loop-holds
+    read-relocation-requires
+    (λ c κs. search needs)
+    check-one-requires
+    (λ c. search needs)
+    (λ c. search needs)
+    (λ c. search needs)
+    returns
+    add-k
+    mul-words
+    slice-write-words
+    (λ c κs. search needs)
+    slice-write-sizes
+    (λ c κs. search needs)
+    (λ c κs. search needs)
+    (λ c. search needs)
+    (λ c. search needs)
+    loop-again
+    (λ c. search needs)
+    (λ c. search needs)
+    (λ c. search needs)
+    returns-2)

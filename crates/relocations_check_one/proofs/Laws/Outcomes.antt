@@ -1,0 +1,258 @@
+-- Checks 9 to 14 of a relocation, by what its type asks for.
+use mathlib.Core.Path.{_≡_, refl, sym, ap, _∙_, subst}
+use mathlib.Core.Bool.{Bool, true, false, not, cond, _&&_, _||_}
+use mathlib.Core.List.{List}
+use Prim.Native.Nat.{ℕ, _+_, _^_, _≤_, _<_}
+use lib.IntN.{ℤ, pos, _+ℤ_, _-ℤ_}
+use lib.Dec.{ltb, eqb}
+use native.Mathlib.Nat.{zero-add}
+use native.Mathlib.Omega.{arith}
+use borrow.Author.Tests.{lt-ltb}
+use Rattle.numbers_definitions.specs.Bytes.{leAt}
+use Rattle.numbers_definitions.specs.Whole.{residue, signed, plus, minus}
+use Rattle.numbers_definitions.proofs.Laws.Whole.{residue-lt, residue-signed, minus-residue}
+use Rattle.numbers_definitions.proofs.Laws.Tests.{never}
+use Rattle.elf_read.specs.declared.Relocation.{Relocation}
+use Rattle.elf_read.specs.declared.Section.{Section}
+use Rattle.elf_read.specs.declared.Symbol.{Symbol}
+use Rattle.elf_read.specs.Sections.{sectionAt, symbolTable}
+use Rattle.elf_read.specs.Entries.{symbolAt, relocationAt}
+use Rattle.elf_read.specs.Headers.{addressWidth}
+use Rattle.elf_read.proofs.Laws.Headers.{address-narrow}
+use Rattle.placing_symbols.specs.declared.SymbolValue.{SymbolValue}
+use Rattle.placing_symbols.specs.Values.{symbolValue}
+use Rattle.relocations_types.specs.declared.Decision.the-variants.{Marker, Align, Store, Refused}
+use Rattle.relocations_types.specs.declared.Decision.{Decision}
+use Rattle.relocations_types.specs.Types.{decision}
+use Rattle.relocations_types.specs.declared.Rule.{Rule}
+use Rattle.relocations_decisions.specs.Decisions.{isStore, touched, takesPair}
+use Rattle.relocations_rela.specs.declared.sites.Site.{Site}
+use Rattle.relocations_rela.specs.Sites.{entry, decisionAt, A, P, found}
+use Rattle.relocations_rela.specs.Shape.{end, shapeWell}
+use Rattle.relocations_rela.specs.declared.shape.Trail.{Trail}
+use Rattle.relocations_rela.specs.Trails.{sharesBy, shapeBy}
+use Rattle.relocations_rela.proofs.Laws.Shape.{shape-inside, padded}
+use Rattle.relocations_rela.proofs.Laws.Trails.{shape-by}
+use Rattle.relocations_values.specs.Values.{S, T}
+use Rattle.relocations_values.specs.Pairs.{pairOf}
+use Rattle.relocations_rules.specs.Rules.{isResolved, inTarget, symbol, symbolWell, asksWell, formWell, isOne, pairWell, reachesWell, distanceWell, boundaryWell}
+use Rattle.relocations_rules.specs.declared.Finding.the-variants.{Kept, OffBoundary}
+use Rattle.relocations_rules.proofs.Laws.Rules.{reach-read}
+use Rattle.relocations_rules.specs.Search.{number, firstBroken, finding}
+use Rattle.relocations_bytes.specs.Sections.{sumAt, distanceAt}
+use Rattle.relocations_bytes.specs.Patches.{patched}
+use Rattle.relocations_bytes.specs.Words.{word, wordFrom}
+use Rattle.relocations_bytes.proofs.Laws.Patches.{same-patch}
+use Rattle.relocations_bytes.proofs.Laws.Sections.{symbol-read, place-read}
+use Rattle.relocations_check_one.specs.Outcomes.{storeNumber, valueBy, targetBy, findingBy, sumBy, distanceBy, pairDistanceBy, wordBy, Comes}
+use Rattle.relocations_check_one.specs.Requires.{Storing, Read}
+
+-- ---- with the values of an object and an order
+
+module _ (object order addresses : List ℕ) (x : Site) (j : ℕ) where
+  pub finding-by : findingBy (symbolValue object order addresses) object x j ≡ finding object order addresses x j
+  unfolding findingBy finding
+  finding-by = refl
+
+  pub word-by : (b : ℕ) → wordBy (symbolValue object order addresses) object x j b ≡ wordFrom object order addresses x j b
+  unfolding wordBy sumAt distanceAt
+  word-by b = refl
+
+module _ (v : ℕ → SymbolValue) (object : List ℕ) (x : Site) (j : ℕ) where
+  -- ---- 9 is broken
+
+  pub misshapen : shapeWell object x j ≡ false → number (findingBy v object x j) ≡ 9
+  unfolding findingBy firstBroken
+  misshapen e = rw e
+
+  -- ---- a store that keeps 9
+
+  module _ (r : Rule) (e : decisionAt object x j ≡ Store r) where
+    pub store-number : shapeWell object x j ≡ true
+        → number (findingBy v object x j)
+        ≡ storeNumber (symbolWell object x j (valueBy v object x j)) (formWell object x j) (pairWell object x j) (reachesWell (addressWidth object) (r .calculation) (r .field) (targetBy v object x j) (P object x j))
+    unfolding findingBy firstBroken
+    store-number s = rw (s, e)
+
+    -- of any type but PCREL_LO12
+    module _ (plain : takesPair (r .calculation) ≡ false) where
+      and-true : (b : Bool) → (b && true) ≡ b
+      and-true true = refl
+      and-true false = refl
+
+      pub plain-symbol : (y : SymbolValue) → symbolWell object x j y ≡ isResolved y
+      unfolding symbolWell
+      plain-symbol y = rw (e, plain) (and-true (isResolved y))
+
+      pub plain-pair : pairWell object x j ≡ true
+      unfolding pairWell
+      plain-pair = rw (e, plain)
+
+    -- of a PCREL_LO12
+    module _ (paired : takesPair (r .calculation) ≡ true) where
+      pub paired-symbol : (y : SymbolValue) → symbolWell object x j y ≡ (isResolved y && inTarget object x j)
+      unfolding symbolWell
+      paired-symbol y = rw (e, paired)
+
+      pub paired-pair : pairWell object x j ≡ isOne (pairOf object x (symbol object x j .value))
+      unfolding pairWell
+      paired-pair = rw (e, paired)
+
+  -- ---- markers that keep 9
+
+  pub align-number : decisionAt object x j ≡ Align → shapeWell object x j ≡ true → number (findingBy v object x j) ≡ cond (boundaryWell Align (P object x j) (A object x j)) 0 14
+  unfolding findingBy firstBroken symbolWell formWell pairWell
+  align-number e s = rw (s, e) (go (boundaryWell Align (P object x j) (A object x j)))
+    where
+      go : (b : Bool)
+          → number (cond b Kept OffBoundary) ≡ cond b 0 14
+      go true = refl
+      go false = refl
+
+  pub marker-number : decisionAt object x j ≡ Marker → shapeWell object x j ≡ true → number (findingBy v object x j) ≡ 0
+  unfolding findingBy firstBroken symbolWell formWell pairWell
+  marker-number e s = rw (s, e)
+
+  -- and the bytes of a marker
+  pub no-word : (b : ℕ) → isStore (decisionAt object x j) ≡ false → 0 ≡ wordBy v object x j b
+  unfolding wordBy
+  no-word b s = go (decisionAt object x j) s
+    where
+      go : (d : Decision) → isStore d ≡ false
+          → 0 ≡ word (addressWidth object) d b (sumBy v object x j) (P object x j) (pairDistanceBy v object x j)
+      go (Store r) q = never (sym q)
+      go Marker q = refl
+      go Align q = refl
+      go Refused q = refl
+
+-- ---- by what was read and worked out: y is S + A in two's complement, t is T, p is P, d is the pair's T - P
+
+module _ (v : ℕ → SymbolValue) (object : List ℕ) (x : Site) (j : ℕ) (rule : Rule) (here : Relocation) (f : Storing object x j rule here) (value : SymbolValue)
+    (value-is : value ≡ v (here .symbol)) (p : ℕ) (place : p ≡ plus (addressWidth object) (x .address .0) (here .offset .0)) where
+  abbrev w : ℕ
+  w = addressWidth object
+
+  inside : end object x j ≤ x .target .size
+  inside = shape-inside object x j (f .shape)
+
+  pub value-read : value ≡ valueBy v object x j
+  value-read = value-is ∙ ap (λ r. v (r .symbol)) (f .read)
+
+  reach-is : (t : ℕ) → t ≡ T w (S value) (signed 64 (here .addend))
+      → reachesWell w (rule .calculation) (rule .field) t p ≡ reachesWell w (rule .calculation) (rule .field) (targetBy v object x j) (P object x j)
+  reach-is t te =
+      reach-read object x j here (Store rule) value (valueBy v object x j) t p (f .there .site) inside (f .read) (sym (f .decided) ∙ ap (λ r. decision (r .kind)) (sym (f .read))) value-read te place
+      ∙ ap (λ d. distanceWell w d (targetBy v object x j) (P object x j)) (f .decided)
+
+  pub number-read : (n t : ℕ) (symbols forms pairs reaches : Bool) → n ≡ storeNumber symbols forms pairs reaches → symbols ≡ symbolWell object x j (valueBy v object x j)
+      → forms ≡ formWell object x j → pairs ≡ pairWell object x j → reaches ≡ reachesWell w (rule .calculation) (rule .field) t p → t ≡ T w (S value) (signed 64 (here .addend))
+      → n ≡ number (findingBy v object x j)
+  number-read n t symbols forms pairs reaches e se fe pe re te =
+      e
+      ∙ ap (λ b. storeNumber b forms pairs reaches) se
+      ∙ ap (λ b. storeNumber (symbolWell object x j (valueBy v object x j)) b pairs reaches) fe
+      ∙ ap (λ b. storeNumber (symbolWell object x j (valueBy v object x j)) (formWell object x j) b reaches) pe
+      ∙ ap (λ b. storeNumber (symbolWell object x j (valueBy v object x j)) (formWell object x j) (pairWell object x j) b) (re ∙ reach-is t te)
+      ∙ sym (store-number v object x j rule (f .decided) (f .shape))
+
+  pub word-read : (u b y d : ℕ) → u ≡ patched w (rule .calculation) (rule .field) b (signed 64 y) p d → y < 2 ^ 64 → y ≡ residue 64 (pos (S value) +ℤ signed 64 (here .addend))
+      → (takesPair (rule .calculation) ≡ true → d ≡ pairDistanceBy v object x j) → u ≡ wordBy v object x j b
+  unfolding wordBy
+  word-read u b y d ue h ye de =
+      let z : ℤ = sumBy v object x j in
+      let sum : residue 64 (pos (S value) +ℤ signed 64 (here .addend)) ≡ residue 64 z =
+      ap (λ s. residue 64 (pos (S s) +ℤ signed 64 (here .addend))) value-read ∙ ap (λ r. residue 64 (pos (S (valueBy v object x j)) +ℤ signed 64 (r .addend))) (f .read) in
+      let same : residue 64 (signed 64 y) ≡ residue 64 z = residue-signed 64 y h ∙ ye ∙ sum in
+      let at : p ≡ P object x j = place-read object x j here p (f .read) place (f .there .site) inside (ap isStore (f .decided)) in
+      ue
+      ∙ same-patch w (address-narrow object) (rule .calculation) (rule .field) b (signed 64 y) z p d (pairDistanceBy v object x j) same de
+      ∙ ap (λ p. patched w (rule .calculation) (rule .field) b z p (pairDistanceBy v object x j)) at
+      ∙ sym (ap (λ d. word w d b z (P object x j) (pairDistanceBy v object x j)) (f .decided))
+
+-- ---- T - P of relocation k, by the relocation r and the value that were read
+
+pub distance-read : (v : ℕ → SymbolValue) (object : List ℕ) (x : Site) (k : ℕ) (r : Relocation) (value : SymbolValue) (t p : ℕ) → r ≡ entry object x k → value ≡ v (r .symbol)
+    → t ≡ T (addressWidth object) (S value) (signed 64 (r .addend)) → p ≡ plus (addressWidth object) (x .address .0) (r .offset .0)
+    → minus (addressWidth object) t p ≡ distanceBy v object x k
+unfolding minus plus residue
+distance-read v object x k r value t p re ve te pe =
+    let w : ℕ = addressWidth object in
+    let m : ℕ = x .address .0 + r .offset .0 in
+    let same : value ≡ valueBy v object x k = ve ∙ ap (λ e. v (e .symbol)) re in
+    ap (minus w t) pe
+    ∙ subst (λ k. minus w t (residue k (pos m)) ≡ residue w (pos t -ℤ pos m)) (zero-add w) (minus-residue 0 w t (pos m))
+    ∙ ap (λ t. residue w (pos t -ℤ pos m)) te
+    ∙ ap (λ y. residue w (pos (T w (S y) (signed 64 (r .addend))) -ℤ pos m)) same
+    ∙ ap (λ e. residue w (pos (T w (S (valueBy v object x k)) (signed 64 (e .addend))) -ℤ pos (x .address .0 + e .offset .0))) re
+
+-- ---- the symbol of a PCREL_LO12, by the table h and the symbol y that were read
+
+module _ (object : List ℕ) (x : Site) (j : ℕ) (r : Relocation) (read : r ≡ entry object x j) where
+  -- symbol 0 is not in the target
+  pub none-in-target : r .symbol ≡ 0 → inTarget object x j ≡ false
+  unfolding inTarget
+  none-in-target e =
+      let none : entry object x j .symbol ≡ 0 = ap (λ r. r .symbol) (sym read) ∙ e in
+      rw none
+
+  pub in-target-read : (h : Section) (y : Symbol) → h ≡ sectionAt object (symbolTable object) → y ≡ symbolAt object h (r .symbol) → 0 < r .symbol
+      → eqb (y .section) (x .index) ≡ inTarget object x j
+  unfolding inTarget
+  in-target-read h y he ye some =
+      let same : y ≡ symbol object x j = symbol-read object x j r h y read he ye in
+      let above : ltb 0 (entry object x j .symbol) ≡ true = lt-ltb 0 (entry object x j .symbol) (subst (λ (r : Relocation). 0 < r .symbol) read some) in
+      ap (λ y. eqb (y .section) (x .index)) same ∙ sym (ap (λ b. b && eqb (symbol object x j .section) (x .index)) above)
+
+-- ---- a PCREL_LO12 whose symbol breaks check 10, and one whose symbol keeps it
+
+module _ (v : ℕ → SymbolValue) (object : List ℕ) (x : Site) (j : ℕ) (rule : Rule) (here : Relocation) (f : Storing object x j rule here) (paired : takesPair (rule .calculation) ≡ true)
+    (value : SymbolValue) (value-is : value ≡ v (here .symbol)) where
+  same : value ≡ valueBy v object x j
+  same = value-is ∙ ap (λ r. v (r .symbol)) (f .read)
+
+  never-ten : {B : Type 0} → _≡_ {A = ℕ} 10 0 → B
+  never-ten z = absurd (omega arith)
+
+  refused : (b : ℕ) → symbolWell object x j (valueBy v object x j) ≡ false → Comes v object x j b 10 0
+  unfolding firstBroken
+  refused b e =
+      let ten : number (findingBy v object x j) ≡ 10 = store-number v object x j rule (f .decided) (f .shape) ∙ rw e in
+      record { number-is = sym ten; word-is = λ z. never-ten z }
+
+  -- it does not resolve
+  pub unresolved-comes : (b : ℕ) → isResolved value ≡ false → Comes v object x j b 10 0
+  unresolved-comes b e = refused b (paired-symbol v object x j rule (f .decided) paired _ ∙ rw (← same, e))
+
+  -- it is not in the target
+  pub elsewhere-comes : (b : ℕ) → isResolved value ≡ true → inTarget object x j ≡ false → Comes v object x j b 10 0
+  elsewhere-comes b e t = refused b (paired-symbol v object x j rule (f .decided) paired _ ∙ rw (← same, e, t))
+
+  -- it resolves, and is in the target
+  pub symbol-kept : isResolved value ≡ true → inTarget object x j ≡ true → symbolWell object x j (valueBy v object x j) ≡ true
+  symbol-kept e t = paired-symbol v object x j rule (f .decided) paired _ ∙ rw (← same, e, t)
+
+-- ---- what was read and decided of relocation j, and the trail before it
+
+module _ (object : List ℕ) (x : Site) (j : ℕ) (t : Trail) (d : Decision) (r : Relocation) (f : Read object x j t d r) where
+  pub shape-read : shapeBy t d r (x .target .size) ≡ shapeWell object x j
+  shape-read = rw (f .followed, f .decided, f .read) (shape-by object x j)
+
+  -- the bytes that a store finds
+  pub found-read : (rule : Rule) (shares : Bool) (last : ℕ) → d ≡ Store rule → shares ≡ sharesBy t d (r .offset .0)
+      → cond shares last (leAt (rule .size) (found object x) (r .offset .0)) ≡ cond (sharesBy t d (r .offset .0)) last (leAt (touched d) (found object x) (r .offset .0))
+  found-read rule shares last e q =
+      ap (λ b. cond b last (leAt (rule .size) (found object x) (r .offset .0))) q
+      ∙ sym (ap (λ e. cond (sharesBy t d (r .offset .0)) last (leAt (touched e) (found object x) (r .offset .0))) e)
+
+  -- the boundary of an ALIGN
+  pub boundary-read :
+      _≡_ {A = ℕ} (cond (boundaryWell Align (x .address .0 + r .offset .0) (signed 64 (r .addend))) 0 14) (cond (boundaryWell Align (P object x j) (A object x j)) 0 14)
+  boundary-read = ap (λ (r : Relocation). cond {A = ℕ} (boundaryWell Align (x .address .0 + r .offset .0) (signed 64 (r .addend))) 0 14) (f .read)
+
+  -- the addend of an ALIGN that keeps check 9
+  pub small-addend : shapeWell object x j ≡ true → d ≡ Align → r .addend ≤ 4094
+  unfolding relocationAt
+  small-addend s e =
+      let same : r .addend ≡ entry object x j .addend = ap (λ (r : Relocation). r .addend) (f .read) in
+      let few : entry object x j .addend ≤ 4094 = padded object x j s (sym (f .decided) ∙ e) (residue-lt 64 _) in
+      omega arith

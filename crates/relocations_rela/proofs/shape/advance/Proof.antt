@@ -1,0 +1,27 @@
+-- `relocations_rela::shape::advance` meets its contract.
+use Rattle.relocations_rela.specs.Trails.{advanced}
+use borrow.Author.Needs.{needs}
+use Rattle.relocations_rela.proofs.shape.advance.Statement.{statement}
+use Rattle.relocations_rela.proofs.shape.advance.Tie as tie
+
+returns : tie.Need-returns
+unfolding advanced
+returns c = rw (c .stack-width .ensures, c .before .bytes-touched .ensures, ← (c .before .before .before .is-store .ensures), c .before .before .if1 .taken)
+
+returns-2 : tie.Need-returns-2
+unfolding advanced
+returns-2 c = rw (← (c .before .is-store .ensures), c .if1 .left)
+
+pub advance-spec : {M : Type 1} → statement M
+advance-spec =
+    tie.close
+    (tie.spec
+    (λ c. search needs)
+    (λ c κs. search needs)
+    (λ c κs. search needs)
+    (λ c. search needs)
+    (λ c. search needs)
+    (λ c κs. search needs)
+    (λ c. search needs)
+    returns
+    returns-2)
