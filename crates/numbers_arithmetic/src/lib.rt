@@ -53,15 +53,12 @@ pub fn sub64(v: u64, x: u64) -> u64
     std::num::wrapping_sub_u64(v, x)
 }
 
-// The signed number that a word of 32 bits spells, modulo 2^64.
+// The signed number that a word of 32 bits spells, modulo 2^64: 2^31 is added at 32 bits and taken away at 64, by
+// adding 2^64 - 2^31. The compiler makes one instruction of it, without a jump.
 pub fn addend(word: u32) -> u64
     ensures { λ r. ⌜ r ≡ residue 64 (signed 32 word) ⌝ }
 {
-    if word < 0x8000_0000 {
-        word as u64
-    } else {
-        word as u64 + 0xffff_ffff_0000_0000
-    }
+    add64(add32(word, 0x8000_0000) as u64, 0xffff_ffff_8000_0000)
 }
 
 // Whether exactly one bit of a number is set.

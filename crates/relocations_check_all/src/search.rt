@@ -1,17 +1,14 @@
 // Checks 9 to 14 over all relocations: the first relocation that breaks a rule, and which rule it breaks. The bytes that each
 // relocation leaves are worked out on the way, so that laying only has to store them.
 ghost use mathlib.Core.Path.{_≡_};
-ghost use mathlib.Core.Bool.{true, cond};
 ghost use mathlib.Core.List.{List};
 ghost use Prim.Native.Nat.{ℕ, _+_, _^_, _≤_, _<_};
 ghost use lib.ListN.{length};
 ghost use Rattle.elf_read.specs.Headers.{sectionCount};
-ghost use Rattle.elf_read.specs.Entries.{relocationCount};
 ghost use Rattle.elf_check.specs.Rules.{maxRelocations};
 ghost use Rattle.elf_check.specs.Requires.{SoundObject};
 ghost use Rattle.placing_symbols.specs.Requires.{SymbolsOf};
 ghost use Rattle.placing_symbols.specs.Arrays.{Valued};
-ghost use Rattle.relocations_decisions.specs.Decisions.{isStore};
 ghost use Rattle.relocations_rela.specs.Sites.{count};
 ghost use Rattle.relocations_rela.specs.Requires.{SoundSite, Placed};
 ghost use Rattle.relocations_rules.specs.Search.{relocationCheck};
@@ -21,31 +18,17 @@ use elf_read::RELOCATION_SIZE;
 use order_lookup::Addresses;
 use placing_symbols::Symbols;
 use relocations_check_one::check_one;
-use relocations_decisions::bytes_touched;
-use relocations_decisions::is_store;
-use relocations_rela::shape::advance;
 use relocations_rela::shape::no_trail;
 use relocations_rela::sites::Site;
 use relocations_rela::sites::site_at;
 use relocations_rules::Finding;
 use relocations_rules::RelocationCheck;
-use relocations_types::Decision;
 use relocations_types::decide;
 
 // What is found in a site: the number of the first broken rule, or 0, and the relocation that breaks it.
 pub struct Halt {
     pub number: u64,
     pub at: usize,
-}
-
-// What the previous non-marker of the next relocation left.
-fn next_last(decision: Decision, word: u64, last: u64) -> u64
-    ensures { λ r. ⌜ r ≡ cond (isStore decision) word last ⌝ }
-{
-    if is_store(decision) {
-        return word;
-    }
-    last
 }
 
 // The finding with a number.
@@ -101,7 +84,7 @@ fn check_site(
     while j < n {
         let here = elf_read::read_relocation(object, site.rela, j);
         let decision = decide(here.kind);
-        let outcome = check_one(
+        let step = check_one(
             object,
             symbols,
             site,
@@ -115,18 +98,18 @@ fn check_site(
             made,
             j,
         );
-        if outcome.number != 0 {
+        if step.number != 0 {
             return Halt {
-                number: outcome.number,
+                number: step.number,
                 at: j,
             };
         }
         let k = base + j;
-        words[k] = outcome.word;
-        sizes[k] = bytes_touched(decision);
-        trail = advance(trail, decision, here);
-        last = next_last(decision, outcome.word, last);
-        made = outcome.made;
+        words[k] = step.word;
+        sizes[k] = step.size as u8;
+        trail = step.trail;
+        last = step.last;
+        made = step.made;
         j += 1;
     }
     Halt { number: 0, at: 0 }

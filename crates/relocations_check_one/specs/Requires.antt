@@ -4,7 +4,6 @@ use mathlib.Core.Bool.{true}
 use mathlib.Core.List.{List}
 use Prim.Native.Nat.{ℕ, _-_, _^_, _≤_, _<_}
 use lib.ListN.{length}
-use Rattle.numbers_definitions.specs.declared.SectionOffset.{SectionOffset}
 use Rattle.elf_read.specs.declared.Relocation.{Relocation}
 use Rattle.elf_read.specs.Entries.{symbolCount}
 use Rattle.elf_check.specs.Requires.{SoundObject}
@@ -15,7 +14,6 @@ use Rattle.placing_symbols.specs.Arrays.{listed, ValueArrays}
 use Rattle.relocations_types.specs.declared.Rule.{Rule}
 use Rattle.relocations_types.specs.declared.Decision.{Decision}
 use Rattle.relocations_types.specs.declared.Decision.the-variants.{Store}
-use Rattle.relocations_decisions.specs.Decisions.{takesPair}
 use Rattle.relocations_rela.specs.declared.sites.Site.{Site}
 use Rattle.relocations_rela.specs.Sites.{count, entry, decisionAt}
 use Rattle.relocations_rela.specs.declared.shape.Trail.{Trail}
@@ -23,7 +21,7 @@ use Rattle.relocations_rela.specs.Shape.{shapeWell}
 use Rattle.relocations_rela.specs.Trails.{trailAt}
 use Rattle.relocations_values.specs.Highs.{Listed}
 use Rattle.relocations_rela.specs.Requires.{There}
-use Rattle.relocations_rules.specs.Rules.{isResolved, symbol, symbolWell}
+use Rattle.relocations_rules.specs.Rules.{isResolved}
 
 -- relocation j, as it was read, which keeps check 9 and stores by a rule
 pub record Storing (object : List ℕ) (x : Site) (j : ℕ) (rule : Rule) (here : Relocation) : Type 0 where
@@ -35,13 +33,6 @@ pub record Storing (object : List ℕ) (x : Site) (j : ℕ) (rule : Rule) (here 
 -- a symbol that resolves is 0 or in the table
 abbrev pub Tabled : (ℕ → SymbolValue) → List ℕ → Type 0
 Tabled v object = (k : ℕ) → isResolved (v k) ≡ true → 0 < k → k < symbolCount object
-
--- such a relocation, which is a PCREL_LO12 and keeps check 10, and the value of its symbol
-pub record Labelled (object : List ℕ) (x : Site) (j : ℕ) (rule : Rule) (here : Relocation) (v : ℕ → SymbolValue) (label : SectionOffset) : Type 0 where
-  pub storing : Storing object x j rule here
-  pub paired : takesPair (rule .calculation) ≡ true
-  pub symbol-kept : symbolWell object x j (v (entry object x j .symbol)) ≡ true
-  pub label-is : label ≡ symbol object x j .value
 
 -- the list of high halves: room for all of them, and if it was made they are listed; `made` is then one more than their number
 pub record Listing (object : List ℕ) (x : Site) (l : List ℕ) (made : ℕ) : Type 0 where

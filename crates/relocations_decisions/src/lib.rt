@@ -81,7 +81,7 @@ fn value_bits(field: Field) -> u32
 }
 
 // The width of an ADD, SUB or SET in bits, or 0 for any other calculation.
-fn stack_bits(rule: Rule) -> u32
+pub fn stack_bits(rule: Rule) -> u32
     ensures { λ r. ⌜ r ≡ stackBits rule ⌝ }
 {
     let calculation = rule.calculation;

@@ -32,9 +32,12 @@ unfoldable pub trailAt : List ℕ → Site → ℕ → Trail
 trailAt object x zero = noTrail
 trailAt object x (suc j) = advanced (trailAt object x j) (decisionAt object x j) (entry object x j)
 
--- "both are of 33..40, 52..56 with equal offset and width", by a trail
-unfoldable pub sharesBy : Trail → Decision → ℕ → Bool
-sharesBy t d at = eqb (t .start) at && ltb 0 (t .width) && eqb (t .width) (stackWidth d)
+-- "both are of 33..40, 52..56 with equal offset and width", by a trail, and by the width as a stack, which is 0 for any other type
+unfoldable pub sharesWidth : Trail → ℕ → ℕ → Bool
+sharesWidth t width at = eqb (t .start) at && ltb 0 (t .width) && eqb (t .width) width
+
+abbrev pub sharesBy : Trail → Decision → ℕ → Bool
+sharesBy t d at = sharesWidth t (stackWidth d) at
 
 -- check 9 by a trail
 unfoldable pub shapeBy : Trail → Decision → Relocation → ℕ → Bool

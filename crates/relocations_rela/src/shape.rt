@@ -1,16 +1,16 @@
 // Check 9: type, offset, overlap and addend of a relocation.
 ghost use mathlib.Core.Path.{_≡_};
-ghost use Prim.Native.Nat.{_<_, _^_};
+ghost use Prim.Native.Nat.{_<_};
 ghost use Rattle.numbers_definitions.specs.Whole.{signed};
+ghost use Rattle.relocations_decisions.specs.Decisions.{stackWidth};
 ghost use Rattle.relocations_rela.specs.Shape.{addendWell};
-ghost use Rattle.relocations_rela.specs.Trails.{noTrail, advanced, sharesBy, shapeBy};
+ghost use Rattle.relocations_rela.specs.Trails.{noTrail, advanced, sharesWidth, sharesBy, shapeBy};
 use elf_read::Relocation;
 use numbers_definitions::SectionOffset;
 use relocations_decisions::bytes_touched;
 use relocations_decisions::is_refused;
 use relocations_decisions::is_store;
 use relocations_decisions::needs_pair;
-use relocations_decisions::stack_width;
 use relocations_types::Decision;
 
 // The previous non-marker of a relocation, among the relocations of its site.
@@ -40,8 +40,9 @@ pub fn no_trail() -> Trail
     }
 }
 
-// The trail with one more relocation.
-pub fn advance(trail: Trail, decision: Decision, here: Relocation) -> Trail
+// The trail with one more relocation. `width` is its width as a stack.
+pub fn advance(trail: Trail, decision: Decision, width: u64, here: Relocation) -> Trail
+    requires { ⌜ width ≡ stackWidth decision ⌝ }
     ensures { λ r. ⌜ r ≡ advanced trail decision here ⌝ }
 {
     let offset = here.offset.0 as u64;
@@ -50,7 +51,7 @@ pub fn advance(trail: Trail, decision: Decision, here: Relocation) -> Trail
             offset,
             start: offset,
             end: offset + bytes_touched(decision) as u64,
-            width: stack_width(decision) as u64,
+            width,
         };
     }
     Trail {
@@ -61,11 +62,11 @@ pub fn advance(trail: Trail, decision: Decision, here: Relocation) -> Trail
     }
 }
 
-// Whether a relocation and the previous non-marker are ADD, SUB or SET at one place with one width.
-pub fn shares_place(trail: Trail, decision: Decision, at: SectionOffset) -> bool
-    ensures { λ r. ⌜ r ≡ sharesBy trail decision (at .0) ⌝ }
+// Whether a relocation and the previous non-marker are ADD, SUB or SET at one place with one width. `width` is that of the
+// relocation as a stack.
+pub fn shares_place(trail: Trail, width: u64, at: SectionOffset) -> bool
+    ensures { λ r. ⌜ r ≡ sharesWidth trail width (at .0) ⌝ }
 {
-    let width = stack_width(decision) as u64;
     (trail.start == at.0 as u64) & (0 < trail.width) & (trail.width == width)
 }
 
@@ -91,14 +92,20 @@ fn is_padding(at: SectionOffset, size: u32, addend: u64) -> bool
     (addend % 2 == 0) & (at.0 as u64 + addend <= size as u64)
 }
 
-// Check 9.
-pub fn is_shape_well(trail: Trail, decision: Decision, here: Relocation, size: u32) -> bool
+// Check 9. `shares` tells whether the relocation shares its place with the previous non-marker.
+pub fn is_shape_well(
+    trail: Trail,
+    decision: Decision,
+    shares: bool,
+    here: Relocation,
+    size: u32,
+) -> bool
+    requires { ⌜ shares ≡ sharesBy trail decision (here .offset .0) ⌝ }
     ensures { λ r. ⌜ r ≡ shapeBy trail decision here size ⌝ }
 {
     let offset = here.offset.0 as u64;
     let rises = trail.offset <= offset;
     let inside = offset + bytes_touched(decision) as u64 <= size as u64;
-    let shares = shares_place(trail, decision, here.offset);
     let clear = !is_store(decision) | (trail.end <= offset) | shares;
     !is_refused(decision)
         & rises

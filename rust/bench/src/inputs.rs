@@ -78,6 +78,7 @@ pub fn rows() -> Vec<Row> {
         ..sized("falling", MOST, pairs::falling(MOST))
     });
     rows.push(sized("many-symbols", 64, others::many_symbols(64)));
+    rows.push(done("many-sections", 15, others::many_sections()));
     rows.extend(["many-relocations", "gcc-relaxed"].map(others::real));
     rows.push(done("no-relocations", 0, others::no_relocations()));
     rows.push(Row {

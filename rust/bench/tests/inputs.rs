@@ -153,6 +153,7 @@ fn others() {
     let object = named("many-symbols-64").input.object;
     let size = get(&object, get(&object, 32, 4) + 40 * 3 + 20, 4);
     assert_eq!(size / 16, 1_024);
+    assert_eq!(get(&named("many-sections").input.object, 48, 2), 32);
     assert_eq!(order_of_types("refused-last-4096").last(), Some(&17));
     let most = testing::given::objects()
         .into_iter()

@@ -1,5 +1,5 @@
 -- The bytes that a relocation finds are those that the previous non-marker left, if they share their place, and otherwise the object's.
-use mathlib.Core.Logic.{_⊎_, inl, inr, ⊎-elim}
+use mathlib.Core.Logic.{_⊎_, inr, ⊎-elim}
 use mathlib.Core.Path.{_≡_, refl, sym, ap, _∙_}
 use mathlib.Core.Bool.{Bool, true, false, not, cond, _&&_, _||_}
 use mathlib.Core.List.{List}
@@ -26,12 +26,11 @@ use Rattle.relocations_rela.specs.declared.shape.Previous.{Previous}
 use Rattle.relocations_rela.specs.declared.shape.Previous.the-variants.{Nothing, Entry}
 use Rattle.relocations_rela.specs.Sites.{offset, decisionAt, P, found}
 use Rattle.relocations_rela.specs.Shape.{end, previous, clears, noOverlap, sharesPlace, shapeWell}
-use Rattle.relocations_rela.specs.Trails.{trailAt, sharesBy}
+use Rattle.relocations_rela.specs.Trails.{trailAt, sharesWidth, sharesBy}
 use Rattle.relocations_rela.specs.Requires.{SoundSite}
-use Rattle.relocations_rela.proofs.Laws.Sites.{found-length, store-inside}
+use Rattle.relocations_rela.proofs.Laws.Sites.{store-inside}
 use Rattle.relocations_rela.proofs.Laws.Shape.{shape-inside, shape-clear}
 use Rattle.relocations_rela.proofs.Laws.Trails.{Says, trail-says}
-use Rattle.relocations_bytes.specs.Patches.{patched}
 use Rattle.relocations_bytes.specs.Sections.{sumAt, pairDistance, applied, after}
 use Rattle.relocations_bytes.specs.Words.{word, wordFrom, wordAt, lastWord}
 use Rattle.relocations_bytes.proofs.Laws.Sections.{applied-store, applied-marker}
@@ -120,7 +119,7 @@ module _ (object order addresses : List ℕ) (x : Site) (sound : SoundSite objec
     width : t .width ≡ stackWidth (decisionAt object x j)
 
   shared : sharesBy t (decisionAt object x j) at ≡ true → Shared
-  unfolding sharesBy
+  unfolding sharesWidth
   shared q =
       let a : Bool = eqb (t .start) at in
       let b : Bool = ltb 0 (t .width) in
@@ -187,7 +186,7 @@ module _ (object order addresses : List ℕ) (x : Site) (sound : SoundSite objec
 
   -- the previous non-marker ends at or before the place, if it is not shared
   cleared : (k : ℕ) → previous object x j ≡ Entry k → Says object x (Entry k) t → sharesBy t (decisionAt object x j) at ≡ false → end object x k ≤ at
-  unfolding noOverlap sharesBy sharesPlace
+  unfolding noOverlap sharesWidth sharesPlace
   cleared k p says none =
       let clear : not (isStore (decisionAt object x j)) || clears object x j (previous object x j) ≡ true = shape-clear object x j (kept j (omega arith)) in
       let here : (leb (end object x k) at || sharesPlace object x k j) ≡ true = rw (store, p) at clear in

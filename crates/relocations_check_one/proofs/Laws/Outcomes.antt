@@ -1,6 +1,6 @@
 -- Checks 9 to 14 of a relocation, by what its type asks for.
 use mathlib.Core.Path.{_≡_, refl, sym, ap, _∙_, subst}
-use mathlib.Core.Bool.{Bool, true, false, not, cond, _&&_, _||_}
+use mathlib.Core.Bool.{Bool, true, false, not, cond, _&&_}
 use mathlib.Core.List.{List}
 use Prim.Native.Nat.{ℕ, _+_, _^_, _≤_, _<_}
 use lib.IntN.{ℤ, pos, _+ℤ_, _-ℤ_}
@@ -10,13 +10,13 @@ use native.Mathlib.Omega.{arith}
 use borrow.Author.Tests.{lt-ltb}
 use Rattle.numbers_definitions.specs.Bytes.{leAt}
 use Rattle.numbers_definitions.specs.Whole.{residue, signed, plus, minus}
-use Rattle.numbers_definitions.proofs.Laws.Whole.{residue-lt, residue-signed, minus-residue}
+use Rattle.numbers_definitions.proofs.Laws.Whole.{residue-signed, minus-residue}
 use Rattle.numbers_definitions.proofs.Laws.Tests.{never}
 use Rattle.elf_read.specs.declared.Relocation.{Relocation}
 use Rattle.elf_read.specs.declared.Section.{Section}
 use Rattle.elf_read.specs.declared.Symbol.{Symbol}
 use Rattle.elf_read.specs.Sections.{sectionAt, symbolTable}
-use Rattle.elf_read.specs.Entries.{symbolAt, relocationAt}
+use Rattle.elf_read.specs.Entries.{symbolAt}
 use Rattle.elf_read.specs.Headers.{addressWidth}
 use Rattle.elf_read.proofs.Laws.Headers.{address-narrow}
 use Rattle.placing_symbols.specs.declared.SymbolValue.{SymbolValue}
@@ -25,17 +25,18 @@ use Rattle.relocations_types.specs.declared.Decision.the-variants.{Marker, Alig
 use Rattle.relocations_types.specs.declared.Decision.{Decision}
 use Rattle.relocations_types.specs.Types.{decision}
 use Rattle.relocations_types.specs.declared.Rule.{Rule}
-use Rattle.relocations_decisions.specs.Decisions.{isStore, touched, takesPair}
+use Rattle.relocations_decisions.specs.Decisions.{isStore, touched, stackWidth, takesPair}
 use Rattle.relocations_rela.specs.declared.sites.Site.{Site}
 use Rattle.relocations_rela.specs.Sites.{entry, decisionAt, A, P, found}
 use Rattle.relocations_rela.specs.Shape.{end, shapeWell}
 use Rattle.relocations_rela.specs.declared.shape.Trail.{Trail}
 use Rattle.relocations_rela.specs.Trails.{sharesBy, shapeBy}
-use Rattle.relocations_rela.proofs.Laws.Shape.{shape-inside, padded}
+use Rattle.relocations_rela.proofs.Laws.Shape.{shape-inside}
 use Rattle.relocations_rela.proofs.Laws.Trails.{shape-by}
 use Rattle.relocations_values.specs.Values.{S, T}
+use Rattle.relocations_values.specs.declared.pairs.Pair.{Pair}
 use Rattle.relocations_values.specs.Pairs.{pairOf}
-use Rattle.relocations_rules.specs.Rules.{isResolved, inTarget, symbol, symbolWell, asksWell, formWell, isOne, pairWell, reachesWell, distanceWell, boundaryWell}
+use Rattle.relocations_rules.specs.Rules.{isResolved, inTarget, symbol, symbolWell, formWell, isOne, pairWell, reachesWell, distanceWell, boundaryWell}
 use Rattle.relocations_rules.specs.declared.Finding.the-variants.{Kept, OffBoundary}
 use Rattle.relocations_rules.proofs.Laws.Rules.{reach-read}
 use Rattle.relocations_rules.specs.Search.{number, firstBroken, finding}
@@ -44,7 +45,7 @@ use Rattle.relocations_bytes.specs.Patches.{patched}
 use Rattle.relocations_bytes.specs.Words.{word, wordFrom}
 use Rattle.relocations_bytes.proofs.Laws.Patches.{same-patch}
 use Rattle.relocations_bytes.proofs.Laws.Sections.{symbol-read, place-read}
-use Rattle.relocations_check_one.specs.Outcomes.{storeNumber, valueBy, targetBy, findingBy, sumBy, distanceBy, pairDistanceBy, wordBy, Comes}
+use Rattle.relocations_check_one.specs.Outcomes.{storeNumber, valueBy, targetBy, findingBy, sumBy, distanceBy, distanceOfBy, pairDistanceBy, wordBy, Partnered, Comes}
 use Rattle.relocations_check_one.specs.Requires.{Storing, Read}
 
 -- ---- with the values of an object and an order
@@ -125,6 +126,33 @@ module _ (v : ℕ → SymbolValue) (object : List ℕ) (x : Site) (j : ℕ) wher
       go Align q = refl
       go Refused q = refl
 
+-- ---- what a marker does not have
+
+pub marker-width : (d : Decision) → isStore d ≡ false → 0 ≡ stackWidth d
+marker-width (Store r) e = never (sym e)
+marker-width Marker e = refl
+marker-width Align e = refl
+marker-width Refused e = refl
+
+pub marker-bytes : (d : Decision) → isStore d ≡ false → 0 ≡ touched d
+marker-bytes (Store r) e = never (sym e)
+marker-bytes Marker e = refl
+marker-bytes Align e = refl
+marker-bytes Refused e = refl
+
+-- ---- the first of 10 to 13
+
+-- where 10 is broken, nobody looks at 12
+any-pair : (symbols forms p q reaches : Bool) → (symbols ≡ true → p ≡ q) → storeNumber symbols forms p reaches ≡ storeNumber symbols forms q reaches
+unfolding firstBroken
+any-pair true forms p q reaches e = ap (λ p. storeNumber true forms p reaches) (e refl)
+any-pair false forms p q reaches e = refl
+
+pub first-symbol : (symbols forms pairs reaches : Bool) → storeNumber symbols forms pairs reaches ≡ 0 → symbols ≡ true
+unfolding firstBroken
+first-symbol true forms pairs reaches e = refl
+first-symbol false forms pairs reaches e = absurd (omega arith)
+
 -- ---- by what was read and worked out: y is S + A in two's complement, t is T, p is P, d is the pair's T - P
 
 module _ (v : ℕ → SymbolValue) (object : List ℕ) (x : Site) (j : ℕ) (rule : Rule) (here : Relocation) (f : Storing object x j rule here) (value : SymbolValue)
@@ -145,13 +173,13 @@ module _ (v : ℕ → SymbolValue) (object : List ℕ) (x : Site) (j : ℕ) (rul
       ∙ ap (λ d. distanceWell w d (targetBy v object x j) (P object x j)) (f .decided)
 
   pub number-read : (n t : ℕ) (symbols forms pairs reaches : Bool) → n ≡ storeNumber symbols forms pairs reaches → symbols ≡ symbolWell object x j (valueBy v object x j)
-      → forms ≡ formWell object x j → pairs ≡ pairWell object x j → reaches ≡ reachesWell w (rule .calculation) (rule .field) t p → t ≡ T w (S value) (signed 64 (here .addend))
+      → forms ≡ formWell object x j → (symbols ≡ true → pairs ≡ pairWell object x j) → reaches ≡ reachesWell w (rule .calculation) (rule .field) t p → t ≡ T w (S value) (signed 64 (here .addend))
       → n ≡ number (findingBy v object x j)
   number-read n t symbols forms pairs reaches e se fe pe re te =
       e
-      ∙ ap (λ b. storeNumber b forms pairs reaches) se
-      ∙ ap (λ b. storeNumber (symbolWell object x j (valueBy v object x j)) b pairs reaches) fe
-      ∙ ap (λ b. storeNumber (symbolWell object x j (valueBy v object x j)) (formWell object x j) b reaches) pe
+      ∙ any-pair symbols forms pairs (pairWell object x j) reaches pe
+      ∙ ap (λ b. storeNumber b forms (pairWell object x j) reaches) se
+      ∙ ap (λ b. storeNumber (symbolWell object x j (valueBy v object x j)) b (pairWell object x j) reaches) fe
       ∙ ap (λ b. storeNumber (symbolWell object x j (valueBy v object x j)) (formWell object x j) (pairWell object x j) b) (re ∙ reach-is t te)
       ∙ sym (store-number v object x j rule (f .decided) (f .shape))
 
@@ -203,33 +231,47 @@ module _ (object : List ℕ) (x : Site) (j : ℕ) (r : Relocation) (read : r ≡
       let above : ltb 0 (entry object x j .symbol) ≡ true = lt-ltb 0 (entry object x j .symbol) (subst (λ (r : Relocation). 0 < r .symbol) read some) in
       ap (λ y. eqb (y .section) (x .index)) same ∙ sym (ap (λ b. b && eqb (symbol object x j .section) (x .index)) above)
 
--- ---- a PCREL_LO12 whose symbol breaks check 10, and one whose symbol keeps it
+-- ---- the symbol of a store that keeps 9, and the high half that it takes
 
-module _ (v : ℕ → SymbolValue) (object : List ℕ) (x : Site) (j : ℕ) (rule : Rule) (here : Relocation) (f : Storing object x j rule here) (paired : takesPair (rule .calculation) ≡ true)
-    (value : SymbolValue) (value-is : value ≡ v (here .symbol)) where
-  same : value ≡ valueBy v object x j
-  same = value-is ∙ ap (λ r. v (r .symbol)) (f .read)
+module _ (v : ℕ → SymbolValue) (object : List ℕ) (x : Site) (j : ℕ) (rule : Rule) (here : Relocation) (f : Storing object x j rule here) where
+  same : v (here .symbol) ≡ valueBy v object x j
+  same = ap (λ r. v (r .symbol)) (f .read)
 
-  never-ten : {B : Type 0} → _≡_ {A = ℕ} 10 0 → B
-  never-ten z = absurd (omega arith)
+  pub unresolved-comes : (b : ℕ) → isResolved (v (here .symbol)) ≡ false → Comes v object x j b 10 0
+  unfolding firstBroken symbolWell
+  unresolved-comes b e =
+      let out : symbolWell object x j (valueBy v object x j) ≡ false = rw (f .decided, ← same, e) in
+      let ten : number (findingBy v object x j) ≡ 10 = store-number v object x j rule (f .decided) (f .shape) ∙ rw out in
+      record { number-is = sym ten; word-is = λ z. absurd (omega arith) }
 
-  refused : (b : ℕ) → symbolWell object x j (valueBy v object x j) ≡ false → Comes v object x j b 10 0
-  unfolding firstBroken
-  refused b e =
-      let ten : number (findingBy v object x j) ≡ 10 = store-number v object x j rule (f .decided) (f .shape) ∙ rw e in
-      record { number-is = sym ten; word-is = λ z. never-ten z }
+  module _ (resolved : isResolved (v (here .symbol)) ≡ true) where
+    -- any type but PCREL_LO12
+    pub plain-partnered : takesPair (rule .calculation) ≡ false → (d : ℕ) → Partnered v object x j (rule .calculation) 0 d
+    plain-partnered plain d =
+        record {
+          symbol-is = sym (plain-symbol v object x j rule (f .decided) plain _ ∙ rw (← same, resolved));
+          pair-is = λ _. sym (plain-pair v object x j rule (f .decided) plain);
+          distance-is = λ _ e. never (sym plain ∙ e);
+        }
 
-  -- it does not resolve
-  pub unresolved-comes : (b : ℕ) → isResolved value ≡ false → Comes v object x j b 10 0
-  unresolved-comes b e = refused b (paired-symbol v object x j rule (f .decided) paired _ ∙ rw (← same, e))
+    module _ (paired : takesPair (rule .calculation) ≡ true) where
+      pub elsewhere-partnered : inTarget object x j ≡ false → (d : ℕ) → Partnered v object x j (rule .calculation) 10 d
+      elsewhere-partnered t d =
+          record {
+            symbol-is = sym (paired-symbol v object x j rule (f .decided) paired _ ∙ rw (← same, resolved, t));
+            pair-is = λ q. never q;
+            distance-is = λ q _. never q;
+          }
 
-  -- it is not in the target
-  pub elsewhere-comes : (b : ℕ) → isResolved value ≡ true → inTarget object x j ≡ false → Comes v object x j b 10 0
-  elsewhere-comes b e t = refused b (paired-symbol v object x j rule (f .decided) paired _ ∙ rw (← same, e, t))
-
-  -- it resolves, and is in the target
-  pub symbol-kept : isResolved value ≡ true → inTarget object x j ≡ true → symbolWell object x j (valueBy v object x j) ≡ true
-  symbol-kept e t = paired-symbol v object x j rule (f .decided) paired _ ∙ rw (← same, e, t)
+      pub target-partnered : inTarget object x j ≡ true → (pair : Pair) (n d : ℕ) → pair ≡ pairOf object x (symbol object x j .value) → not (eqb n 10) ≡ true → not (eqb n 12) ≡ isOne pair
+          → d ≡ distanceOfBy v object x pair
+          → Partnered v object x j (rule .calculation) n d
+      target-partnered t pair n d pe ten one de =
+          record {
+            symbol-is = ten ∙ sym (paired-symbol v object x j rule (f .decided) paired _ ∙ rw (← same, resolved, t));
+            pair-is = λ _. one ∙ ap isOne pe ∙ sym (paired-pair v object x j rule (f .decided) paired);
+            distance-is = λ _ _. de ∙ ap (distanceOfBy v object x) pe;
+          }
 
 -- ---- what was read and decided of relocation j, and the trail before it
 
@@ -244,15 +286,34 @@ module _ (object : List ℕ) (x : Site) (j : ℕ) (t : Trail) (d : Decision) (r 
       ap (λ b. cond b last (leAt (rule .size) (found object x) (r .offset .0))) q
       ∙ sym (ap (λ e. cond (sharesBy t d (r .offset .0)) last (leAt (touched e) (found object x) (r .offset .0))) e)
 
-  -- the boundary of an ALIGN
-  pub boundary-read :
-      _≡_ {A = ℕ} (cond (boundaryWell Align (x .address .0 + r .offset .0) (signed 64 (r .addend))) 0 14) (cond (boundaryWell Align (P object x j) (A object x j)) 0 14)
-  boundary-read = ap (λ (r : Relocation). cond {A = ℕ} (boundaryWell Align (x .address .0 + r .offset .0) (signed 64 (r .addend))) 0 14) (f .read)
+  -- what breaks check 9
+  pub shape-comes : (v : ℕ → SymbolValue) (b n w : ℕ) → shapeBy t d r (x .target .size) ≡ false → n ≡ 9 → Comes v object x j b n w
+  shape-comes v b n w e ne =
+      let nine : number (findingBy v object x j) ≡ 9 = misshapen v object x j (sym shape-read ∙ e) in
+      record { number-is = ne ∙ sym nine; word-is = λ z. absurd (omega arith) }
 
-  -- the addend of an ALIGN that keeps check 9
-  pub small-addend : shapeWell object x j ≡ true → d ≡ Align → r .addend ≤ 4094
-  unfolding relocationAt
-  small-addend s e =
-      let same : r .addend ≡ entry object x j .addend = ap (λ (r : Relocation). r .addend) (f .read) in
-      let few : entry object x j .addend ≤ 4094 = padded object x j s (sym (f .decided) ∙ e) (residue-lt 64 _) in
-      omega arith
+  -- markers
+  pub align-comes : (v : ℕ → SymbolValue) (b n w : ℕ) → d ≡ Align
+      → n ≡ cond (shapeBy t Align r (x .target .size)) (cond (boundaryWell Align (x .address .0 + r .offset .0) (signed 64 (r .addend))) 0 14) 9
+      → (n ≡ 0 → w ≡ 0)
+      → Comes v object x j b n w
+  align-comes v b n w e ne we =
+      record { number-is = ne ∙ rw (← e, shape-read, f .read) (go (shapeWell object x j) refl); word-is = λ z. we z ∙ no-word v object x j b (ap isStore align) }
+    where
+      align : decisionAt object x j ≡ Align
+      align = sym (f .decided) ∙ e
+
+      go : (k : Bool) → shapeWell object x j ≡ k → cond k (cond (boundaryWell Align (P object x j) (A object x j)) 0 14) 9 ≡ number (findingBy v object x j)
+      go true q = sym (align-number v object x j align q)
+      go false q = sym (misshapen v object x j q)
+
+  pub marker-comes : (v : ℕ → SymbolValue) (b n w : ℕ) → d ≡ Marker → n ≡ cond (shapeBy t Marker r (x .target .size)) 0 9 → (n ≡ 0 → w ≡ 0) → Comes v object x j b n w
+  marker-comes v b n w e ne we =
+      record { number-is = ne ∙ rw (← e, shape-read) (go (shapeWell object x j) refl); word-is = λ z. we z ∙ no-word v object x j b (ap isStore marker) }
+    where
+      marker : decisionAt object x j ≡ Marker
+      marker = sym (f .decided) ∙ e
+
+      go : (k : Bool) → shapeWell object x j ≡ k → cond k 0 9 ≡ number (findingBy v object x j)
+      go true q = sym (marker-number v object x j marker q)
+      go false q = sym (misshapen v object x j q)

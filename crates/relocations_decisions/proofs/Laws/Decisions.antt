@@ -110,7 +110,7 @@ width-some (suc n) e = omega arith
 -- ---- the one line that gives a pair
 
 -- what holds of each line and of a refusal holds of every decision
-abbrev Each : (Decision → Type 0) → List Line → Type 0
+abbrev pub Each : (Decision → Type 0) → List Line → Type 0
 Each Q [] = Q Refused
 Each Q (l ∷ ls) = Q (l .decisionAt) × Each Q ls
 
@@ -123,12 +123,16 @@ each Q (l ∷ ls) q t = go (among t (l .types)) (each Q ls (q .1) t)
     go true rest = q .0
     go false rest = rest
 
+pub each-decided : (Q : Decision → Type 0) → Each Q table → (t : ℕ) → Q (decision t)
+unfolding decision
+each-decided Q q t = each Q table q t
+
 abbrev OnlyPairing : Decision → Type 0
 OnlyPairing d = givesPair d ≡ true → d ≡ pairing
 
 pub pair-is : (t : ℕ) → givesPair (decision t) ≡ true → decision t ≡ pairing
-unfolding decision table
-pair-is t = each OnlyPairing table (never, (never, (never, (never, (never, (never, (never, (never, (never, ((λ e. refl), (never, (never, (never, (never, (never, (never, (never, (never, (never, (never, (never, (never, (never, (never, (never, (never, (never, (never, never)))))))))))))))))))))))))))) t
+unfolding table
+pair-is t = each-decided OnlyPairing (never, (never, (never, (never, (never, (never, (never, (never, (never, ((λ e. refl), (never, (never, (never, (never, (never, (never, (never, (never, (never, (never, (never, (never, (never, (never, (never, (never, (never, (never, never)))))))))))))))))))))))))))) t
 
 -- a line that gives a pair has the type
 unfoldable givesAt : ℕ → List Line → Bool

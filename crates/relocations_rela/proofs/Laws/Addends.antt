@@ -1,5 +1,5 @@
 -- Addends in two's complement.
-use mathlib.Core.Path.{_≡_, refl}
+use mathlib.Core.Path.{_≡_, refl, sym, _∙_}
 use mathlib.Core.Bool.{true, false, not, _&&_, _||_}
 use mathlib.Core.List.{List}
 use Prim.Native.Nat.{ℕ, suc, _+_, _-_, _*_, _%_, _^_, _≤_, _<_}
@@ -11,6 +11,7 @@ use borrow.Author.Tests.{lt-ltb, le-ltb, le-leb, lt-leb, ne-eqb}
 use Rattle.numbers_definitions.specs.Bytes.{leAt}
 use Rattle.numbers_definitions.specs.Whole.{residue, signed, within, even}
 use Rattle.numbers_definitions.proofs.Laws.Whole.{sub-back, signed-residue}
+use Rattle.numbers_definitions.proofs.Laws.Tests.{never}
 use Rattle.elf_read.specs.Entries.{relocationAt}
 use Rattle.relocations_types.specs.declared.Decision.{Decision}
 use Rattle.relocations_types.specs.declared.Decision.the-variants.{Marker, Align, Store, Refused}
@@ -52,6 +53,13 @@ padding-refused at size a h b = go (decLt (2 * a) (2 ^ 64))
     go (no l) =
         let none : leb (suc (2 ^ 64 - suc a)) 0 ≡ false = lt-leb (suc (2 ^ 64 - suc a)) 0 (omega arith) in
         rw (signed-high 64 a (omega arith) b, none)
+
+pub padded-addend : (at size a : ℕ) → addendWell Align at size (signed 64 a) ≡ true → a < 2 ^ 64 → a ≤ 4094
+padded-addend at size a kept b = go (decLt 4094 a)
+  where
+    go : Dec (4094 < a) → a ≤ 4094
+    go (no l) = omega arith
+    go (yes l) = never (sym (padding-refused at size a l b) ∙ kept)
 
 pub padding-is : (at size a : ℕ) → a ≤ 4094 → addendWell Align at size (signed 64 a) ≡ (eqb (a % 2) 0 && leb (at + a) size)
 unfolding within even

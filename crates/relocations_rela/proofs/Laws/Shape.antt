@@ -4,17 +4,16 @@ use mathlib.Core.Bool.{Bool, true, false, not, cond}
 use mathlib.Core.List.{List}
 use Prim.Native.Nat.{ℕ, zero, suc, _-_, _^_, _≤_, _<_}
 use native.Mathlib.Omega.{arith}
-use native.Mathlib.Decide.{decLt}
 use lib.Dec.{leb}
 use borrow.Author.Tests.{leb-true, not-true}
-use Rattle.numbers_definitions.proofs.Laws.Tests.{and-left, and-right, never}
+use Rattle.numbers_definitions.proofs.Laws.Tests.{and-left, and-right}
 use Rattle.relocations_types.specs.declared.Decision.the-variants.{Align}
 use Rattle.relocations_rela.specs.declared.sites.Site.{Site}
 use Rattle.relocations_rela.specs.declared.shape.Previous.the-variants.{Entry}
 use Rattle.relocations_rela.specs.Sites.{entry, offset, decisionAt, A}
 use Rattle.relocations_decisions.specs.Decisions.{isStore, isRefused}
 use Rattle.relocations_rela.specs.Shape.{end, neverFalls, staysInside, previous, noOverlap, addendWell, shapeWell}
-use Rattle.relocations_rela.proofs.Laws.Addends.{padding-refused}
+use Rattle.relocations_rela.proofs.Laws.Addends.{padded-addend}
 
 module _ (object : List ℕ) (x : Site) where
   -- the previous non-marker has a lower number
@@ -68,11 +67,6 @@ module _ (object : List ℕ) (x : Site) (j : ℕ) (kept : shapeWell object x j �
 
 -- the addend of an ALIGN is at most 4,094
 pub padded : (object : List ℕ) (x : Site) (j : ℕ) → shapeWell object x j ≡ true → decisionAt object x j ≡ Align → entry object x j .addend < 2 ^ 64 → entry object x j .addend ≤ 4094
-padded object x j kept e b = go (decLt 4094 (entry object x j .addend))
-  where
-    go : Dec (4094 < entry object x j .addend) → entry object x j .addend ≤ 4094
-    go (no l) = omega arith
-    go (yes l) =
-        let out : addendWell (decisionAt object x j) (offset object x j) (x .target .size) (A object x j) ≡ false =
-        ap (λ d. addendWell d (offset object x j) (x .target .size) (A object x j)) e ∙ padding-refused (offset object x j) (x .target .size) (entry object x j .addend) l b in
-        never (sym out ∙ shape-addend object x j kept)
+padded object x j kept e b =
+    padded-addend (offset object x j) (x .target .size) (entry object x j .addend)
+    (sym (ap (λ d. addendWell d (offset object x j) (x .target .size) (A object x j)) e) ∙ shape-addend object x j kept) b

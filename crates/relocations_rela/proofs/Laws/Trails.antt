@@ -1,20 +1,24 @@
 -- Check 9 by a trail is check 9.
-use mathlib.Core.Path.{_≡_, refl, sym, ap, _∙_}
+use mathlib.Core.Path.{_≡_, refl, ap, _∙_}
 use mathlib.Core.Bool.{Bool, true, false, not, cond, _&&_, _||_}
 use mathlib.Core.List.{List}
-use Prim.Native.Nat.{ℕ, zero, suc}
+use Prim.Native.Nat.{ℕ, zero, suc, _^_, _≤_, _<_}
 use native.Mathlib.Omega.{arith}
-use lib.Dec.{leb}
-use borrow.Author.Tests.{le-leb}
-use Rattle.relocations_types.specs.declared.Decision.{Decision}
-use Rattle.relocations_decisions.specs.Decisions.{isStore, touched, stackWidth}
+use lib.Dec.{leb, ltb, eqb}
+use borrow.Author.Tests.{le-leb, lt-ltb, ne-eqb}
+use Rattle.numbers_definitions.specs.Whole.{signed}
+use Rattle.numbers_definitions.proofs.Laws.Tests.{and-left, and-right}
+use Rattle.elf_read.specs.declared.Relocation.{Relocation}
+use Rattle.relocations_types.specs.declared.Decision.the-variants.{Align}
+use Rattle.relocations_decisions.specs.Decisions.{isStore, stackWidth}
 use Rattle.relocations_rela.specs.declared.sites.Site.{Site}
 use Rattle.relocations_rela.specs.declared.shape.Trail.{Trail}
 use Rattle.relocations_rela.specs.declared.shape.Previous.{Previous}
 use Rattle.relocations_rela.specs.declared.shape.Previous.the-variants.{Nothing, Entry}
 use Rattle.relocations_rela.specs.Sites.{entry, offset, decisionAt}
-use Rattle.relocations_rela.specs.Shape.{end, neverFalls, staysInside, previous, sharesPlace, clears, noOverlap, shapeWell}
-use Rattle.relocations_rela.specs.Trails.{advanced, trailAt, sharesBy, shapeBy}
+use Rattle.relocations_rela.specs.Shape.{end, neverFalls, staysInside, previous, sharesPlace, clears, noOverlap, addendWell, shapeWell}
+use Rattle.relocations_rela.proofs.Laws.Addends.{padded-addend}
+use Rattle.relocations_rela.specs.Trails.{advanced, trailAt, sharesWidth, sharesBy, shapeBy}
 
 module _ (object : List ℕ) (x : Site) where
   -- what a trail says about the previous non-marker
@@ -49,7 +53,7 @@ module _ (object : List ℕ) (x : Site) where
   or-assoc false b c = refl
 
   clear : (j : ℕ) → (leb (trailAt object x j .end) (offset object x j) || sharesBy (trailAt object x j) (decisionAt object x j) (offset object x j)) ≡ clears object x j (previous object x j)
-  unfolding sharesBy sharesPlace
+  unfolding sharesWidth sharesPlace
   clear j = go (previous object x j) (trail-says j)
     where
       t : Trail
@@ -66,3 +70,20 @@ module _ (object : List ℕ) (x : Site) where
       let apart : (s || leb (trailAt object x j .end) (offset object x j) || sharesBy (trailAt object x j) (decisionAt object x j) (offset object x j)) ≡ (s || clears object x j (previous object x j)) =
       or-assoc s _ _ ∙ ap (λ b. s || b) (clear j) in
       rw (rises j, apart)
+
+-- what has no width as a stack shares no place
+pub no-width-shares : (t : Trail) (at : ℕ) → sharesWidth t 0 at ≡ false
+unfolding sharesWidth
+no-width-shares t at = go (eqb (t .start) at) (t .width)
+  where
+    go : (b : Bool) (w : ℕ) → (b && ltb 0 w && eqb w 0) ≡ false
+    go false w = refl
+    go true zero = refl
+    go true (suc w) = rw (lt-ltb 0 (suc w) (omega arith), ne-eqb (suc w) 0 (λ z. absurd (omega arith)))
+
+-- the addend of an ALIGN that keeps check 9 is at most 4,094
+pub padded-by : (t : Trail) (r : Relocation) (size : ℕ) → shapeBy t Align r size ≡ true → r .addend < 2 ^ 64 → r .addend ≤ 4094
+unfolding shapeBy
+padded-by t r size kept b =
+    let a : addendWell Align (r .offset .0) size (signed 64 (r .addend)) ≡ true = search (and-left, and-right) in
+    padded-addend (r .offset .0) size (r .addend) a b

@@ -29,9 +29,9 @@ pub const ADDI_A0: u32 = 0x50513;
 pub const SW_A0: u32 = 0xA5_2023;
 
 /// The window's base, and the address of the code.
-const BASE: u32 = 0x2000_0000;
+pub const BASE: u32 = 0x2000_0000;
 /// The last word of the window, so that the span is the whole image.
-const LAST: u32 = BASE + IMAGE as u32 - 4;
+pub const LAST: u32 = BASE + IMAGE as u32 - 4;
 
 #[derive(Default)]
 pub struct Code {
@@ -79,11 +79,21 @@ impl Code {
             Section::symbols(symbols),
             Section::relocations(1, 3, &self.relocations),
         ];
-        Input {
-            object: object(&sections),
-            order: order(BASE, &[(1, BASE), (2, LAST)], external_values),
-            image: vec![0xA5; IMAGE],
-            journal: journal(IMAGE),
-        }
+        whole_image(&sections, &[(1, BASE), (2, LAST)], external_values)
+    }
+}
+
+/// An install of these sections at these addresses, into an image in which
+/// nothing stands.
+pub fn whole_image(
+    sections: &[Section],
+    placements: &[(u32, u32)],
+    external_values: &[(u32, u32)],
+) -> Input {
+    Input {
+        object: object(sections),
+        order: order(BASE, placements, external_values),
+        image: vec![0xA5; IMAGE],
+        journal: journal(IMAGE),
     }
 }

@@ -1,6 +1,6 @@
 //! Many symbols, real objects, an object without relocations, and a rollback.
 
-use testing::build::{journal, Symbol, GLOBAL};
+use testing::build::{journal, Relocation, Section, Symbol, GLOBAL};
 use testing::damage::{get, Input};
 use testing::given::objects;
 
@@ -28,6 +28,30 @@ pub fn many_symbols(count: usize) -> Input {
         code.word(0, ABSOLUTE_32, 1 + apart * place, 4);
     }
     code.input(&symbols, &external_values)
+}
+
+/// How many sections have bytes where an object has as many sections as it
+/// may: section 0, the symbol table, and a RELA section for each of these.
+const MOST_LOADED: u32 = 15;
+
+/// As many sections as an object may have, at addresses that neither rise nor
+/// fall.
+pub fn many_sections() -> Input {
+    let relocated = [Relocation::new(0, ABSOLUTE_32, 1, 4)];
+    let table = MOST_LOADED + 1;
+    let mut sections = vec![Section::default()];
+    sections.extend((0..MOST_LOADED).map(|_| Section::loaded(4, &[0; 4])));
+    sections.push(Section::symbols(&[Symbol::default(), Symbol::new(0, 1, 0)]));
+    sections
+        .extend((1..=MOST_LOADED).map(|target| Section::relocations(target, table, &relocated)));
+    let address = |section: u32| match 7 * section % MOST_LOADED {
+        0 => LAST,
+        place => BASE + 64 * (place - 1),
+    };
+    let placements: Vec<(u32, u32)> = (1..=MOST_LOADED)
+        .map(|section| (section, address(section)))
+        .collect();
+    whole_image(&sections, &placements, &[])
 }
 
 /// An install of nothing but bytes, nearly as many as an object may have.

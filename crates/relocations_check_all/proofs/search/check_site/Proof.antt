@@ -1,16 +1,19 @@
 -- `relocations_check_all::search::check_site` meets its contract. The invariant: none of the first `j` relocations breaks a rule, and what they leave is stored. The measure is what is left.
 use mathlib.Core.Path.{_≡_, refl, sym, ap, _∙_, subst}
 use mathlib.Core.List.{List}
-use Prim.Native.Nat.{ℕ, _+_, _-_, _/_, _≤_, _<_}
+use Prim.Native.Nat.{ℕ, _+_, _-_, _≤_, _<_}
 use native.Mathlib.Numerals.{add-one}
 use native.Mathlib.Omega.{arith}
 use lib.ListN.{length, length-set}
 use Rattle.placing_symbols.specs.Arrays.{Valued}
 use Rattle.relocations_types.specs.Types.{decision}
+use Rattle.relocations_decisions.specs.Decisions.{touched}
+use Rattle.relocations_decisions.proofs.Laws.Decisions.{touched-small}
 use Rattle.relocations_rela.specs.Sites.{count, decisionAt}
 use Rattle.relocations_rela.specs.Trails.{trailAt}
+use Rattle.relocations_check_one.specs.Outcomes.{Onward}
 use Rattle.relocations_check_one.specs.Requires.{Listing}
-use Rattle.relocations_check_all.specs.Sites.{SiteChecked, KeptBelow, Worded}
+use Rattle.relocations_check_all.specs.Sites.{KeptBelow, Worded}
 use Rattle.relocations_check_all.proofs.Laws.Sites.{Searching, searching-start, searching-next, trail-next, number-found}
 use borrow.Author.Needs.{needs}
 use Rattle.relocations_check_all.proofs.search.check_site.Statement.{statement}
@@ -110,7 +113,7 @@ returns c =
           }),
       inv .4,
       inv .5,
-      one .check-one .ensures .2 ∙ inv .3,
+      one .check-one .ensures .3 ∙ inv .3,
     )
 
 abbrev passed : tie.Else1 Inv-loop μ-loop → tie.After-check-one Inv-loop μ-loop
@@ -123,6 +126,14 @@ room c =
     let now = head (turn (read (decided (passed c)))) in
     let f = entered (start now) .pre in
     (omega (arith, f .4), omega (arith, f .5))
+
+-- what goes on to the next relocation
+onward : (c : tie.Else1 Inv-loop μ-loop)
+    → let one = passed c in
+    let at = decided one in
+    let r = one .check-one .result in
+    Onward (head (turn (read at)) .loop .trail) (at .decide .result) (read at .read-relocation .result) (head (turn (read at)) .loop .last) (r .word) (r .size) (r .last) (r .trail)
+onward c = passed c .check-one .ensures .1 (c .if1 .left)
 
 add-k : tie.Need-add-k Inv-loop μ-loop
 add-k c =
@@ -139,13 +150,19 @@ slice-write-words c =
     let now = head (turn (read (decided (passed c)))) in
     omega (arith, room c .0, now .loop .inv .4)
 
+cast-sizes : tie.Need-cast-sizes Inv-loop μ-loop
+cast-sizes c =
+    let at : tie.Else1 Inv-loop μ-loop = search in
+    let one = decided (passed at) in
+    omega (arith, onward at .size-is, ap touched (one .decide .ensures), touched-small (read one .read-relocation .result .kind))
+
 slice-write-sizes : tie.Need-slice-write-sizes Inv-loop μ-loop
 slice-write-sizes c =
     let now = head (turn (read (decided (passed (c .before))))) in
     omega (arith, room (c .before) .1, now .loop .inv .5)
 
-abbrev kept : tie.After-next-last Inv-loop μ-loop → tie.Else1 Inv-loop μ-loop
-kept c = c .before .before .before
+abbrev kept : tie.After-trail Inv-loop μ-loop → tie.Else1 Inv-loop μ-loop
+kept c = c .before .before
 
 loop-again : tie.Need-loop-again Inv-loop μ-loop
 loop-again c =
@@ -158,17 +175,18 @@ loop-again c =
     let inv = now .loop .inv in
     let e = one .check-one .ensures in
     let r = read at .read-relocation .ensures in
+    let next = onward (kept c) in
     let zero : one .check-one .result .number ≡ 0 = kept c .if1 .left in (
       omega arith,
-      rw add-one (trail-next (a .object .now) (a .site) (now .loop .j) _ _ _ _ (inv .1) (kind at) r (c .before .advance .ensures)),
-      e .1,
-      e .2 ∙ inv .3,
+      rw add-one (trail-next (a .object .now) (a .site) (now .loop .j) _ _ _ _ (inv .1) (kind at) r (next .next-is)),
+      e .2,
+      e .3 ∙ inv .3,
       length-set (now .loop .words) (a .base + now .loop .j) (one .check-one .result .word) ∙ inv .4,
-      length-set (now .loop .sizes) (a .base + now .loop .j) (c .before .before .bytes-touched .result) ∙ inv .5,
+      length-set (now .loop .sizes) (a .base + now .loop .j) (one .check-one .result .size) ∙ inv .5,
       (λ o l v.
           rw add-one
           (searching-next (a .object .now) o l (a .site) (a .base) (a .words .now) (a .sizes .now) (a .highs .now) (a .values .now) (a .states .now) (f .0 .sound) v (f .1) _ _ _ _ _ _ _ _ _ _ _ (now .loop .j) _ _ _ _
-          (inv .6 o l v) (omega arith) (f .4) (f .5) r (kind at) (e .0) zero (e .1) (e .2) (c .before .advance .ensures) (c .before .before .bytes-touched .ensures) (c .next-last .ensures))),
+          (inv .6 o l v) (omega arith) (f .4) (f .5) r (kind at) (e .0) zero (e .2) (e .3) (next .next-is) (next .size-is) (next .left-is))),
     )
 
 returns-2 : tie.Need-returns-2 Inv-loop μ-loop
@@ -209,10 +227,8 @@ check-site-spec =
     add-k
     mul-words
     slice-write-words
-    (λ c κs. search needs)
+    cast-sizes
     slice-write-sizes
-    (λ c κs. search needs)
-    (λ c κs. search needs)
     (λ c. search needs)
     (λ c. search needs)
     loop-again

@@ -6,11 +6,16 @@ use Rattle.relocations_rela.proofs.shape.advance.Tie as tie
 
 returns : tie.Need-returns
 unfolding advanced
-returns c = rw (c .stack-width .ensures, c .before .bytes-touched .ensures, ← (c .before .before .before .is-store .ensures), c .before .before .if1 .taken)
+returns c =
+    let tested : tie.After-is-store = search in
+    let at : tie.Start = search in
+    rw (at .pre, c .bytes-touched .ensures, ← (tested .is-store .ensures), c .before .if1 .taken)
 
 returns-2 : tie.Need-returns-2
 unfolding advanced
-returns-2 c = rw (← (c .before .is-store .ensures), c .if1 .left)
+returns-2 c =
+    let tested : tie.After-is-store = search in
+    rw (← (tested .is-store .ensures), c .if1 .left)
 
 pub advance-spec : {M : Type 1} → statement M
 advance-spec =
@@ -20,8 +25,6 @@ advance-spec =
     (λ c κs. search needs)
     (λ c κs. search needs)
     (λ c. search needs)
-    (λ c. search needs)
-    (λ c κs. search needs)
     (λ c. search needs)
     returns
     returns-2)

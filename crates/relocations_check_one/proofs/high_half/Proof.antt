@@ -1,10 +1,11 @@
--- `relocations_check_one::distance_of` meets its contract.
-use mathlib.Core.Path.{sym, ap, _∙_}
+-- `relocations_check_one::high_half` meets its contract.
+use mathlib.Core.Path.{refl, sym, ap, _∙_}
 use Rattle.placing_symbols.specs.Arrays.{listed}
+use Rattle.relocations_rules.specs.Rules.{isOne}
 use Rattle.relocations_check_one.specs.Outcomes.{distanceOfBy}
 use borrow.Author.Needs.{needs}
-use Rattle.relocations_check_one.proofs.distance_of.Statement.{statement}
-use Rattle.relocations_check_one.proofs.distance_of.Tie as tie
+use Rattle.relocations_check_one.proofs.high_half.Statement.{statement}
+use Rattle.relocations_check_one.proofs.high_half.Tie as tie
 
 distance-at-requires : tie.Need-distance-at-requires
 distance-at-requires c κs =
@@ -18,16 +19,18 @@ returns c =
     let told : tie.After-pair = search in
     let at : tie.Start = search in
     let a = at .args in
-    c .distance-at .ensures ∙ sym (ap (distanceOfBy (listed (a .values .now) (a .states .now)) (a .object .now) (a .site)) (told .pair .given .1))
+    let is = told .pair .given .1 in
+    (refl, sym (ap isOne is), c .distance-at .ensures ∙ sym (ap (distanceOfBy (listed (a .values .now) (a .states .now)) (a .object .now) (a .site)) is), refl)
 
 returns-2 : tie.Need-returns-2
 returns-2 c =
     let at : tie.Start = search in
     let a = at .args in
-    sym (ap (distanceOfBy (listed (a .values .now) (a .states .now)) (a .object .now) (a .site)) (c .enum-told .given .1))
+    let is = c .enum-told .given .1 in
+    (refl, sym (ap isOne is), sym (ap (distanceOfBy (listed (a .values .now) (a .states .now)) (a .object .now) (a .site)) is), refl)
 
-pub distance-of-spec : {M : Type 1} → statement M
-distance-of-spec =
+pub high-half-spec : {M : Type 1} → statement M
+high-half-spec =
     tie.close
     (tie.spec
     (λ c. search needs)

@@ -1,0 +1,96 @@
+-- `relocations_check_one::check_resolved` meets its contract.
+use mathlib.Core.Path.{refl, sym, ap, _∙_}
+use mathlib.Core.Bool.{cond}
+use native.Mathlib.Omega.{arith}
+use Rattle.numbers_definitions.specs.Whole.{signed}
+use Rattle.placing_symbols.specs.Arrays.{listed}
+use Rattle.relocations_rules.specs.Rules.{isResolved, standsWell}
+use Rattle.relocations_rules.proofs.Laws.Rules.{form-read}
+use Rattle.relocations_bytes.specs.Patches.{patched}
+use Rattle.relocations_patch.proofs.Laws.Regular.{rules-regular}
+use Rattle.relocations_check_one.proofs.Laws.Outcomes.{first-symbol, number-read, word-read}
+use borrow.Author.Needs.{needs}
+use Rattle.relocations_check_one.proofs.check_resolved.Statement.{statement}
+use Rattle.relocations_check_one.proofs.check_resolved.Tie as tie
+
+-- ---- the places on the way: an inserted line moves one of them
+
+abbrev arguments : tie.After-take-partner → tie.After-take-partner-arg
+arguments c = c .before
+
+abbrev entered : tie.After-take-partner-arg → tie.Start
+entered c = c .before .before .before .before .before
+
+abbrev taken : tie.After-found-bytes → tie.After-take-partner
+taken c = c .before .before .before
+
+abbrev read : tie.After-apply-rule → tie.After-found-bytes
+read c = c .before .before .before .before .before .before .before
+
+-- ---- the needs
+
+take-partner-requires : tie.Need-take-partner-requires
+take-partner-requires c κs =
+    let f = entered c .pre in
+    (f .0, f .1, f .2, ap isResolved (sym (f .3)))
+
+found-bytes-requires : tie.Need-found-bytes-requires
+found-bytes-requires c κs =
+    let high : tie.After-take-partner = search in
+    entered (arguments high) .pre .1
+
+apply-rule-requires : tie.Need-apply-rule-requires
+apply-rule-requires c κs =
+    let found : tie.After-found-bytes = search in
+    rules-regular _ _ (entered (arguments (taken found)) .pre .1 .decided)
+
+returns : tie.Need-returns
+returns c =
+    let applied : tie.After-apply-rule = search in
+    let placed : tie.After-place-of = search in
+    let summed : tie.After-symbol-sum = search in
+    let target : tie.After-target-of = search in
+    let fitted : tie.After-present = search in
+    let found = read applied in
+    let high = taken found in
+    let start = entered (arguments high) in
+    let a = start .args in
+    let s = a .object .now in
+    let f = start .pre .1 in
+    let v = listed (a .values .now) (a .states .now) in
+    let value = start .pre .3 in
+    let place = placed .place-of .ensures in
+    let e = applied .apply-rule .ensures in
+    let partner = high .take-partner .ensures in
+    let forms = e .0 ∙ ap (standsWell (a .rule .form) _) (found .found-bytes .ensures) ∙ form-read s (a .site) (a .j) (a .rule) _ (a .here) (f .decided) refl (f .read) in (
+      record {
+        number-is =
+            number-read v s (a .site) (a .j) (a .rule) (a .here) f _ value _ place _ _ _ _ _ _ (c .first-broken .ensures) (partner .0 .symbol-is) forms (partner .0 .pair-is) (e .1) (target .target-of .ensures);
+        word-is = λ z.
+            word-read v s (a .site) (a .j) (a .rule) (a .here) f _ value _ place _ _ _ _
+            (e .2
+            ∙ ap (λ b. patched 32 (a .rule .calculation) (a .rule .field) b (signed 64 (summed .symbol-sum .result)) (placed .place-of .result .0) (high .take-partner .result .distance))
+            (fitted .present .ensures ∙ ap (cond (a .shares) (a .last)) (found .found-bytes .ensures)))
+            (omega arith) (summed .symbol-sum .ensures) (partner .0 .distance-is (first-symbol _ _ _ _ (sym (c .first-broken .ensures) ∙ z)));
+      },
+      partner .1,
+      partner .2,
+    )
+
+pub check-resolved-spec : {M : Type 1} → statement M
+check-resolved-spec =
+    tie.close
+    (tie.spec
+    take-partner-requires
+    found-bytes-requires
+    (λ c. search needs)
+    (λ c. search needs)
+    (λ c. search needs)
+    (λ c κs. search needs)
+    (λ c κs. search needs)
+    (λ c κs. search needs)
+    (λ c κs. search needs)
+    apply-rule-requires
+    (λ c κs. search needs)
+    (λ c. search needs)
+    returns)

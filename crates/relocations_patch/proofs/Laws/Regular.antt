@@ -1,0 +1,218 @@
+-- Every rule of the table is regular; and what the field alone then says.
+use mathlib.Core.Path.{_≡_, refl, sym, ap, _∙_, subst}
+use mathlib.Core.Bool.{Bool, true, false, _&&_}
+use Prim.Native.Nat.{ℕ, _/_, _%_, _^_}
+use lib.Dec.{eqb}
+use lib.IntN.{ℤ}
+use Rattle.numbers_definitions.specs.Whole.{residue}
+use Rattle.numbers_definitions.proofs.Laws.Tests.{never}
+use Rattle.instructions_fields.specs.declared.Width.{Width}
+use Rattle.instructions_fields.specs.declared.Field.{Field}
+use Rattle.instructions_fields.specs.declared.Field.the-variants.{Data}
+use Rattle.instructions_fields.specs.Layouts.{put}
+use Rattle.instructions_fields.specs.Fields.{layout}
+use Rattle.instructions_riscv.specs.declared.forms.Form.{Form}
+use Rattle.instructions_riscv.specs.declared.forms.Form.the-variants.{Any, Lui, Auipc, Jal, Branch, LowI, LowS, CallPair, CBranch, CJump}
+use Rattle.instructions_riscv.specs.Forms.{hasForm}
+use Rattle.relocations_types.specs.declared.Operand.{Operand}
+use Rattle.relocations_types.specs.declared.Operand.the-variants.{Absolute, PcRelative, Paired}
+use Rattle.relocations_types.specs.declared.Part.{Part}
+use Rattle.relocations_types.specs.declared.Part.the-variants.{Whole, Distance, High, Low, BothHalves}
+use Rattle.relocations_types.specs.declared.Calculation.{Calculation}
+use Rattle.relocations_types.specs.declared.Calculation.the-variants.{Of, Add, Sub, Set}
+use Rattle.relocations_types.specs.declared.Rule.{Rule}
+use Rattle.relocations_types.specs.declared.Decision.{Decision}
+use Rattle.relocations_types.specs.declared.Decision.the-variants.{Marker, Align, Store, Refused}
+use Rattle.relocations_types.specs.Types.{table, decision}
+use Rattle.relocations_decisions.proofs.Laws.Decisions.{each-decided}
+use Rattle.relocations_rules.specs.Rules.{isData, standsWell, partReaches, reachesWell}
+use Rattle.relocations_bytes.specs.Patches.{partOf, patched}
+use Rattle.relocations_patch.specs.Regular.{isUpper, OfPart, fills, Regular, operandBy}
+
+-- ---- every rule of the table
+
+abbrev RegularOf : Decision → Type 0
+RegularOf (Store r) = Regular (r .calculation) (r .field) (r .form)
+RegularOf Marker = Unit {0}
+RegularOf Align = Unit {0}
+RegularOf Refused = Unit {0}
+
+regular-each : (t : ℕ) → RegularOf (decision t)
+unfolding table
+regular-each =
+    each-decided RegularOf (
+      tt,
+      (
+        tt,
+        (
+          (refl, refl),
+          (
+            (refl, refl),
+            (
+              (by PcRelative, refl),
+              (
+                (by PcRelative, refl),
+                (
+                  (by PcRelative, refl),
+                  (
+                    (by PcRelative, refl),
+                    (
+                      (by PcRelative, refl),
+                      (
+                        (by PcRelative, refl),
+                        (
+                          (by Absolute, refl),
+                          (
+                            (by Absolute, refl),
+                            (
+                              (by Absolute, refl),
+                              (
+                                (by Paired, refl),
+                                (
+                                  (by Paired, refl),
+                                  (
+                                    (refl, refl),
+                                    (
+                                      (refl, refl),
+                                      (
+                                        (refl, refl),
+                                        (
+                                          (refl, refl),
+                                          (
+                                            (refl, refl),
+                                            (
+                                              (refl, refl),
+                                              (
+                                                (refl, refl),
+                                                (
+                                                  (refl, refl),
+                                                  (
+                                                    (refl, refl),
+                                                    (
+                                                      (refl, refl),
+                                                      (
+                                                        (refl, refl),
+                                                        (
+                                                          (refl, refl),
+                                                          (
+                                                            (refl, refl),
+                                                            tt,
+                                                          ),
+                                                        ),
+                                                      ),
+                                                    ),
+                                                  ),
+                                                ),
+                                              ),
+                                            ),
+                                          ),
+                                        ),
+                                      ),
+                                    ),
+                                  ),
+                                ),
+                              ),
+                            ),
+                          ),
+                        ),
+                      ),
+                    ),
+                  ),
+                ),
+              ),
+            ),
+          ),
+        ),
+      ),
+    )
+  where
+    by : {part : Part} (o : Operand) → OfPart part (Of part o)
+    by o = record { operand = o; is = refl }
+
+pub rules-regular : (t : ℕ) (r : Rule) → decision t ≡ Store r → Regular (r .calculation) (r .field) (r .form)
+rules-regular t r e = subst RegularOf e (regular-each t)
+
+-- ---- check 11: of LUI and AUIPC, and of any other form of an instruction
+
+pub stands-form : (form : Form) (place found : ℕ) → isData form ≡ false → (eqb (place % 2) 0 && hasForm form found (found / 2 ^ 32)) ≡ standsWell form place found
+unfolding standsWell
+stands-form form place found e = rw e
+
+pub upper-instruction : (form : Form) → isUpper form ≡ true → isData form ≡ false
+upper-instruction Any e = never e
+upper-instruction Lui e = refl
+upper-instruction Auipc e = refl
+upper-instruction Jal e = refl
+upper-instruction Branch e = refl
+upper-instruction LowI e = refl
+upper-instruction LowS e = refl
+upper-instruction CallPair e = refl
+upper-instruction CBranch e = refl
+upper-instruction CJump e = refl
+
+-- ---- check 13, and the bytes, of a part
+
+module _ (c : Calculation) (f : Field) (part : Part) (o : OfPart part c) where
+  pub part-reaches : (w t p : ℕ) → partReaches w part f t p ≡ reachesWell w c f t p
+  part-reaches w t p = ap (λ c. reachesWell w c f t p) (sym (o .is))
+
+  pub part-patched : (w b : ℕ) (x : ℤ) (p d v : ℕ) → v ≡ operandBy w c (residue w x) p d → put (layout f) b (partOf w part v) ≡ patched w c f b x p d
+  unfolding patched
+  part-patched w b x p d v e =
+      ap (λ v. put (layout f) b (partOf w part v)) (e ∙ ap (λ c. operandBy w c (residue w x) p d) (o .is))
+      ∙ ap (λ c. patched w c f b x p d) (sym (o .is))
+
+-- ---- data
+
+pub data-reaches : (c : Calculation) (width : Width) → fills c ≡ true → (w t p : ℕ) → true ≡ reachesWell w c (Data width) t p
+data-reaches (Of Whole o) width e w t p = refl
+data-reaches (Of Distance o) width e w t p = never e
+data-reaches (Of High o) width e w t p = refl
+data-reaches (Of Low o) width e w t p = refl
+data-reaches (Of BothHalves o) width e w t p = never e
+data-reaches Add width e w t p = refl
+data-reaches Sub width e w t p = refl
+data-reaches Set width e w t p = refl
+
+pub whole-part : (part : Part) (w v : ℕ) → fills (Of part Absolute) ≡ true → v ≡ partOf w part v
+whole-part Whole w v e = refl
+whole-part Distance w v e = never e
+whole-part High w v e = never e
+whole-part Low w v e = never e
+whole-part BothHalves w v e = never e
+
+-- ---- all three, of the field that was matched
+
+module _ (c : Calculation) (form : Form) (place found w t p d : ℕ) (x : ℤ) where
+  abbrev pub Made : Field → Bool → Bool → ℕ → Type 0
+  Made f stands reaches word = (stands ≡ standsWell form place found) × (reaches ≡ reachesWell 32 c f t p) × (word ≡ patched 32 c f w x p d)
+
+  -- of an instruction, whose form was asked for
+  pub instruction-made :
+      (f g : Field)
+      (part : Part)
+      (asked : Form)
+      (h r : Bool)
+      (n v : ℕ)
+      → f ≡ g
+      → OfPart part c
+      → form ≡ asked
+      → isData asked ≡ false
+      → h ≡ hasForm asked found (found / 2 ^ 32)
+      → r ≡ partReaches 32 part g t p
+      → v ≡ operandBy 32 c (residue 32 x) p d
+      → n ≡ put (layout g) w (partOf 32 part v)
+      → Made f (eqb (place % 2) 0 && h) r n
+  instruction-made f g part asked h r n v told o form-is e h-is r-is v-is n-is =
+      subst (λ f. Made f (eqb (place % 2) 0 && h) r n) (sym told) (
+        ap (λ h. eqb (place % 2) 0 && h) h-is ∙ stands-form asked place found e ∙ ap (λ k. standsWell k place found) (sym form-is),
+        r-is ∙ part-reaches c g part o 32 t p,
+        n-is ∙ part-patched c g part o 32 w x p d v v-is,
+      )
+
+  -- of data
+  pub data-made :
+      (f : Field) (width : Width) (n : ℕ) → f ≡ Data width → fills c ≡ true → form ≡ Any → n ≡ patched 32 c (Data width) w x p d → Made f true true n
+  unfolding standsWell
+  data-made f width n told e form-is n-is =
+      subst (λ f. Made f true true n) (sym told) (sym (ap (λ k. standsWell k place found) form-is), data-reaches c width e 32 t p, n-is)
