@@ -27,6 +27,9 @@
 extern "C" {
 #endif
 
+/* The bytes of stack that a call has to find, its own frames and scratch arrays among them. */
+#define AKTINOPH_STACK 65536
+
 /* The ledger's bytes before the old bytes: count, 16 entries, count. */
 #define AKTINOPH_LEDGER_HEAD 136
 

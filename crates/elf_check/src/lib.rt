@@ -2,13 +2,13 @@
 ghost use mathlib.Core.Path.{_≡_};
 ghost use Prim.Native.Nat.{_≤_, _<_};
 ghost use mathlib.Core.Bool.{not, _&&_};
-ghost use lib.Dec.{eqb};
+ghost use lib.Dec.{leb, eqb};
 ghost use Rattle.numbers_definitions.specs.First.{everywhere};
 ghost use lib.ListN.{length};
 ghost use Rattle.elf_read.specs.Headers.{headerSize, sectionCount};
-ghost use Rattle.elf_read.specs.Sections.{sectionAt, countingRela};
+ghost use Rattle.elf_read.specs.Sections.{sectionAt, symbolTable, countingRela, relocationsBelow};
 ghost use Rattle.elf_read.specs.Requires.{TableInside};
-ghost use Rattle.elf_check.specs.Rules.{startsNull, insideFile, allocatedWell, symbolTableWell, noCountingRel, relaKept, relocationsKept, relaWell, relocationsWell, sectionCheck, objectCheck};
+ghost use Rattle.elf_check.specs.Rules.{maxRelocations, startsNull, insideFile, allocatedWell, symbolTableWell, noCountingRel, relaKept, relocationsKept, relaWell, relocationsWell, sectionCheck, objectCheck};
 ghost use Rattle.elf_check.specs.Requires.{Targeted};
 use elf_read::NOBITS;
 use elf_read::NULL;
@@ -43,8 +43,7 @@ fn is_first_for(object: &[u8], i: usize, target: u32) -> bool
 {
     let mut j: usize = 0;
     while j < i {
-        let h = elf_read::read_section(object, j);
-        if elf_read::is_counting_rela(object, j) & (h.info == target) {
+        if elf_read::relocates(object, j, target as usize) {
             return false;
         }
         j += 1;
@@ -68,26 +67,36 @@ fn is_plain_well(object: &[u8], i: usize) -> bool
     starts & inside & (!elf_read::is_allocated(h) | (aligned & !table))
 }
 
-// The rule of the symbol table.
-fn is_symbol_table_well(object: &[u8], i: usize) -> bool
-    requires { ⌜ TableInside (now object) × (i < sectionCount (now object)) ⌝ }
+// The rule of the symbol table. `table` is the lowest one.
+fn is_symbol_table_well(object: &[u8], table: usize, i: usize) -> bool
+    requires { ⌜ TableInside (now object) × (i < sectionCount (now object)) × (table ≡ symbolTable (now object)) ⌝ }
     ensures { λ r. ⌜ r ≡ symbolTableWell (now (object .entry)) i ⌝ }
 {
     let h = elf_read::read_section(object, i);
     (h.kind != SYMTAB)
-        | ((i == elf_read::symbol_table(object))
+        | ((i == table)
             & (h.entsize == SYMBOL_SIZE)
             & (h.size % SYMBOL_SIZE == 0)
             & (elf_read::symbol_entries(h) <= MAX_SYMBOLS))
 }
 
-// The rules of a counting RELA.
-fn is_rela_kept(object: &[u8], i: usize) -> bool
-    requires { ⌜ Targeted (now object) i ⌝ }
+// Whether the relocations up to section i are not too many. `few` tells whether those of all sections are not.
+fn is_number_kept(object: &[u8], few: bool, i: usize) -> bool
+    requires { ⌜ TableInside (now object) × (i < sectionCount (now object)) × (few ≡ leb (relocationsBelow (now object) (sectionCount (now object))) maxRelocations) ⌝ }
+    ensures { λ r. ⌜ r ≡ relocationsKept (now (object .entry)) i ⌝ }
+{
+    if few {
+        return true;
+    }
+    elf_read::relocations_below(object, i + 1) <= MAX_RELOCATIONS
+}
+
+// The rules of a counting RELA. `table` is the lowest symbol table, and `few` tells whether all relocations are not too many.
+fn is_rela_kept(object: &[u8], table: usize, few: bool, i: usize) -> bool
+    requires { ⌜ Targeted (now object) i × (table ≡ symbolTable (now object)) × (few ≡ leb (relocationsBelow (now object) (sectionCount (now object))) maxRelocations) ⌝ }
     ensures { λ r. ⌜ r ≡ (relaKept (now (object .entry)) i && relocationsKept (now (object .entry)) i) ⌝ }
 {
     let h = elf_read::read_section(object, i);
-    let table = elf_read::symbol_table(object);
     let target = elf_read::read_section(object, h.info as usize);
     let sized = (h.entsize == RELOCATION_SIZE) & (h.size % RELOCATION_SIZE == 0);
     let linked = (table < elf_read::section_count(object)) & (h.link as usize == table);
@@ -95,12 +104,12 @@ fn is_rela_kept(object: &[u8], i: usize) -> bool
         & linked
         & elf_read::is_loaded(target)
         & is_first_for(object, i, h.info)
-        & (elf_read::relocations_below(object, i + 1) <= MAX_RELOCATIONS)
+        & is_number_kept(object, few, i)
 }
 
-// The rules of RELA and REL sections.
-fn is_relocation_well(object: &[u8], i: usize) -> bool
-    requires { ⌜ TableInside (now object) × (i < sectionCount (now object)) ⌝ }
+// The rules of RELA and REL sections. `table` is the lowest symbol table, and `few` tells whether all relocations are not too many.
+fn is_relocation_well(object: &[u8], table: usize, few: bool, i: usize) -> bool
+    requires { ⌜ TableInside (now object) × (i < sectionCount (now object)) × (table ≡ symbolTable (now object)) × (few ≡ leb (relocationsBelow (now object) (sectionCount (now object))) maxRelocations) ⌝ }
     ensures { λ r. ⌜ r ≡ (noCountingRel (now (object .entry)) i && relaWell (now (object .entry)) i && relocationsWell (now (object .entry)) i) ⌝ }
 {
     let h = elf_read::read_section(object, i);
@@ -113,7 +122,7 @@ fn is_relocation_well(object: &[u8], i: usize) -> bool
     if h.kind != RELA {
         return true;
     }
-    is_rela_kept(object, i)
+    is_rela_kept(object, table, few, i)
 }
 
 // Check 5.
@@ -125,11 +134,13 @@ fn check_sections(object: &[u8]) -> SectionCheck
         return SectionCheck::Broken(0);
     }
     let n = elf_read::section_count(object);
+    let table = elf_read::symbol_table(object);
+    let few = elf_read::relocations_below(object, n) <= MAX_RELOCATIONS;
     let mut i: usize = 0;
     while i < n {
         if !(is_plain_well(object, i)
-            & is_symbol_table_well(object, i)
-            & is_relocation_well(object, i)) {
+            & is_symbol_table_well(object, table, i)
+            & is_relocation_well(object, table, few, i)) {
             return SectionCheck::Broken(i as u32);
         }
         i += 1;

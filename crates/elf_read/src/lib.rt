@@ -1,7 +1,9 @@
 // An ELF32 object: its header, sections, symbols and relocations. Everything is read out of the caller's bytes.
 ghost use mathlib.Core.Path.{_≡_};
+ghost use mathlib.Core.Bool.{_&&_};
 ghost use Prim.Native.Nat.{_+_, _*_, _^_, _≤_, _<_};
 ghost use lib.ListN.{length};
+ghost use lib.Dec.{eqb};
 ghost use Rattle.elf_read.specs.Headers.{headerSize, symbolSize, relocationSize, sectionTable, sectionCount};
 ghost use Rattle.elf_read.specs.Sections.{sectionAt, allocated, loaded, isAllocated, symbolTable, targets, countingRela, relocationEntries, relocationsIn, relocationsBelow};
 ghost use Rattle.elf_read.specs.Requires.{HeaderInside, TableInside, Inside};
@@ -170,6 +172,18 @@ pub fn is_counting_rela(object: &[u8], i: usize) -> bool
 {
     let h = read_section(object, i);
     (h.kind == RELA) & has_target(object, h)
+}
+
+// Whether section i is a RELA that counts, and section t is its target.
+pub fn relocates(object: &[u8], i: usize, t: usize) -> bool
+    requires { ⌜ TableInside (now object) × (i < sectionCount (now object)) ⌝ }
+    ensures { λ r. ⌜ r ≡ (countingRela (now (object .entry)) i && eqb (sectionAt (now (object .entry)) i .info) t) ⌝ }
+{
+    let h = read_section(object, i);
+    if h.info as usize != t {
+        return false;
+    }
+    is_counting_rela(object, i)
 }
 
 // How many entries a RELA section has.

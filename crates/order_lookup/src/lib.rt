@@ -1,8 +1,9 @@
 // The addresses that an order gives to sections, and the values that it gives to symbols.
 ghost use mathlib.Core.Path.{_≡_};
+ghost use Prim.Native.Nat.{_+_};
 ghost use Rattle.order_format.specs.Orders.{reading};
 ghost use Rattle.order_lookup.specs.Values.{valueIn, externalValue};
-ghost use Rattle.order_lookup.specs.Requires.{Searchable};
+ghost use Rattle.order_lookup.specs.Requires.{Searchable, Reached};
 ghost use Rattle.order_lookup.specs.Addresses.{placedAt, noAddresses, addresses};
 use elf_read::MAX_SECTIONS;
 use numbers_definitions::Address;
@@ -46,6 +47,39 @@ pub fn external_value(order: &[u8], counts: OrderHeader, symbol: u32) -> Value
 {
     let start = order_format::externals_start(counts.placements);
     find(order, start, counts.externals, symbol)
+}
+
+// What the order gives to a symbol, and where the search for the next symbol goes on.
+pub struct Taken {
+    pub value: Value,
+    pub next: usize,
+}
+
+// The external value of symbol k. The search begins at external value `from`: those before it are of lower symbols, and this one
+// and those behind it are not. So all symbols in turn cost one way through the external values.
+pub fn take_external(order: &[u8], counts: OrderHeader, from: usize, k: u32) -> Taken
+    requires { ⌜ (reading (now order) ≡ Reading.WellFormed counts) × Reached (now order) from k ⌝ }
+    ensures { λ r. ⌜ (r .value ≡ externalValue (now (order .entry)) k) × Reached (now (order .entry)) (r .next) (k + 1) ⌝ }
+{
+    if counts.externals <= from {
+        return Taken {
+            value: Value::NotGiven,
+            next: from,
+        };
+    }
+    let start = order_format::externals_start(counts.placements);
+    let e = order_format::read_entry(order, start, from);
+    if e.index != k {
+        return Taken {
+            value: Value::NotGiven,
+            next: from,
+        };
+    }
+    let value = e.value;
+    Taken {
+        value: Value::Given(value),
+        next: from + 1,
+    }
 }
 
 // The address that an order gives a section.

@@ -3,7 +3,7 @@ ghost use mathlib.Core.Path.{_≡_};
 ghost use Prim.Native.Nat.{_^_, _<_};
 ghost use Rattle.elf_check.specs.Requires.{SoundObject};
 ghost use Rattle.order_format.specs.Orders.{reading};
-ghost use Rattle.placing_symbols.specs.Values.{ofUndefined, ofSection, ofEntry, symbolValue};
+ghost use Rattle.placing_symbols.specs.Values.{ofUndefined, ofSection, ofEntry};
 ghost use Rattle.placing_symbols.specs.Arrays.{noValues, stateOf, numberOf, listed, ValueArrays, Valued};
 ghost use Rattle.placing_symbols.specs.Requires.{SymbolsOf};
 use elf_check::MAX_SYMBOLS;
@@ -20,6 +20,7 @@ use order_format::OrderHeader;
 use order_format::Reading;
 use order_lookup::Addresses;
 use order_lookup::Value;
+use order_lookup::take_external;
 
 // The value of a symbol, or that it does not resolve.
 pub enum SymbolValue {
@@ -43,17 +44,11 @@ fn undefined_value(symbol: Symbol, value: Value) -> SymbolValue
     }
 }
 
-// The value of symbol k of the table, by the section that it is defined in. `start` is the address of that section.
-fn value_in_section(
-    object: &[u8],
-    order: &[u8],
-    counts: OrderHeader,
-    start: u32,
-    k: u32,
-    symbol: Symbol,
-) -> SymbolValue
-    requires { ⌜ SoundObject (now object) × (reading (now order) ≡ Reading.WellFormed counts) ⌝ }
-    ensures { λ r. ⌜ r ≡ ofSection (now (object .entry)) (now (order .entry)) start k symbol ⌝ }
+// The value of a symbol of the table, by the section that it is defined in. `given` is what the order gives to the symbol, and
+// `start` is the address of that section.
+fn value_in_section(object: &[u8], given: Value, start: u32, symbol: Symbol) -> SymbolValue
+    requires { ⌜ SoundObject (now object) ⌝ }
+    ensures { λ r. ⌜ r ≡ ofSection (now (object .entry)) given start symbol ⌝ }
 {
     let section = symbol.section;
     if elf_read::is_allocated_section(object, section as u32) {
@@ -69,25 +64,19 @@ fn value_in_section(
     if section != SHN_UNDEF {
         return SymbolValue::Unresolved;
     }
-    undefined_value(symbol, order_lookup::external_value(order, counts, k))
+    undefined_value(symbol, given)
 }
 
-// The value of symbol k of the table, where k is not 0. `start` is the address of the section that it is defined in.
-fn entry_value(
-    object: &[u8],
-    order: &[u8],
-    counts: OrderHeader,
-    start: u32,
-    k: u32,
-    symbol: Symbol,
-) -> SymbolValue
-    requires { ⌜ SoundObject (now object) × (reading (now order) ≡ Reading.WellFormed counts) ⌝ }
-    ensures { λ r. ⌜ r ≡ ofEntry (now (object .entry)) (now (order .entry)) start k symbol ⌝ }
+// The value of a symbol of the table that is not symbol 0. `given` is what the order gives to the symbol, and `start` is the
+// address of the section that it is defined in.
+fn entry_value(object: &[u8], given: Value, start: u32, symbol: Symbol) -> SymbolValue
+    requires { ⌜ SoundObject (now object) ⌝ }
+    ensures { λ r. ⌜ r ≡ ofEntry (now (object .entry)) given start symbol ⌝ }
 {
     if (symbol.kind == STT_TLS) | (symbol.kind == STT_GNU_IFUNC) {
         return SymbolValue::Unresolved;
     }
-    value_in_section(object, order, counts, start, k, symbol)
+    value_in_section(object, given, start, symbol)
 }
 
 // The symbol table: its header, and how many symbols it has. If it has none, nothing reads the header.
@@ -134,8 +123,8 @@ fn number_of(value: SymbolValue) -> u64
     }
 }
 
-// Works S out for every symbol. `addresses` is passed by value and handed back. The entries past the table stay 0, which says
-// that these symbols do not resolve.
+// Works S out for every symbol, in one way through the table and through the order's external values. `addresses` is passed by
+// value and handed back. The entries past the table stay 0, which says that these symbols do not resolve.
 pub fn symbol_values(
     object: &[u8],
     order: &[u8],
@@ -152,6 +141,8 @@ pub fn symbol_values(
     let count = symbols.count;
     // Symbol 0 resolves, to 0.
     states[0] = 1;
+    let first = take_external(order, counts, 0, 0);
+    let mut next = first.next;
     let mut k: usize = 1;
     while k < count {
         let symbol = elf_read::read_symbol(object, table, k);
@@ -161,9 +152,12 @@ pub fn symbol_values(
         } else {
             0
         };
-        let value = entry_value(object, order, counts, start, k as u32, symbol);
+        let taken = take_external(order, counts, next, k as u32);
+        let given = taken.value;
+        let value = entry_value(object, given, start, symbol);
         values[k] = number_of(value);
         states[k] = state_of(value);
+        next = taken.next;
         k += 1;
     }
     addresses

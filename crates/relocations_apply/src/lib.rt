@@ -75,8 +75,7 @@ fn rela_of(object: &[u8], t: usize) -> usize
     let n = elf_read::section_count(object);
     let mut i: usize = 0;
     while i < n {
-        let h = elf_read::read_section(object, i);
-        if elf_read::is_counting_rela(object, i) & (h.info as usize == t) {
+        if elf_read::relocates(object, i, t) {
             return i;
         }
         i += 1;

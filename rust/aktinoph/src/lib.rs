@@ -44,6 +44,9 @@ pub use calls::Calls;
 /// and room for old bytes is one in which no fit stands.
 pub const LEDGER_HEAD: usize = 136;
 
+/// The bytes of stack that a call of the library has to find.
+pub const STACK: usize = 65_536;
+
 /// Lays the object's sections into the image as the order says, and records
 /// the old bytes in the ledger. It never answers [`Answer::NothingStands`].
 #[must_use = "a refused fit changes nothing"]

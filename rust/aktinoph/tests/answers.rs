@@ -1,7 +1,7 @@
 //! Document 01's answers: their numbers and places, what the C header calls
 //! them, and in which words they are written.
 
-use aktinoph::{Answer, Calls, LEDGER_HEAD};
+use aktinoph::{Answer, Calls, LEDGER_HEAD, STACK};
 
 /// The header's name, the answer, its number and place, and its words.
 type Row = (&'static str, Answer, u32, u32, &'static str);
@@ -114,6 +114,7 @@ fn defined(name: &str) -> usize {
 fn bytes_before_the_old_bytes() {
     assert_eq!(LEDGER_HEAD, 136);
     assert_eq!(defined("AKTINOPH_LEDGER_HEAD"), LEDGER_HEAD);
+    assert_eq!(defined("AKTINOPH_STACK"), STACK);
 }
 
 /// The header's kinds of calls are those that a list has.

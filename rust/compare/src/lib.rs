@@ -12,6 +12,8 @@ pub mod fault;
 pub mod history;
 pub mod inputs;
 pub mod replay;
+#[allow(unsafe_code)]
+pub mod stack;
 
 use call::{Command, Library};
 use inputs::Pool;

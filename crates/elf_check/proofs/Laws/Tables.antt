@@ -2,18 +2,28 @@
 use mathlib.Core.Path.{_≡_, refl, ap}
 use mathlib.Core.Bool.{Bool, true, false, not, _&&_}
 use mathlib.Core.List.{List}
-use Prim.Native.Nat.{ℕ, _<_}
+use Prim.Native.Nat.{ℕ, suc, _<_}
 use native.Mathlib.Omega.{arith}
-use lib.Dec.{ltb}
-use borrow.Author.Tests.{eq-eqb, ne-eqb, lt-ltb, le-ltb}
+use lib.Dec.{leb, ltb}
+use borrow.Author.Tests.{eq-eqb, ne-eqb, lt-ltb, le-ltb, le-leb, leb-true}
 use Rattle.numbers_definitions.proofs.Laws.Tests.{and-false}
 use Rattle.numbers_definitions.specs.First.{first}
 use Rattle.numbers_definitions.proofs.Laws.First.{first-is}
+use Rattle.numbers_definitions.proofs.Laws.Sums.{sum-mono}
 use Rattle.elf_read.specs.Headers.{sectionCount}
-use Rattle.elf_read.specs.Sections.{REL, RELA, sectionAt, targets, countingRel, countingRela}
+use Rattle.elf_read.specs.Sections.{REL, RELA, sectionAt, targets, countingRel, countingRela, relocationsIn, relocationsBelow}
 use Rattle.elf_check.specs.declared.SectionCheck.the-variants.{Sound, Broken}
 use Rattle.elf_header.specs.Headers.{tableAllowed}
-use Rattle.elf_check.specs.Rules.{startsNull, insideFile, allocatedWell, symbolTableWell, noCountingRel, relaKept, relocationsKept, relaWell, relocationsWell, sectionWell, sectionCheck}
+use Rattle.elf_check.specs.Rules.{maxRelocations, startsNull, insideFile, allocatedWell, symbolTableWell, noCountingRel, relaKept, relocationsKept, relaWell, relocationsWell, sectionWell, sectionCheck}
+
+-- ---- the number of relocations
+
+-- where all are not too many, those up to a section are not
+pub number-kept : (s : List ℕ) (i : ℕ) → i < sectionCount s → leb (relocationsBelow s (sectionCount s)) maxRelocations ≡ true → relocationsKept s i ≡ true
+unfolding relocationsKept
+number-kept s i h few =
+    le-leb (relocationsBelow s (suc i)) maxRelocations
+    (omega (arith, sum-mono (relocationsIn s) (suc i) (sectionCount s) h, leb-true (relocationsBelow s (sectionCount s)) maxRelocations few))
 
 -- ---- the rules of RELA and REL sections, by what is found
 

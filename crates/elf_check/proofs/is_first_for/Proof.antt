@@ -1,7 +1,7 @@
 -- `elf_check::is_first_for` meets its contract.
-use mathlib.Core.Path.{_≡_, sym, ap}
+use mathlib.Core.Path.{_≡_, sym, ap, _∙_}
 use Prim.Native.Nat.{ℕ, _-_, _≤_, _<_}
-use mathlib.Core.Bool.{true, false, not, _&&_}
+use mathlib.Core.Bool.{true, not, _&&_}
 use native.Mathlib.Omega.{arith}
 use lib.Dec.{eqb}
 use borrow.Author.Count.{below-more}
@@ -22,19 +22,14 @@ loop-holds c = (omega arith, λ k h. absurd (omega arith))
 
 returns : tie.Need-returns Inv-loop μ-loop
 returns c =
-    let s = c .before .before .before .before .before .before .before .args .object .now in
-    let at = c .before .before .before .before .before .loop in
-    let t = c .before .before .before .before .before .before .before .args .target in
-    let found : countingRela s (at .j) && eqb (sectionAt s (at .j) .info) t ≡ true = rw (← (c .before .before .is-counting-rela .ensures), ← (c .before .before .before .read-section .ensures)) (c .if1 .taken) in
-    sym (everywhere-not _ (c .before .before .before .before .before .before .before .args .i) (at .j) (omega arith) (ap not found))
+    let at : tie.At-loop Inv-loop μ-loop = search in
+    let start : tie.Start Inv-loop μ-loop = search in
+    sym (everywhere-not _ (start .args .i) (at .loop .j) (omega arith) (ap not (sym (c .before .relocates .ensures) ∙ c .if1 .taken)))
 
 loop-again : tie.Need-loop-again Inv-loop μ-loop
 loop-again c =
-    let s = c .before .before .before .before .before .before .before .args .object .now in
-    let at = c .before .before .before .before .before .loop in
-    let t = c .before .before .before .before .before .before .before .args .target in
-    let other : countingRela s (at .j) && eqb (sectionAt s (at .j) .info) t ≡ false = rw (← (c .before .before .is-counting-rela .ensures), ← (c .before .before .before .read-section .ensures)) (c .if1 .left) in
-    (search needs, below-more _ _ (at .inv .1) (ap not other))
+    let at : tie.At-loop Inv-loop μ-loop = search in
+    (search needs, below-more _ _ (at .loop .inv .1) (ap not (sym (c .before .relocates .ensures) ∙ c .if1 .left)))
 
 returns-2 : tie.Need-returns-2 Inv-loop μ-loop
 returns-2 c =
@@ -49,7 +44,6 @@ is-first-for-spec =
     Inv-loop
     μ-loop
     loop-holds
-    (λ c κs. search needs)
     (λ c κs. search needs)
     returns
     (λ c. search needs)

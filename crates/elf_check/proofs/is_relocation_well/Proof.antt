@@ -34,7 +34,8 @@ is-rela-kept-requires c κs =
     let s = c .before .before .before .before .before .before .before .before .args .object .now in
     let i = c .before .before .before .before .before .before .before .before .args .i in
     let t : targets s (sectionAt s i) ≡ true = sym (ap (targets s) (c .before .before .before .before .before .before .read-section .ensures)) ∙ sym (c .before .before .before .before .before .has-target .ensures) ∙ not-false _ (c .before .before .before .before .if1 .left) in
-    record { table = c .before .before .before .before .before .before .before .before .pre .0; there = c .before .before .before .before .before .before .before .before .pre .1; target = allocated-there s (sectionAt s i .info) t }
+    let f = c .before .before .before .before .before .before .before .before .pre in
+    (record { table = f .0; there = f .1; target = allocated-there s (sectionAt s i .info) t }, f .2, f .3)
 
 returns-4 : tie.Need-returns-4
 returns-4 c =

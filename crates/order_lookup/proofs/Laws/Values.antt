@@ -4,6 +4,7 @@ use mathlib.Core.Bool.{Bool, true, false, cond}
 use mathlib.Core.List.{List}
 use Prim.Native.Nat.{ℕ, _+_, _≤_, _<_}
 use native.Mathlib.Omega.{arith}
+use native.Mathlib.Decide.{decLt}
 use lib.Dec.{ltb, eqb}
 use borrow.Author.Tests.{lt-ltb, le-ltb, ltb-true, ltb-false, eq-eqb, ne-eqb}
 use borrow.Author.Count.{below-more}
@@ -11,9 +12,10 @@ use Rattle.numbers_definitions.specs.First.{first}
 use Rattle.numbers_definitions.proofs.Laws.First.{first-is, first-below, first-at, first-le}
 use Rattle.order_format.specs.declared.Entry.{Entry}
 use Rattle.order_lookup.specs.declared.Value.the-variants.{Given, NotGiven}
-use Rattle.order_format.specs.Orders.{entryAt, ascending}
-use Rattle.order_lookup.specs.Values.{valueIn}
-use Rattle.order_format.proofs.Laws.Ascending.{ascending-lt}
+use Rattle.order_format.specs.Orders.{entryAt, ascending, externalsStart, externalCount}
+use Rattle.order_lookup.specs.Values.{valueIn, externalValue}
+use Rattle.order_lookup.specs.Requires.{Reached}
+use Rattle.order_format.proofs.Laws.Ascending.{ascending-lt, ascending-above}
 
 module _ (s : List ℕ) (at n k : ℕ) where
   -- a number that no entry has is given no value
@@ -74,3 +76,45 @@ valueIn-more s at n k other = go (ltb f n) refl
         below-more (λ j. p j ≡ false) n (λ j h. first-below p n j (omega arith)) (ne-eqb _ _ other) in
         let last : first p (n + 1) ≡ n + 1 = first-is p (n + 1) (n + 1) (omega arith) none (λ h. absurd (omega arith)) in
         rw (last, le-ltb (n + 1) (n + 1) (omega arith))
+
+-- ---- from one symbol to the next
+
+module _ (s : List ℕ) (from k : ℕ) (r : Reached s from k) where
+  -- behind the last external value
+  pub reached-end : externalCount s ≤ from → (NotGiven ≡ externalValue s k) × Reached s from (k + 1)
+  unfolding externalValue
+  reached-end e = (
+    sym (valueIn-between s (externalsStart s) (externalCount s) k from (r .below) (λ j h l. absurd (omega arith))),
+    record { below = λ j h. omega (arith, r .below j h); above = λ j h l. absurd (omega arith) },
+  )
+
+  module _ (ascends : ascending (λ i. entryAt s (externalsStart s) i .index) (externalCount s) ≡ true) (there : from < externalCount s) (e : Entry) (read : e ≡ entryAt s (externalsStart s) from) where
+    index-is : e .index ≡ entryAt s (externalsStart s) from .index
+    index-is = ap (λ (e : Entry). e .index) read
+
+    -- the external value there is of a higher symbol
+    pub reached-higher : (e .index ≡ k → ⊥) → (NotGiven ≡ externalValue s k) × Reached s from (k + 1)
+    unfolding externalValue
+    reached-higher other =
+        let higher : k < entryAt s (externalsStart s) from .index = omega (arith, index-is, r .above from (omega arith) there) in
+        let above = ascending-above (λ i. entryAt s (externalsStart s) i .index) (externalCount s) k from ascends higher in (
+          sym (valueIn-between s (externalsStart s) (externalCount s) k from (r .below) above),
+          record { below = λ j h. omega (arith, r .below j h); above = λ j h l. omega (arith, above j h l) },
+        )
+
+    -- it is of this symbol
+    pub reached-here : e .index ≡ k → (Given (e .value) ≡ externalValue s k) × Reached s (from + 1) (k + 1)
+    unfolding externalValue
+    reached-here here = (
+      valueIn-read s (externalsStart s) (externalCount s) k ascends from e read here there,
+      record {
+        below = λ j h. go j h (decLt j from);
+        above = λ j h l. omega (arith, index-is, ascending-lt (λ i. entryAt s (externalsStart s) i .index) (externalCount s) ascends from j (omega arith) l);
+      },
+    )
+      where
+        go : (j : ℕ) → j < from + 1 → Dec (j < from) → entryAt s (externalsStart s) j .index < k + 1
+        go j h (yes l) = omega (arith, r .below j l)
+        go j h (no l) =
+            let same : from ≡ j = omega arith in
+            omega (arith, index-is, ap (λ j. entryAt s (externalsStart s) j .index) same)

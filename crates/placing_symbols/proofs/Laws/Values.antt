@@ -8,13 +8,14 @@ use borrow.Author.Tests.{lt-ltb, le-ltb, ne-eqb}
 use Rattle.elf_read.specs.declared.Symbol.{Symbol}
 use Rattle.elf_read.specs.Sections.{sectionAt, symbolTable}
 use Rattle.elf_read.specs.Entries.{symbolAt, symbolCount}
+use Rattle.order_lookup.specs.Values.{externalValue}
 use Rattle.placing_symbols.specs.declared.SymbolValue.the-variants.{Unresolved}
 use Rattle.placing_symbols.specs.Values.{ofEntry, symbolValue}
 
 module _ (object order addresses : List ℕ) (k : ℕ) (some : 0 < k) where
   -- a symbol of the table that was read
   pub value-read : k < symbolCount object → (y : Symbol) → y ≡ symbolAt object (sectionAt object (symbolTable object)) k
-      → (start : ℕ) → start ≡ getD addresses (y .section) 0 → ofEntry object order start k y ≡ symbolValue object order addresses k
+      → (start : ℕ) → start ≡ getD addresses (y .section) 0 → ofEntry object (externalValue order k) start y ≡ symbolValue object order addresses k
   unfolding symbolValue
   value-read there y read start at = rw (at, read, ne-eqb k 0 (λ z. omega arith), lt-ltb k (symbolCount object) there)
 

@@ -8,7 +8,8 @@ use Rattle.elf_read.specs.Sections.{sectionAt, symbolTable}
 use Rattle.elf_read.specs.Entries.{symbolAt, symbolCount}
 use Rattle.elf_check.specs.Rules.{maxSymbols}
 use Rattle.elf_check.proofs.Laws.Bounds.{symbol-inside, symbols-few}
-use Rattle.placing_symbols.specs.Values.{symbolValue}
+use Rattle.order_lookup.specs.Requires.{Reached}
+use Rattle.placing_symbols.specs.Values.{ofEntry, symbolValue}
 use Rattle.placing_symbols.proofs.Laws.Values.{value-read}
 use Rattle.placing_symbols.proofs.Laws.Arrays.{ValuedBelow, below-one, below-next, below-all}
 use borrow.Author.Needs.{needs}
@@ -16,22 +17,33 @@ use Rattle.placing_symbols.proofs.symbol_values.Statement.{statement}
 use Rattle.placing_symbols.proofs.symbol_values.Tie as tie
 
 abbrev Inv-loop : tie.InvT-loop
-Inv-loop object order counts values₀ states₀ addresses table count k₀ values states k =
-    (0 < k) × ValuedBelow object order addresses values states k
+Inv-loop object order counts values₀ states₀ addresses table count next₀ k₀ values states next k =
+    (0 < k) × ValuedBelow object order addresses values states k × Reached order next k
 
 abbrev μ-loop : tie.MeasureT-loop
-μ-loop object order counts values₀ states₀ addresses table count k₀ values states k = count - k
+μ-loop object order counts values₀ states₀ addresses table count next₀ k₀ values states next k = count - k
 
 -- ---- in a turn
 
 -- the symbol is one of the table
-in-table : (c : tie.In-loop Inv-loop μ-loop) → let s = c .before .before .before .before .before .before .before .args .object .now in
+in-table : (c : tie.In-loop Inv-loop μ-loop) → let s = c .before .before .before .before .before .before .before .before .args .object .now in
     (c .before .loop .k < symbolCount s) × (symbolCount s ≤ maxSymbols)
 in-table c =
     let start : tie.Start Inv-loop μ-loop = search in
     (omega (arith, start .pre .2 .count), symbols-few (start .args .object .now) (start .pre .0))
 
 -- ---- the needs
+
+take-external-requires : tie.Need-take-external-requires Inv-loop μ-loop
+take-external-requires c κs =
+    let start : tie.Start Inv-loop μ-loop = search in
+    (start .pre .1, record { below = λ j h. absurd (omega arith); above = λ j h l. omega arith })
+
+take-external-requires-2 : tie.Need-take-external-requires-2 Inv-loop μ-loop
+take-external-requires-2 c κs =
+    let start : tie.Start Inv-loop μ-loop = search in
+    let head : tie.At-loop Inv-loop μ-loop = search in
+    (start .pre .1, head .loop .inv .2)
 
 slice-write-states : tie.Need-slice-write-states Inv-loop μ-loop
 slice-write-states c =
@@ -41,15 +53,24 @@ slice-write-states c =
 loop-holds : tie.Need-loop-holds Inv-loop μ-loop
 loop-holds c =
     let start : tie.Start Inv-loop μ-loop = search in
-    (search needs, rw (start .pre .3, start .pre .4) (below-one _ _ _))
+    let taken : tie.After-take-external Inv-loop μ-loop = search in
+    (search needs, rw (start .pre .3, start .pre .4) (below-one _ _ _), taken .take-external .ensures .1)
 
 read-symbol-requires : tie.Need-read-symbol-requires Inv-loop μ-loop
 read-symbol-requires c κs =
     let start : tie.Start Inv-loop μ-loop = search in
     rw (start .pre .2 .table (omega arith)) (symbol-inside (start .args .object .now) (start .pre .0) (c .before .loop .k) (in-table c .0))
 
+-- ---- the places on the way: an inserted line moves one of them
+
+abbrev joined : tie.Joined1 Inv-loop μ-loop → tie.At-loop Inv-loop μ-loop
+joined c = c .before .before .before .before
+
+abbrev entered : tie.At-loop Inv-loop μ-loop → tie.Start Inv-loop μ-loop
+entered c = c .before .before .before .before .before .before .before
+
 -- the address that is given to `entry_value`
-start-is : (c : tie.Joined1 Inv-loop μ-loop) → c .if1 .start ≡ getD (c .before .before .before .before .before .before .before .before .before .before .args .t5) (c .before .before .read-symbol .result .section) 0
+start-is : (c : tie.Joined1 Inv-loop μ-loop) → c .if1 .start ≡ getD (entered (joined c) .args .t5) (c .before .before .read-symbol .result .section) 0
 start-is c =
     let start : tie.Start Inv-loop μ-loop = search in
     ⊎-elim (λ w. w .1) (λ w. w .1 ∙ sym (List·getD-eq-default (start .args .t5) 0 (omega arith))) (c .if1 .came)
@@ -61,15 +82,18 @@ loop-again c =
     let turn : tie.In-loop Inv-loop μ-loop = search in
     let read : tie.After-read-symbol Inv-loop μ-loop = search in
     let valued : tie.After-entry-value Inv-loop μ-loop = search in
+    let taken : tie.After-take-external2 Inv-loop μ-loop = search in
+    let chosen : tie.Joined1 Inv-loop μ-loop = search in
     let s = start .args .object .now in
     let k = head .loop .k in
     let symbol : read .read-symbol .result ≡ symbolAt s (sectionAt s (symbolTable s)) k =
     read .read-symbol .ensures ∙ ap (λ h. symbolAt s h k) (start .pre .2 .table (omega arith)) in
     let is : valued .entry-value .result ≡ symbolValue s (start .args .order .now) (start .args .t5) k =
-    valued .entry-value .ensures ∙ value-read s (start .args .order .now) (start .args .t5) k (head .loop .inv .0) (in-table turn .0) _ symbol _ (start-is (search)) in (
+    valued .entry-value .ensures ∙ ap (λ g. ofEntry s g (chosen .if1 .start) (read .read-symbol .result)) (taken .take-external2 .ensures .0) ∙ value-read s (start .args .order .now) (start .args .t5) k (head .loop .inv .0) (in-table turn .0) _ symbol _ (start-is chosen) in (
       search needs,
       rw (c .before .number-of .ensures .0, c .state-of .ensures)
           (below-next _ _ _ _ _ _ (head .loop .inv .1) (omega (arith, in-table turn)) (valued .entry-value .result) is (omega (arith, c .before .number-of .ensures))),
+      taken .take-external2 .ensures .1,
     )
 
 same-length : tie.Need-same-length Inv-loop μ-loop
@@ -97,12 +121,14 @@ symbol-values-spec =
     Inv-loop
     μ-loop
     slice-write-states
+    take-external-requires
     loop-holds
     read-symbol-requires
     (λ c. search needs)
     (λ c. search needs)
     (λ c. search needs)
     (λ c. omega (arith, in-table (search)))
+    take-external-requires-2
     (λ c κs. search needs)
     (λ c κs. search needs)
     (λ c. omega (arith, in-table (search)))

@@ -1,5 +1,4 @@
 -- `placing_symbols::value_at` meets its contract.
-use native.Mathlib.Omega.{arith}
 use borrow.Author.Tests.{lt-ltb, le-ltb, eq-eqb, ne-eqb}
 use Rattle.placing_symbols.specs.Arrays.{listed}
 use borrow.Author.Needs.{needs}

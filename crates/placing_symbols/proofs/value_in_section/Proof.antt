@@ -1,13 +1,11 @@
 -- `placing_symbols::value_in_section` meets its contract.
 use mathlib.Core.Path.{_≡_, sym, ap, _∙_}
 use mathlib.Core.Bool.{true, false}
-use native.Mathlib.Omega.{arith}
 use borrow.Author.Tests.{eq-eqb, ne-eqb}
 use Rattle.numbers_definitions.specs.Places.{address}
 use Rattle.placing_symbols.specs.declared.SymbolValue.the-variants.{Resolved}
 use Rattle.elf_read.specs.Sections.{isAllocated}
-use Rattle.placing_symbols.specs.Values.{ofUndefined, ofSection}
-use Rattle.elf_read.proofs.Laws.Sections.{allocated-there}
+use Rattle.placing_symbols.specs.Values.{ofSection}
 use borrow.Author.Needs.{needs}
 use Rattle.placing_symbols.proofs.value_in_section.Statement.{statement}
 use Rattle.placing_symbols.proofs.value_in_section.Tie as tie
@@ -15,7 +13,8 @@ use Rattle.placing_symbols.proofs.value_in_section.Tie as tie
 returns : tie.Need-returns
 unfolding ofSection
 returns c =
-    let a = c .before .before .before .before .before .before .args in
+    let start : tie.Start = search in
+    let a = start .args in
     let s = a .object .now in
     let inside : isAllocated s (a .symbol .section) ≡ true = sym (c .before .before .before .is-allocated-section .ensures) ∙ c .before .before .if1 .taken in
     rw inside (ap (λ n. Resolved (address n)) (c .add32 .ensures))
@@ -23,7 +22,8 @@ returns c =
 returns-2 : tie.Need-returns-2
 unfolding ofSection
 returns-2 c =
-    let a = c .before .before .before .before .before .args in
+    let start : tie.Start = search in
+    let a = start .args in
     let s = a .object .now in
     let inside : isAllocated s (a .symbol .section) ≡ false = sym (c .before .before .is-allocated-section .ensures) ∙ c .before .if1 .left in
     rw (inside, eq-eqb _ _ (c .if2 .taken))
@@ -31,7 +31,8 @@ returns-2 c =
 returns-3 : tie.Need-returns-3
 unfolding ofSection
 returns-3 c =
-    let a = c .before .before .before .before .before .before .args in
+    let start : tie.Start = search in
+    let a = start .args in
     let s = a .object .now in
     let inside : isAllocated s (a .symbol .section) ≡ false = sym (c .before .before .before .is-allocated-section .ensures) ∙ c .before .before .if1 .left in
     rw (inside, ne-eqb _ _ (c .before .if2 .left), ne-eqb _ _ (c .if3 .taken))
@@ -39,10 +40,12 @@ returns-3 c =
 returns-4 : tie.Need-returns-4
 unfolding ofSection
 returns-4 c =
-    let a = c .before .before .before .before .before .before .before .before .args in
-    let s = a .object .now in
-    let inside : isAllocated s (a .symbol .section) ≡ false = sym (c .before .before .before .before .before .is-allocated-section .ensures) ∙ c .before .before .before .before .if1 .left in
-    rw (inside, ne-eqb _ _ (c .before .before .before .if2 .left), eq-eqb _ _ (c .before .before .if3 .left)) (c .undefined-value .ensures ∙ ap (ofUndefined (a .symbol)) (c .before .external-value .ensures))
+    let tested : tie.After-is-allocated-section = search in
+    let other : tie.Else1 = search in
+    let named : tie.Else2 = search in
+    let start : tie.Start = search in
+    let inside : isAllocated (start .args .object .now) (start .args .symbol .section) ≡ false = sym (tested .is-allocated-section .ensures) ∙ other .if1 .left in
+    rw (inside, ne-eqb _ _ (named .if2 .left), eq-eqb _ _ (c .before .if3 .left)) (c .undefined-value .ensures)
 
 pub value-in-section-spec : {M : Type 1} → statement M
 value-in-section-spec =
@@ -55,6 +58,5 @@ value-in-section-spec =
     returns
     returns-2
     returns-3
-    (λ c κs. search needs)
     (λ c κs. search needs)
     returns-4)

@@ -1,6 +1,6 @@
 -- `relocations_apply::rela_of` meets its contract.
 use mathlib.Core.Path.{_≡_, sym, _∙_}
-use mathlib.Core.Bool.{true, false, _&&_}
+use mathlib.Core.Bool.{false, _&&_}
 use Prim.Native.Nat.{ℕ, _-_, _≤_, _<_}
 use native.Mathlib.Omega.{arith}
 use lib.Dec.{eqb}
@@ -26,20 +26,17 @@ loop-holds c = (omega arith, λ k h. absurd (omega arith))
 returns : tie.Need-returns Inv-loop μ-loop
 unfolding relaOf
 returns c =
-    let a = c .before .before .before .before .before .before .before .before .args in
-    let s = a .object .now in
-    let at = c .before .before .before .before .before .loop in
-    let count : c .before .before .before .before .before .before .section-count .result ≡ sectionCount s = c .before .before .before .before .before .before .section-count .ensures in
-    let here : (countingRela s (at .i) && eqb (sectionAt s (at .i) .info) (a .t)) ≡ true = rw (← (c .before .before .before .read-section .ensures), ← (c .before .before .is-counting-rela .ensures)) (c .if1 .taken) in
-    sym (first-is _ (sectionCount s) (at .i) (omega arith) (at .inv .1) (λ _. here))
+    let at : tie.At-loop Inv-loop μ-loop = search in
+    let counted : tie.After-section-count Inv-loop μ-loop = search in
+    let start : tie.Start Inv-loop μ-loop = search in
+    sym (first-is _ (sectionCount (start .args .object .now)) (at .loop .i) (omega (arith, counted .section-count .ensures)) (at .loop .inv .1) (λ _. sym (c .before .relocates .ensures) ∙ c .if1 .taken))
 
 loop-again : tie.Need-loop-again Inv-loop μ-loop
 loop-again c =
-    let a = c .before .before .before .before .before .before .before .before .args in
-    let s = a .object .now in
-    let at = c .before .before .before .before .before .loop in
-    let other : (countingRela s (at .i) && eqb (sectionAt s (at .i) .info) (a .t)) ≡ false = rw (← (c .before .before .before .read-section .ensures), ← (c .before .before .is-counting-rela .ensures)) (c .if1 .left) in
-    (omega arith, below-more (λ k. (countingRela s k && eqb (sectionAt s k .info) (a .t)) ≡ false) _ (at .inv .1) other)
+    let at : tie.At-loop Inv-loop μ-loop = search in
+    let start : tie.Start Inv-loop μ-loop = search in
+    let s = start .args .object .now in
+    (omega arith, below-more (λ k. (countingRela s k && eqb (sectionAt s k .info) (start .args .t)) ≡ false) _ (at .loop .inv .1) (sym (c .before .relocates .ensures) ∙ c .if1 .left))
 
 returns-2 : tie.Need-returns-2 Inv-loop μ-loop
 unfolding relaOf
@@ -60,8 +57,6 @@ rela-of-spec =
     (λ c κs. search needs)
     loop-holds
     (λ c κs. search needs)
-    (λ c κs. search needs)
-    (λ c. search needs)
     returns
     (λ c. search needs)
     (λ c. search needs)
