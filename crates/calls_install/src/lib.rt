@@ -63,7 +63,7 @@ fn judge_and_fit(
         order,
         counts,
         image.len(),
-        [0u32; MAX_SECTIONS],
+        [0u64; MAX_SECTIONS],
         &mut highs,
         &mut words,
         &mut sizes,

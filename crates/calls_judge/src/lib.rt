@@ -12,6 +12,7 @@ ghost use Rattle.calls_judge.specs.Answers.{answerOf};
 ghost use Rattle.calls_judge.specs.Judged.{Lent, JudgedWell};
 use elf_check::MAX_SYMBOLS;
 use elf_check::ObjectCheck;
+use numbers_definitions::Class;
 use order_format::OrderHeader;
 use order_format::Reading;
 use order_lookup::Addresses;
@@ -219,7 +220,7 @@ pub fn judge(
     requires { ⌜ (reading (now order) ≡ Reading.WellFormed counts) × (addresses ≡ noAddresses) × Lent (now highs) (now words) (now sizes) ⌝ }
     ensures { λ r. ⌜ JudgedWell (now (object .entry)) (now (order .entry)) len r (now (words .exit)) (now (sizes .exit)) ⌝ }
 {
-    if !order_format::window_allowed(counts.base, len) {
+    if !order_format::window_allowed(Class::Elf32, counts.base, len) {
         return Judged {
             answer: Answer::WindowBroken,
             addresses,

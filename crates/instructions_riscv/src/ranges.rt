@@ -6,8 +6,8 @@ use numbers_definitions::Address;
 
 // Distances from -back to ahead.
 pub struct Range {
-    pub back: u32,
-    pub ahead: u32,
+    pub back: u64,
+    pub ahead: u64,
 }
 
 // The range of the jump or branch that has this field. For every other field it is all distances.

@@ -1,7 +1,12 @@
 // Sums and differences that wrap at a width, signed words, and powers of two.
 ghost use mathlib.Core.Path.{_≡_};
+ghost use mathlib.Core.Bool.{_&&_};
+ghost use Prim.Native.Nat.{_+_, _%_, _^_, _<_};
+ghost use lib.Dec.{leb, ltb};
+ghost use Rattle.numbers_definitions.specs.Classes.{bits};
 ghost use Rattle.numbers_definitions.specs.Whole.{residue, signed, plus, minus};
 ghost use Rattle.numbers_definitions.specs.Powers.{oneBit, ceilPower};
+use numbers_definitions::Class;
 
 // v + x, wrapping at the width of the field that holds v.
 pub fn add8(v: u8, x: u64) -> u8
@@ -51,6 +56,65 @@ pub fn sub64(v: u64, x: u64) -> u64
     ensures { λ r. ⌜ r ≡ minus 64 v x ⌝ }
 {
     std::num::wrapping_sub_u64(v, x)
+}
+
+// x modulo 2^32 or 2^64, as wide as addresses are.
+pub fn reduce(class: Class, x: u64) -> u64
+    ensures { λ r. ⌜ r ≡ x % 2 ^ bits class ⌝ }
+{
+    match class {
+        Class::Elf32 => x % 0x1_0000_0000,
+        Class::Elf64 => x,
+    }
+}
+
+// The sum and the difference of two addresses.
+pub fn sum(class: Class, a: u64, b: u64) -> u64
+    ensures { λ r. ⌜ r ≡ plus (bits class) a b ⌝ }
+{
+    reduce(class, add64(a, b))
+}
+
+pub fn difference(class: Class, a: u64, b: u64) -> u64
+    ensures { λ r. ⌜ r ≡ minus (bits class) a b ⌝ }
+{
+    reduce(class, sub64(a, b))
+}
+
+// Whether the m addresses from a on and the n addresses from b on share one, where neither range is empty: the one that starts
+// later starts before the other ends. Nothing wraps, also where an end is 2^64 or more.
+pub fn overlaps(a: u64, m: u64, b: u64, n: u64) -> bool
+    ensures { λ r. ⌜ (0 < m → 0 < n → r ≡ (ltb a (b + n) && ltb b (a + m))) ⌝ }
+{
+    if a <= b {
+        return b - a < m;
+    }
+    a - b < n
+}
+
+// Whether start + size is at most a limit. Nothing wraps.
+pub fn ends_within(start: u64, size: u64, limit: u64) -> bool
+    ensures { λ r. ⌜ r ≡ leb (start + size) limit ⌝ }
+{
+    if limit < start {
+        return false;
+    }
+    size <= limit - start
+}
+
+// Whether start + size is at most the end of memory. Nothing wraps.
+pub fn ends_in_memory(class: Class, start: u64, size: u64) -> bool
+    ensures { λ r. ⌜ r ≡ leb (start + size) (2 ^ bits class) ⌝ }
+{
+    match class {
+        Class::Elf32 => ends_within(start, size, 0x1_0000_0000),
+        Class::Elf64 => {
+            if size == 0 {
+                return true;
+            }
+            start <= 0xffff_ffff_ffff_ffff - (size - 1)
+        }
+    }
 }
 
 // The signed number that a word of 32 bits spells, modulo 2^64: 2^31 is added at 32 bits and taken away at 64, by

@@ -1,4 +1,5 @@
 pub mod Places
+pub mod Classes
 pub mod Bytes
 pub mod First
 pub mod Whole

@@ -7,4 +7,10 @@ pub struct FileOffset(pub u32);
 
 pub struct SectionOffset(pub u32);
 
-pub struct Address(pub u32);
+pub struct Address(pub u64);
+
+// How wide addresses are. The names are those of ELF's two classes.
+pub enum Class {
+    Elf32,
+    Elf64,
+}

@@ -2,9 +2,11 @@
 ghost use mathlib.Core.Path.{_≡_};
 ghost use Prim.Native.Nat.{_+_, _*_, _≤_};
 ghost use lib.ListN.{length};
+ghost use Rattle.numbers_definitions.specs.Classes.{bits};
 ghost use Rattle.order_format.specs.Orders.{entrySize, externalsAt, maxPlacements, reading, entryAt, ascending};
 ghost use Rattle.order_format.specs.Windows.{lengthAllowed, windowAllowed};
 use numbers_definitions::Address;
+use numbers_definitions::Class;
 
 pub const MAX_PLACEMENTS: usize = 32;
 
@@ -54,7 +56,7 @@ pub fn read_entry(order: &[u8], at: usize, i: usize) -> Entry
     let place = at + ENTRY_SIZE * i;
     Entry {
         index: numbers_bytes::read32(order, place),
-        value: Address(numbers_bytes::read32(order, place + 4)),
+        value: Address(numbers_bytes::read32(order, place + 4) as u64),
     }
 }
 
@@ -110,7 +112,7 @@ pub fn read_order(order: &[u8]) -> Reading
         return Reading::Malformed;
     }
     Reading::WellFormed(OrderHeader {
-        base: Address(numbers_bytes::read32(order, 4)),
+        base: Address(numbers_bytes::read32(order, 4) as u64),
         placements,
         externals,
     })
@@ -123,12 +125,9 @@ pub fn length_allowed(len: usize) -> bool
     len <= MAX_IMAGE
 }
 
-// Check 3 of an install: the image's length, and that the window ends at or below 2^32.
-pub fn window_allowed(base: Address, len: usize) -> bool
-    ensures { λ r. ⌜ r ≡ windowAllowed 32 (base .0) len ⌝ }
+// Check 3 of an install: the image's length, and that the window ends at or below the end of memory.
+pub fn window_allowed(class: Class, base: Address, len: usize) -> bool
+    ensures { λ r. ⌜ r ≡ windowAllowed (bits class) (base .0) len ⌝ }
 {
-    if MAX_IMAGE < len {
-        return false;
-    }
-    base.0 as usize + len <= 4294967296
+    (len <= MAX_IMAGE) & numbers_arithmetic::ends_in_memory(class, base.0, len as u64)
 }

@@ -91,7 +91,7 @@ pub fn placed_at(order: &[u8], counts: OrderHeader, section: u32) -> Value
 }
 
 // "The 32 row addresses travel as one array passed by value."
-pub type Addresses = [u32; MAX_SECTIONS];
+pub type Addresses = [u64; MAX_SECTIONS];
 
 // Stores the address of each section that the order places into an array of zeros. A section that the order does not place
 // keeps the entry 0; once check 6 has passed, no result depends on it.

@@ -43,11 +43,6 @@ share object addresses i j =
     && ltb (getD addresses i 0) (endOf object addresses j)
     && ltb (getD addresses j 0) (endOf object addresses i)
 
--- section j is allocated and has one of the addresses from a start on and below an end
-unfoldable pub meet : List ℕ → List ℕ → ℕ → ℕ → ℕ → Bool
-meet object addresses start end j =
-    allocated (sectionAt object j) && ltb 0 (sectionAt object j .size) && ltb start (endOf object addresses j) && ltb (getD addresses j 0) end
-
 -- "two rows of size above 0 share no address, the higher row being at fault"
 unfoldable pub apart : List ℕ → List ℕ → ℕ → Bool
 apart object addresses i = everywhere (λ j. not (allocated (sectionAt object j) && share object addresses i j)) i

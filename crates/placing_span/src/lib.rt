@@ -1,6 +1,6 @@
 // The span of an install: the part of the image that its loaded sections take.
 ghost use mathlib.Core.Path.{_≡_};
-ghost use mathlib.Core.Bool.{cond};
+ghost use mathlib.Core.Bool.{true, cond};
 ghost use Prim.Native.Nat.{_+_, _-_, _≤_, _<_, min, max};
 ghost use Rattle.elf_read.specs.Headers.{sectionCount};
 ghost use Rattle.elf_check.specs.Requires.{SoundObject};
@@ -31,14 +31,26 @@ fn less(a: u64, b: u64) -> u64
     if b <= a { a - b } else { 0 }
 }
 
+// start + size - base, or 0 where the base is larger. Nothing wraps, also where start + size is 2^64.
+fn end_from(start: u64, size: u64, base: u64) -> u64
+    requires { ⌜ start + size - base < 4294967296 ⌝ }
+    ensures { λ r. ⌜ r ≡ start + size - base ⌝ }
+{
+    if base <= start {
+        return start - base + size;
+    }
+    less(size, base - start)
+}
+
 // The end of the highest laid byte, where it was `end` before this section.
 fn raised(h: Section, address: Address, base: Address, end: u64) -> u64
+    requires { ⌜ (hasBytes h ≡ true → address .0 + h .size - base .0 < 4294967296) ⌝ }
     ensures { λ r. ⌜ r ≡ cond (hasBytes h) (max (address .0 + h .size - base .0) end) end ⌝ }
 {
     if !has_bytes(h) {
         return end;
     }
-    larger(less(address.0 as u64 + h.size as u64, base.0 as u64), end)
+    larger(end_from(address.0, h.size as u64, base.0), end)
 }
 
 // The lowest laid byte, where it was `start` before this section.
@@ -48,12 +60,12 @@ fn lowered(h: Section, address: Address, base: Address, start: u64) -> u64
     if !has_bytes(h) {
         return start;
     }
-    smaller(less(address.0 as u64, base.0 as u64), start)
+    smaller(less(address.0, base.0), start)
 }
 
 // The end of the highest laid byte of the first n sections, or 0 if none is laid.
 fn highest_end(object: &[u8], addresses: Addresses, base: Address, n: usize) -> u64
-    requires { ⌜ SoundObject (now object) × (n ≤ sectionCount (now object)) ⌝ }
+    requires { ⌜ SoundObject (now object) × (n ≤ sectionCount (now object)) × (highest (now object) addresses (base .0) n < 4294967296) ⌝ }
     ensures { λ r. ⌜ r ≡ highest (now (object .entry)) addresses (base .0) n ⌝ }
 {
     let mut end: u64 = 0;

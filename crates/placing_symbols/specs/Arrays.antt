@@ -1,7 +1,7 @@
 -- S of every symbol, worked out once: an array of values, and an array of states. A state is 1 for a symbol that resolves and 0 for any
 -- other. Both arrays have an entry for each symbol number below `maxSymbols`, however many symbols there are.
 use mathlib.Core.Path.{_≡_}
-use Prim.Native.Nat.{ℕ, _^_, _<_}
+use Prim.Native.Nat.{ℕ, _<_}
 use mathlib.Core.Bool.{cond}
 use mathlib.Core.List.{List}
 use lib.ListN.{length, getD, replicate}
@@ -33,11 +33,10 @@ decoded state value = cond (eqb state 1) (Resolved (address value)) Unresolved
 unfoldable pub listed : List ℕ → List ℕ → ℕ → SymbolValue
 listed values states k = cond (ltb k maxSymbols) (decoded (getD states k 0) (getD values k 0)) Unresolved
 
--- arrays of the right length, whose values fit addresses
+-- arrays of the right length
 pub record ValueArrays (values states : List ℕ) : Type 0 where
   pub values-length : length values ≡ maxSymbols
   pub states-length : length states ≡ maxSymbols
-  pub small : (k : ℕ) → getD values k 0 < 2 ^ 32
 
 -- the arrays hold S of every symbol
 pub record Valued (object order addresses values states : List ℕ) : Type 0 where

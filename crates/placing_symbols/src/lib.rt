@@ -1,6 +1,5 @@
 // The values of symbols.
 ghost use mathlib.Core.Path.{_≡_};
-ghost use Prim.Native.Nat.{_^_, _<_};
 ghost use Rattle.elf_check.specs.Requires.{SoundObject};
 ghost use Rattle.order_format.specs.Orders.{reading};
 ghost use Rattle.placing_symbols.specs.Values.{ofUndefined, ofSection, ofEntry};
@@ -16,6 +15,7 @@ use elf_read::STT_TLS;
 use elf_read::Section;
 use elf_read::Symbol;
 use numbers_definitions::Address;
+use numbers_definitions::Class;
 use order_format::OrderHeader;
 use order_format::Reading;
 use order_lookup::Addresses;
@@ -46,20 +46,21 @@ fn undefined_value(symbol: Symbol, value: Value) -> SymbolValue
 
 // The value of a symbol of the table, by the section that it is defined in. `given` is what the order gives to the symbol, and
 // `start` is the address of that section.
-fn value_in_section(object: &[u8], given: Value, start: u32, symbol: Symbol) -> SymbolValue
+fn value_in_section(object: &[u8], given: Value, start: u64, symbol: Symbol) -> SymbolValue
     requires { ⌜ SoundObject (now object) ⌝ }
     ensures { λ r. ⌜ r ≡ ofSection (now (object .entry)) given start symbol ⌝ }
 {
     let section = symbol.section;
     if elf_read::is_allocated_section(object, section as u32) {
-        return SymbolValue::Resolved(Address(numbers_arithmetic::add32(
+        return SymbolValue::Resolved(Address(numbers_arithmetic::sum(
+            Class::Elf32,
             start,
             symbol.value.0 as u64,
         )));
     }
     if section == SHN_ABS {
         // An absolute symbol is in no section: its value is the address itself.
-        return SymbolValue::Resolved(Address(symbol.value.0));
+        return SymbolValue::Resolved(Address(symbol.value.0 as u64));
     }
     if section != SHN_UNDEF {
         return SymbolValue::Unresolved;
@@ -69,7 +70,7 @@ fn value_in_section(object: &[u8], given: Value, start: u32, symbol: Symbol) -> 
 
 // The value of a symbol of the table that is not symbol 0. `given` is what the order gives to the symbol, and `start` is the
 // address of the section that it is defined in.
-fn entry_value(object: &[u8], given: Value, start: u32, symbol: Symbol) -> SymbolValue
+fn entry_value(object: &[u8], given: Value, start: u64, symbol: Symbol) -> SymbolValue
     requires { ⌜ SoundObject (now object) ⌝ }
     ensures { λ r. ⌜ r ≡ ofEntry (now (object .entry)) given start symbol ⌝ }
 {
@@ -115,10 +116,10 @@ fn state_of(value: SymbolValue) -> u8
 
 // The value that is stored for S: 0 if the symbol does not resolve.
 fn number_of(value: SymbolValue) -> u64
-    ensures { λ r. ⌜ (r ≡ numberOf value) × (r < 2 ^ 32) ⌝ }
+    ensures { λ r. ⌜ r ≡ numberOf value ⌝ }
 {
     match value {
-        SymbolValue::Resolved(s) => s.0 as u64,
+        SymbolValue::Resolved(s) => s.0,
         SymbolValue::Unresolved => 0,
     }
 }
@@ -175,5 +176,5 @@ pub fn value_at(values: &[u64], states: &[u8], k: u32) -> SymbolValue
     if states[at] != 1 {
         return SymbolValue::Unresolved;
     }
-    SymbolValue::Resolved(Address(values[at] as u32))
+    SymbolValue::Resolved(Address(values[at]))
 }

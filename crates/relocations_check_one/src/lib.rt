@@ -16,8 +16,11 @@ ghost use Rattle.relocations_rules.specs.Rules.{isResolved, isOne, boundaryWell
 ghost use Rattle.relocations_check_one.specs.Outcomes.{storeNumber, distanceBy, distanceOfBy, Partnered, Comes, Onward};
 ghost use Rattle.relocations_check_one.specs.Requires.{Storing, Listing, Lookups, Read};
 use elf_read::Relocation;
+use numbers_arithmetic::add64;
+use numbers_arithmetic::difference;
 use numbers_bytes::read_bytes;
 use numbers_definitions::Address;
+use numbers_definitions::Class;
 use numbers_definitions::SectionOffset;
 use placing_symbols::SymbolValue;
 use placing_symbols::Symbols;
@@ -51,7 +54,7 @@ struct Outcome {
 // half is there, otherwise 0; T - P of the high half; and what is then known of the site's high halves.
 struct Partner {
     number: u64,
-    distance: u32,
+    distance: u64,
     made: u64,
 }
 
@@ -67,13 +70,13 @@ pub struct Step {
     pub trail: Trail,
 }
 
-// Check 14 of an ALIGN.
+// Check 14 of an ALIGN. Where the sum is 2^64 or more, it wraps; a power of two up to 2^64 divides it all the same or not.
 fn is_on_boundary(start: Address, at: SectionOffset, addend: u64) -> bool
     requires { ⌜ addend ≤ 4094 ⌝ }
     ensures { λ r. ⌜ r ≡ boundaryWell Decision.Align (start .0 + at .0) (signed 64 addend) ⌝ }
 {
-    let p = start.0 as u64 + at.0 as u64;
-    (p + addend) % numbers_arithmetic::ceil_power(addend as u32 + 2) == 0
+    let p = add64(start.0, at.0 as u64);
+    add64(p, addend) % numbers_arithmetic::ceil_power(addend as u32 + 2) == 0
 }
 
 // The number of the first of checks 10 to 13 that is broken, or 0.
@@ -112,15 +115,15 @@ fn found_bytes(object: &[u8], site: Site, rule: Rule, here: Relocation, j: usize
 }
 
 // T - P of relocation k.
-fn distance_at(object: &[u8], site: Site, values: &[u64], states: &[u8], k: usize) -> u32
+fn distance_at(object: &[u8], site: Site, values: &[u64], states: &[u8], k: usize) -> u64
     requires { ⌜ There (now object) site k × ValueArrays (now values) (now states) ⌝ }
     ensures { λ r. ⌜ r ≡ distanceBy (listed (now (values .entry)) (now (states .entry))) (now (object .entry)) site k ⌝ }
 {
     let high = elf_read::read_relocation(object, site.rela, k);
     let value = value_at(values, states, high.symbol);
-    let t = target_of(value, high.addend);
-    let p = place_of(site, high);
-    numbers_arithmetic::sub32(t.0, p.0 as u64)
+    let t = target_of(Class::Elf32, value, high.addend);
+    let p = place_of(Class::Elf32, site, high);
+    difference(Class::Elf32, t.0, p.0)
 }
 
 // Lists the high halves of a site, unless they are listed already. The result is one more than their number.
@@ -280,15 +283,15 @@ fn check_resolved(
     );
     let found = found_bytes(object, site, rule, here, j);
     let applied = apply_rule(
+        Class::Elf32,
         calculation,
         field,
         form,
-        site.address.0 as u64 + here.offset.0 as u64,
         found,
         present(shares, last, found),
-        target_of(value, here.addend),
+        target_of(Class::Elf32, value, here.addend),
         symbol_sum(value, here.addend),
-        place_of(site, here),
+        place_of(Class::Elf32, site, here),
         high.distance,
     );
     Outcome {

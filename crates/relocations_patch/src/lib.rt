@@ -1,9 +1,11 @@
 // What a relocation makes of the bytes that it touches, worked out from numbers.
 ghost use mathlib.Core.Path.{_≡_};
 ghost use mathlib.Core.Bool.{true};
-ghost use Prim.Native.Nat.{ℕ, _+_, _%_, _^_, _<_};
+ghost use Prim.Native.Nat.{ℕ, _+_, _%_, _^_, _≤_, _<_};
 ghost use lib.IntN.{pos, _+ℤ_};
 ghost use lib.Dec.{eqb};
+ghost use Rattle.numbers_definitions.specs.declared.Class.{Class};
+ghost use Rattle.numbers_definitions.specs.Classes.{bits};
 ghost use Rattle.numbers_definitions.specs.Whole.{residue, signed};
 ghost use Rattle.instructions_riscv.specs.Forms.{hasForm};
 ghost use Rattle.relocations_values.specs.Values.{S};
@@ -30,49 +32,52 @@ use instructions_riscv::halves::hi20;
 use instructions_riscv::halves::lo12;
 use instructions_riscv::ranges::in_reach;
 use instructions_riscv::ranges::range_of;
+use numbers_arithmetic::difference;
+use numbers_arithmetic::reduce;
 use numbers_definitions::Address;
+use numbers_definitions::Class;
 use placing_symbols::SymbolValue;
 use relocations_types::Calculation;
 use relocations_types::Operand;
 
 // Both halves of a number, at the bits where AUIPC or LUI and the instruction after it hold them.
-fn both_halves(x: u32) -> u64
-    ensures { λ r. ⌜ r ≡ highPart 32 x + lowPart 32 x ⌝ }
+fn both_halves(class: Class, x: u64) -> u64
+    ensures { λ r. ⌜ r ≡ highPart (bits class) x + lowPart (bits class) x ⌝ }
 {
-    high_part(x) + low_part(x)
+    high_part(class, x) + low_part(x)
 }
 
-fn high_part(x: u32) -> u64
-    ensures { λ r. ⌜ (r ≡ highPart 32 x) × (r < 2 ^ 32) ⌝ }
+fn high_part(class: Class, x: u64) -> u64
+    ensures { λ r. ⌜ (r ≡ highPart (bits class) x) × (r + 4096 ≤ 2 ^ 64) ⌝ }
 {
-    4096 * hi20(x) as u64
+    4096 * hi20(class, x)
 }
 
-fn low_part(x: u32) -> u64
-    ensures { λ r. ⌜ (r ≡ lowPart 32 x) × (r < 2 ^ 12) ⌝ }
+// It is the same in both classes.
+fn low_part(x: u64) -> u64
+    ensures { λ r. ⌜ ((k : Class) → r ≡ lowPart (bits k) x) × (r < 2 ^ 12) ⌝ }
 {
-    lo12(x) as u64
+    lo12(x)
 }
 
 // The operand. t is T, p is P, and d is the paired high half's T - P.
-fn operand_of(operand: Operand, t: Address, p: Address, d: u32) -> u32
-    ensures { λ r. ⌜ r ≡ operandOf 32 operand (t .0) (p .0) d ⌝ }
+fn operand_of(class: Class, operand: Operand, t: Address, p: Address, d: u64) -> u64
+    ensures { λ r. ⌜ r ≡ operandOf (bits class) operand (t .0) (p .0) d ⌝ }
 {
     match operand {
         Operand::Absolute => t.0,
-        Operand::PcRelative => numbers_arithmetic::sub32(t.0, p.0 as u64),
+        Operand::PcRelative => difference(class, t.0, p.0),
         Operand::Paired => d,
     }
 }
 
 // The operand of a calculation, where x is S + A. ADD, SUB and SET have none.
-fn operand_value(calculation: Calculation, x: u64, p: Address, d: u32) -> u32
-    ensures { λ r. ⌜ r ≡ operandBy 32 calculation (residue 32 (signed 64 x)) (p .0) d ⌝ }
+fn operand_value(class: Class, calculation: Calculation, x: u64, p: Address, d: u64) -> u64
+    ensures { λ r. ⌜ r ≡ operandBy (bits class) calculation (residue (bits class) (signed 64 x)) (p .0) d ⌝ }
 {
     match calculation {
         Calculation::Of(_, operand) => {
-            let t = Address((x % 0x1_0000_0000) as u32);
-            operand_of(operand, t, p, d)
+            operand_of(class, operand, Address(reduce(class, x)), p, d)
         }
         Calculation::Add => 0,
         Calculation::Sub => 0,
@@ -81,12 +86,12 @@ fn operand_value(calculation: Calculation, x: u64, p: Address, d: u32) -> u32
 }
 
 // A field of data after a relocation. w is its bytes before it, x is S + A in two's complement, and v is the operand.
-fn data_word(calculation: Calculation, width: Width, w: u64, x: u64, v: u32) -> u64
+fn data_word(calculation: Calculation, width: Width, w: u64, x: u64, v: u64) -> u64
     requires { ⌜ fills calculation ≡ true ⌝ }
-    ensures { λ r. ⌜ ((p d : ℕ) → v ≡ operandBy 32 calculation (residue 32 (signed 64 x)) p d → r ≡ patched 32 calculation (Field.Data width) w (signed 64 x) p d) ⌝ }
+    ensures { λ r. ⌜ ((n p d : ℕ) → v ≡ operandBy n calculation (residue n (signed 64 x)) p d → r ≡ patched n calculation (Field.Data width) w (signed 64 x) p d) ⌝ }
 {
     match calculation {
-        Calculation::Of(_, _) => put_data(width, w, v as u64),
+        Calculation::Of(_, _) => put_data(width, w, v),
         Calculation::Add => add(width, w, x),
         Calculation::Sub => sub(width, w, x),
         Calculation::Set => set(width, w, x),
@@ -124,28 +129,28 @@ pub struct Applied {
 // in two's complement, p is P, and d is the paired high half's T - P. One match on the field decides everything: what goes into
 // the field and which form is asked for are then known.
 pub fn apply_rule(
+    class: Class,
     calculation: Calculation,
     field: Field,
     form: Form,
-    place: u64,
     found: u64,
     w: u64,
     t: Address,
     x: u64,
     p: Address,
-    d: u32,
+    d: u64,
 ) -> Applied
     requires { ⌜ Regular calculation field form ⌝ }
-    ensures { λ r. ⌜ (r .stands ≡ standsWell form place found) × (r .reaches ≡ reachesWell 32 calculation field (t .0) (p .0)) × (r .word ≡ patched 32 calculation field w (signed 64 x) (p .0) d) ⌝ }
+    ensures { λ r. ⌜ (r .stands ≡ standsWell form (p .0) found) × (r .reaches ≡ reachesWell (bits class) calculation field (t .0) (p .0)) × (r .word ≡ patched (bits class) calculation field w (signed 64 x) (p .0) d) ⌝ }
 {
-    let even = place % 2 == 0;
+    let even = p.0 % 2 == 0;
     let next = found / 0x1_0000_0000;
-    let v = operand_value(calculation, x, p, d);
+    let v = operand_value(class, calculation, x, p, d);
     match field {
         Field::U => Applied {
             stands: even & (found % 128 == upper_opcode(form)),
             reaches: true,
-            word: put_u(w, high_part(v)),
+            word: put_u(w, high_part(class, v)),
         },
         Field::I => Applied {
             stands: even & has_form(Form::LowI, found, next),
@@ -160,27 +165,27 @@ pub fn apply_rule(
         Field::B => Applied {
             stands: even & has_form(Form::Branch, found, next),
             reaches: in_reach(range_of(Field::B), t, p),
-            word: put_b(w, v as u64),
+            word: put_b(w, v),
         },
         Field::J => Applied {
             stands: even & has_form(Form::Jal, found, next),
             reaches: in_reach(range_of(Field::J), t, p),
-            word: put_j(w, v as u64),
+            word: put_j(w, v),
         },
         Field::Cb => Applied {
             stands: even & has_form(Form::CBranch, found, next),
             reaches: in_reach(range_of(Field::Cb), t, p),
-            word: put_cb(w, v as u64),
+            word: put_cb(w, v),
         },
         Field::Cj => Applied {
             stands: even & has_form(Form::CJump, found, next),
             reaches: in_reach(range_of(Field::Cj), t, p),
-            word: put_cj(w, v as u64),
+            word: put_cj(w, v),
         },
         Field::Call => Applied {
             stands: even & has_form(Form::CallPair, found, next),
-            reaches: numbers_arithmetic::sub32(t.0, p.0 as u64) % 2 == 0,
-            word: put_field(Field::Call, w, both_halves(v)),
+            reaches: difference(class, t.0, p.0) % 2 == 0,
+            word: put_field(Field::Call, w, both_halves(class, v)),
         },
         Field::Data(width) => Applied {
             stands: true,
@@ -195,7 +200,7 @@ pub fn symbol_sum(value: SymbolValue, addend: u64) -> u64
     ensures { λ r. ⌜ r ≡ residue 64 (pos (S value) +ℤ signed 64 addend) ⌝ }
 {
     match value {
-        SymbolValue::Resolved(s) => numbers_arithmetic::add64(s.0 as u64, addend),
+        SymbolValue::Resolved(s) => numbers_arithmetic::add64(s.0, addend),
         SymbolValue::Unresolved => numbers_arithmetic::add64(0, addend),
     }
 }

@@ -80,8 +80,8 @@ pub fn case(ends: Range, number: u64) -> Jump {
         };
     }
     let p: u32 = 0x8000_0000;
-    let last = std::num::wrapping_add_u32(p, ends.ahead);
-    let first = std::num::wrapping_sub_u32(p, ends.back);
+    let last = std::num::wrapping_add_u32(p, (ends.ahead % 0x1_0000_0000) as u32);
+    let first = std::num::wrapping_sub_u32(p, (ends.back % 0x1_0000_0000) as u32);
     let t = match number {
         0 => last,
         1 => std::num::wrapping_add_u32(last, 1),
@@ -92,8 +92,8 @@ pub fn case(ends: Range, number: u64) -> Jump {
         _ => p,
     };
     Jump {
-        t: Address(t),
-        p: Address(p),
+        t: Address(t as u64),
+        p: Address(p as u64),
     }
 }
 

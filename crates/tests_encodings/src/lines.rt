@@ -3,6 +3,7 @@ use super::choices;
 use instructions_fields::Field;
 use instructions_fields::Width;
 use instructions_riscv::forms::Form;
+use numbers_definitions::Class;
 use relocations_types::Calculation;
 use relocations_types::Decision;
 use relocations_types::Operand;
@@ -47,8 +48,8 @@ pub fn field(number: u64, word: u64, value: u64) {
 // h: a number and its halves.
 pub fn half(x: u32) {
     first(b'h', x as u64);
-    then(instructions_riscv::halves::hi20(x) as u64);
-    then(instructions_riscv::halves::lo12(x) as u64);
+    then(instructions_riscv::halves::hi20(Class::Elf32, x as u64));
+    then(instructions_riscv::halves::lo12(x as u64));
     end();
 }
 
@@ -107,8 +108,8 @@ pub fn reach(number: u64, place: u64) {
     let ends = choices::range(number);
     let jump = choices::case(ends, place);
     first(b'r', number);
-    then(jump.t.0 as u64);
-    then(jump.p.0 as u64);
+    then(jump.t.0);
+    then(jump.p.0);
     flag(instructions_riscv::ranges::in_reach(ends, jump.t, jump.p));
     end();
 }

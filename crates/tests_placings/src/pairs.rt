@@ -9,6 +9,7 @@ ghost use Rattle.placing_symbols.specs.Arrays.{ValueArrays};
 use elf_check::MAX_SYMBOLS;
 use elf_check::ObjectCheck;
 use numbers_definitions::Address;
+use numbers_definitions::Class;
 use order_format::OrderHeader;
 use order_format::Reading;
 use order_lookup::Addresses;
@@ -27,7 +28,7 @@ pub fn line(object: &[u8], order: &[u8], len: usize) {
 fn read(object: &[u8], order: &[u8], counts: OrderHeader, len: usize)
     requires { ⌜ reading (now order) ≡ Reading.WellFormed counts ⌝ }
 {
-    if !order_format::window_allowed(counts.base, len) {
+    if !order_format::window_allowed(Class::Elf32, counts.base, len) {
         tests_harness::answer(3, 0);
         return;
     }
@@ -62,7 +63,7 @@ fn externals(object: &[u8], order: &[u8], counts: OrderHeader, len: usize)
 fn placing(object: &[u8], order: &[u8], counts: OrderHeader, len: usize)
     requires { ⌜ SoundObject (now object) × (reading (now order) ≡ Reading.WellFormed counts) × (len ≤ maxImage) ⌝ }
 {
-    let given = order_lookup::fill_addresses([0u32; 32], order, counts);
+    let given = order_lookup::fill_addresses([0u64; 32], order, counts);
     let placed = placing_check::check_placing(object, given, counts.base, len);
     let fault = placed.fault;
     let array = placed.addresses;
@@ -126,5 +127,5 @@ fn print(value: SymbolValue) {
 }
 
 fn then(address: Address) {
-    tests_harness::then(address.0 as u64);
+    tests_harness::then(address.0);
 }

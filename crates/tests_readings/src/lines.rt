@@ -1,5 +1,6 @@
 // The lines: their letter and, for a window, what check 3 says.
 use numbers_definitions::Address;
+use numbers_definitions::Class;
 
 // Document 01's number and place, after the letter.
 pub fn answer(kind: u8, number: u64, place: u64) {
@@ -10,9 +11,13 @@ pub fn answer(kind: u8, number: u64, place: u64) {
 
 // w: check 3 of an install, then check 3 of a rollback.
 pub fn window(base: Address, length: usize) {
-    answer(b'w', number(order_format::window_allowed(base, length)), 0);
+    answer(
+        b'w',
+        number(order_format::window_allowed(Class::Elf32, base, length)),
+        0,
+    );
     tests_harness::then(number(order_format::length_allowed(length)));
-    tests_harness::then(base.0 as u64);
+    tests_harness::then(base.0);
     tests_harness::then(length as u64);
     tests_harness::end();
 }

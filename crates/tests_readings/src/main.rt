@@ -34,7 +34,7 @@ fn step(space: &mut [u8], c: Command) {
         b's' => tests_harness::store(space, a, b),
         b'o' => object(space, a),
         b'r' => order(space, a),
-        _ => lines::window(Address(c.a), b),
+        _ => lines::window(Address(c.a as u64), b),
     }
 }
 

@@ -31,12 +31,12 @@ fn well_formed(s: &[u8], counts: OrderHeader)
     }
     let start = 16 + 8 * placements;
     lines::answer(b'r', 0, 0);
-    tests_harness::then(counts.base.0 as u64);
+    tests_harness::then(counts.base.0);
     tests_harness::then(placements as u64);
     tests_harness::then(counts.externals as u64);
     tests_harness::then(entries(s, 12, placements));
     tests_harness::then(entries(s, start, counts.externals));
-    tests_harness::then(addresses(order_lookup::fill_addresses([0u32; 32], s, counts)));
+    tests_harness::then(addresses(order_lookup::fill_addresses([0u64; 32], s, counts)));
     tests_harness::then(low_values(s, counts));
     tests_harness::then(near_values(s, counts, 12, placements));
     tests_harness::then(near_values(s, counts, start, counts.externals));
@@ -48,7 +48,7 @@ fn entries(s: &[u8], at: usize, n: usize) -> u64 {
     while i < n {
         let e = entry(s, at, i);
         d = digest::mix(d, e.index as u64);
-        d = digest::mix(d, e.value.0 as u64);
+        d = digest::mix(d, e.value.0);
         i += 1;
     }
     d
@@ -76,7 +76,7 @@ fn addresses(array: Addresses) -> u64 {
     let mut d = digest::START;
     let mut i: usize = 0;
     while i < 32 {
-        d = digest::mix(d, array[i] as u64);
+        d = digest::mix(d, array[i]);
         i += 1;
     }
     d
@@ -122,7 +122,7 @@ fn values(digest: u64, s: &[u8], counts: OrderHeader, k: u32) -> u64
 
 fn value(digest: u64, v: Value) -> u64 {
     match v {
-        Value::Given(x) => digest::mix(digest, x.0 as u64),
+        Value::Given(x) => digest::mix(digest, x.0),
         Value::NotGiven => digest::mix(digest, 0x1_0000_0000),
     }
 }

@@ -39,7 +39,7 @@ fn judged(object: &[u8], order: &[u8], counts: OrderHeader, len: usize)
         order,
         counts,
         len,
-        [0u32; 32],
+        [0u64; 32],
         &mut highs,
         &mut words,
         &mut sizes,

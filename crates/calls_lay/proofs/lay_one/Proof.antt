@@ -13,7 +13,7 @@ use Rattle.order_format.proofs.Laws.Sound.{reading-sound}
 use Rattle.elf_read.specs.Sections.{sectionAt}
 use Rattle.placing_check.specs.Placing.{hasBytes}
 use Rattle.relocations_bytes.specs.Sections.{relocated}
-use Rattle.calls_judgement.proofs.Laws.Laying.{is-sound, length-short, bytes-inside, bytes-loaded, with-none, with-some}
+use Rattle.calls_judgement.proofs.Laws.Laying.{is-sound, bytes-inside, bytes-loaded, with-none, with-some}
 use borrow.Author.Needs.{needs}
 use Rattle.calls_lay.proofs.lay_one.Statement.{statement}
 use Rattle.calls_lay.proofs.lay_one.Tie as tie
@@ -80,11 +80,6 @@ array-read-at c = let s : tie.Start = search in omega (arith, is-sound _ _ _ _ (
 sub-at : tie.Need-sub-at
 sub-at c = let s : tie.Start = search in omega (arith, inside (search) .0, base-is s, address s)
 
-cast-lay-at : tie.Need-cast-lay-at
-cast-lay-at c =
-    let s : tie.Start = search in
-    omega (arith, inside (search) .0, inside (search) .1, base-is s, address s, length-short (S s) (O s) (s .args .counts) (Len s) (s .pre .0))
-
 lay-at-requires : tie.Need-lay-at-requires
 lay-at-requires c κs =
     let s : tie.Start = search in
@@ -108,7 +103,6 @@ lay-one-spec =
     mul-at
     array-read-at
     sub-at
-    cast-lay-at
     lay-at-requires
     (λ c. search needs)
     returns-2)

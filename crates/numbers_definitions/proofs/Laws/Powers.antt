@@ -123,3 +123,7 @@ shift-ceil n some h =
     let one : 1 * 2 ^ (s .0) ≡ 2 ^ (s .0) = omega arith in
     let few : s .0 < 64 = omega arith in
     rw (m, log, one) (mod-eq-of-lt (pow-lt few))
+
+pub ceil-log-le : (w n : ℕ) → ceilLog w n ≤ w
+unfolding ceilLog
+ceil-log-le w n = first-le (λ k. leb n (2 ^ k)) w

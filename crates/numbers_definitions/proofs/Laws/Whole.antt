@@ -209,3 +209,15 @@ pub within-spelt : (w back ahead : ℕ) (z : ℤ) → 2 * back ≤ 2 ^ w → 2 *
 unfolding within
 within-spelt w back ahead (pos n) b a e = let h : n ≤ ahead = leb-true n ahead e in omega arith
 within-spelt w back ahead (negsuc n) b a e = let h : suc n ≤ back = leb-true (suc n) back e in omega arith
+
+-- ---- sums that wrap, modulo a smaller power
+
+narrow-mod : (j k n : ℕ) → n % 2 ^ (j + k) % 2 ^ k ≡ n % 2 ^ k
+unfolding residue
+narrow-mod j k n = residue-narrow j k (pos n)
+
+pub plus-narrow : (a b c w k : ℕ) → k ≤ w → plus w (plus w a b) c % 2 ^ k ≡ (a + b + c) % 2 ^ k
+unfolding plus
+plus-narrow a b c w k h =
+    let j : (w - k) + k ≡ w = omega arith in
+    ap (λ n. n % 2 ^ k) (mod-add-mod (a + b) (2 ^ w) c) ∙ subst (λ w. (a + b + c) % 2 ^ w % 2 ^ k ≡ (a + b + c) % 2 ^ k) j (narrow-mod (w - k) k (a + b + c))

@@ -136,4 +136,5 @@ read-order-spec =
     ascends-requires-2
     returns-8
     (λ c κs. search needs)
+    (λ c. search needs)
     returns-9)

@@ -1,9 +1,11 @@
 -- If check 8 passes, the span lies inside the image.
-use mathlib.Core.Path.{_≡_, refl}
+use mathlib.Core.Path.{_≡_, refl, sym, subst}
 use Prim.Native.Nat.{ℕ, zero, suc, _+_, _-_, _≤_, _<_, min, max}
 use native.Mathlib.Omega.{arith}
+use native.Mathlib.Decide.{decLt}
 use mathlib.Core.Bool.{Bool, true, false, cond}
 use mathlib.Core.List.{List}
+use Rattle.numbers_definitions.proofs.Laws.Tests.{never}
 use Rattle.elf_read.specs.Headers.{sectionCount}
 use Rattle.elf_read.specs.Sections.{sectionAt}
 use Rattle.placing_match.specs.declared.Fault.the-variants.{Nowhere}
@@ -32,6 +34,28 @@ unfolding highest
 highest-le object addresses base top zero f = omega arith
 highest-le object addresses base top (suc i) f =
     raised-le (hasBytes (sectionAt object i)) _ _ top (f i (omega arith)) (highest-le object addresses base top i (λ j h. f j (omega arith)))
+
+raised-end : (b : Bool) (a l : ℕ) → b ≡ true → a ≤ cond b (max a l) l
+raised-end true a l e = omega arith
+raised-end false a l e = never e
+
+raised-more : (b : Bool) (a l : ℕ) → l ≤ cond b (max a l) l
+raised-more true a l = omega arith
+raised-more false a l = omega arith
+
+-- each laid section ends at or below the highest
+pub highest-end : (object addresses : List ℕ) (base n i : ℕ) → i < n → hasBytes (sectionAt object i) ≡ true → endOf object addresses i - base ≤ highest object addresses base n
+unfolding highest
+highest-end object addresses base zero i h e = absurd (omega arith)
+highest-end object addresses base (suc n) i h e = go (decLt i n) (λ l. highest-end object addresses base n i l e)
+  where
+    go : Dec (i < n) → (i < n → endOf object addresses i - base ≤ highest object addresses base n) → endOf object addresses i - base ≤ cond (hasBytes (sectionAt object n)) (max (endOf object addresses n - base) (highest object addresses base n)) (highest object addresses base n)
+    go (yes l) f =
+        omega (arith, f l, raised-more (hasBytes (sectionAt object n)) (endOf object addresses n - base) (highest object addresses base n))
+    go (no l) f =
+        let same : i ≡ n = omega arith in
+        subst (λ k. hasBytes (sectionAt object k) ≡ true → endOf object addresses k - base ≤ cond (hasBytes (sectionAt object n)) (max (endOf object addresses n - base) (highest object addresses base n)) (highest object addresses base n)) (sym same)
+        (raised-end (hasBytes (sectionAt object n)) (endOf object addresses n - base) (highest object addresses base n)) e
 
 module _ (object addresses : List ℕ) (base len : ℕ) (fine : placingCheck object addresses base len ≡ Nowhere) where
   -- where check 8 passes, the highest laid byte ends inside the image, and with it the span

@@ -1,10 +1,14 @@
 -- `placing_span::highest_end` meets its contract.
-use mathlib.Core.Path.{_≡_, refl}
+use mathlib.Core.Path.{_≡_, refl, sym, ap, _∙_}
+use mathlib.Core.Bool.{true}
 use Prim.Native.Nat.{_-_, _≤_}
 use native.Mathlib.Numerals.{add-one}
 use native.Mathlib.Omega.{arith}
-use Rattle.placing_check.specs.Placing.{endOf}
+use Rattle.elf_read.specs.declared.Section.{Section}
+use Rattle.elf_read.specs.Sections.{sectionAt}
+use Rattle.placing_check.specs.Placing.{endOf, hasBytes}
 use Rattle.placing_span.specs.Spans.{highest}
+use Rattle.placing_span.proofs.Laws.Bounds.{highest-end}
 use borrow.Author.Needs.{needs}
 use Rattle.placing_span.proofs.highest_end.Statement.{statement}
 use Rattle.placing_span.proofs.highest_end.Tie as tie
@@ -18,6 +22,15 @@ abbrev μ-loop : tie.MeasureT-loop
 loop-holds : tie.Need-loop-holds Inv-loop μ-loop
 unfolding highest
 loop-holds c = (omega arith, refl)
+
+raised-requires : tie.Need-raised-requires Inv-loop μ-loop
+unfolding endOf
+raised-requires c κs e =
+    let read : tie.After-read-section Inv-loop μ-loop = search in
+    let at : tie.At-loop Inv-loop μ-loop = search in
+    let start : tie.Start Inv-loop μ-loop = search in
+    let here : hasBytes (sectionAt (start .args .object .now) (at .loop .i)) ≡ true = sym (ap hasBytes (read .read-section .ensures)) ∙ e in
+    omega (arith, ap (λ (h : Section). h .size) (read .read-section .ensures), highest-end (start .args .object .now) (start .args .t2) (start .args .base .0) (start .args .n) (at .loop .i) (omega arith) here, start .pre .2)
 
 loop-again : tie.Need-loop-again Inv-loop μ-loop
 unfolding highest endOf
@@ -39,7 +52,7 @@ highest-end-spec =
     (λ c κs. search needs)
     (λ c. search needs)
     (λ c. search needs)
-    (λ c κs. search needs)
+    raised-requires
     (λ c. search needs)
     (λ c. search needs)
     loop-again

@@ -10,7 +10,7 @@ use Rattle.placing_span.proofs.lowered.Tie as tie
 -- ---- the places on the way: an inserted line moves one of them
 
 abbrev some : tie.After-less → tie.Else1
-some c = c .before .before .before
+some c = c .before
 
 abbrev entered : tie.After-has-bytes → tie.Start
 entered c = c .before
@@ -34,8 +34,6 @@ lowered-spec =
     (tie.spec
     (λ c κs. search needs)
     returns
-    (λ c. search needs)
-    (λ c. search needs)
     (λ c κs. search needs)
     (λ c κs. search needs)
     returns-2)

@@ -9,11 +9,16 @@ use Rattle.placing_span.proofs.raised.Tie as tie
 
 -- ---- the places on the way: an inserted line moves one of them
 
-abbrev some : tie.After-less → tie.Else1
-some c = c .before .before .before .before
+abbrev tested : tie.Else1 → tie.After-has-bytes
+tested c = c .before
 
 abbrev entered : tie.After-has-bytes → tie.Start
 entered c = c .before
+
+-- ---- what they say
+
+some : (c : tie.Else1) → hasBytes (entered (tested c) .args .h) ≡ true
+some c = sym (tested c .has-bytes .ensures) ∙ not-false _ (c .if1 .left)
 
 -- ---- the needs
 
@@ -22,11 +27,16 @@ returns c =
     let none : hasBytes (entered (c .before) .args .h) ≡ false = sym (c .before .has-bytes .ensures) ∙ not-true _ (c .if1 .taken) in
     rw none
 
+end-from-requires : tie.Need-end-from-requires
+end-from-requires c κs =
+    let left : tie.Else1 = search in
+    entered (tested left) .pre (some left)
+
 returns-2 : tie.Need-returns-2
 returns-2 c =
-    let there = some (c .before) in
-    let bytes : hasBytes (entered (there .before) .args .h) ≡ true = sym (there .before .has-bytes .ensures) ∙ not-false _ (there .if1 .left) in
-    rw (bytes, c .larger .ensures, c .before .less .ensures)
+    let end : tie.After-end-from = search in
+    let left : tie.Else1 = search in
+    rw (some left, c .larger .ensures, end .end-from .ensures)
 
 pub raised-spec : {M : Type 1} → statement M
 raised-spec =
@@ -35,9 +45,6 @@ raised-spec =
     (λ c κs. search needs)
     returns
     (λ c. search needs)
-    (λ c. search needs)
-    (λ c. search needs)
-    (λ c. search needs)
-    (λ c κs. search needs)
+    end-from-requires
     (λ c κs. search needs)
     returns-2)

@@ -7,6 +7,11 @@ use borrow.Author.Needs.{needs}
 use Rattle.placing_span.proofs.span_of.Statement.{statement}
 use Rattle.placing_span.proofs.span_of.Tie as tie
 
+highest-end-requires : tie.Need-highest-end-requires
+highest-end-requires c κs =
+    let at : tie.Start = search in
+    (at .pre .0, omega (arith, c .section-count .ensures), rw (c .section-count .ensures) (at .pre .1))
+
 cast-start : tie.Need-cast-start
 cast-start c =
     let end : c .before .highest-end .result < 4294967296 =
@@ -29,7 +34,7 @@ span-of-spec =
     tie.close
     (tie.spec
     (λ c κs. search needs)
-    (λ c κs. search needs)
+    highest-end-requires
     (λ c κs. search needs)
     cast-start
     (λ c κs. search needs)

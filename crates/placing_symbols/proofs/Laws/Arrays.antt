@@ -2,12 +2,12 @@
 use mathlib.Core.Path.{_≡_, refl, sym, _∙_}
 use mathlib.Core.Bool.{Bool, true, false, cond}
 use mathlib.Core.List.{List}
-use Prim.Native.Nat.{ℕ, _+_, _^_, _≤_, _<_}
+use Prim.Native.Nat.{ℕ, _+_, _≤_, _<_}
 use native.Mathlib.Omega.{arith}
 use lib.ListN.{length, getD, set, replicate, length-set, length-replicate, getD-replicate, List·getD-eq-default}
 use lib.Seq.{getD-set-same, getD-set-other}
-use lib.Dec.{ltb, eqb}
-use borrow.Author.Tests.{ltb-true, ltb-false, eqb-true, eqb-false}
+use lib.Dec.{ltb}
+use borrow.Author.Tests.{ltb-true, ltb-false}
 use borrow.Author.Count.{below-more}
 use Rattle.elf_read.specs.Entries.{symbolCount}
 use Rattle.elf_check.specs.Rules.{maxSymbols}
@@ -38,14 +38,6 @@ zeros-at n k = go (ltb k n) refl
     go true e = getD-replicate n k 0 0 (ltb-true k n e)
     go false e = List·getD-eq-default (zeros n) 0 (rw (zeros-length n) (ltb-false k n e))
 
--- a store of a value that fits keeps the values small
-set-small : (l : List ℕ) (n x : ℕ) → n < length l → x < 2 ^ 32 → ((k : ℕ) → getD l k 0 < 2 ^ 32) → (k : ℕ) → getD (set l n x) k 0 < 2 ^ 32
-set-small l n x h fits small k = go (eqb k n) refl
-  where
-    go : (b : Bool) → eqb k n ≡ b → getD (set l n x) k 0 < 2 ^ 32
-    go true e = rw (eqb-true k n e, getD-set-same l n x 0 h) fits
-    go false e = rw (getD-set-other l n k x 0 (eqb-false k n e)) (small k)
-
 module _ (object order addresses : List ℕ) where
   -- the arrays hold S of each symbol below n, and no state is stored from n on
   pub record ValuedBelow (values states : List ℕ) (n : ℕ) : Type 0 where
@@ -61,7 +53,6 @@ module _ (object order addresses : List ℕ) where
         arrays = record {
           values-length = zeros-length maxSymbols;
           states-length = length-set noValues 0 1 ∙ zeros-length maxSymbols;
-          small = λ k. rw (zeros-at maxSymbols k) (omega arith);
         };
         below = λ k h. let z : k ≡ 0 = omega arith in rw z;
         rest = λ k h. getD-set-other noValues 0 k 1 0 (λ z. omega arith) ∙ zeros-at maxSymbols k;
@@ -69,16 +60,15 @@ module _ (object order addresses : List ℕ) where
 
   -- one more symbol
   pub below-next : (values states : List ℕ) (n : ℕ) → ValuedBelow values states n → n < maxSymbols
-      → (v : SymbolValue) → v ≡ symbolValue object order addresses n → numberOf v < 2 ^ 32
+      → (v : SymbolValue) → v ≡ symbolValue object order addresses n
       → ValuedBelow (set values n (numberOf v)) (set states n (stateOf v)) (n + 1)
-  below-next values states n b h v is fits =
+  below-next values states n b h v is =
       let long : n < length values = omega (arith, b .arrays .values-length) in
       let wide : n < length states = omega (arith, b .arrays .states-length) in
       record {
         arrays = record {
           values-length = length-set values n (numberOf v) ∙ b .arrays .values-length;
           states-length = length-set states n (stateOf v) ∙ b .arrays .states-length;
-          small = set-small values n (numberOf v) long fits (b .arrays .small);
         };
         below =
             below-more (λ k. decoded (getD (set states n (stateOf v)) k 0) (getD (set values n (numberOf v)) k 0) ≡ symbolValue object order addresses k) n

@@ -91,8 +91,8 @@ loop-again c =
     let is : valued .entry-value .result ≡ symbolValue s (start .args .order .now) (start .args .t5) k =
     valued .entry-value .ensures ∙ ap (λ g. ofEntry s g (chosen .if1 .start) (read .read-symbol .result)) (taken .take-external2 .ensures .0) ∙ value-read s (start .args .order .now) (start .args .t5) k (head .loop .inv .0) (in-table turn .0) _ symbol _ (start-is chosen) in (
       search needs,
-      rw (c .before .number-of .ensures .0, c .state-of .ensures)
-          (below-next _ _ _ _ _ _ (head .loop .inv .1) (omega (arith, in-table turn)) (valued .entry-value .result) is (omega (arith, c .before .number-of .ensures))),
+      rw (c .before .number-of .ensures, c .state-of .ensures)
+          (below-next _ _ _ _ _ _ (head .loop .inv .1) (omega (arith, in-table turn)) (valued .entry-value .result) is),
       taken .take-external2 .ensures .1,
     )
 

@@ -13,11 +13,6 @@ returns-2 : tie.Need-returns-2
 unfolding listed
 returns-2 c = rw (lt-ltb _ _ (c .before .before .if1 .left), ne-eqb _ _ (c .if2 .taken))
 
-cast-t11 : tie.Need-cast-t11
-cast-t11 c =
-    let start : tie.Start = search in
-    record { fits = start .pre .small (start .args .k) }
-
 returns-3 : tie.Need-returns-3
 unfolding listed
 returns-3 c = rw (lt-ltb _ _ (c .before .before .before .if1 .left), eq-eqb _ _ (c .before .if2 .left))
@@ -31,5 +26,4 @@ value-at-spec =
     returns-2
     (λ c. search needs)
     (λ c. search needs)
-    cast-t11
     returns-3)

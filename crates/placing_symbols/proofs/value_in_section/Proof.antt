@@ -17,16 +17,17 @@ returns c =
     let a = start .args in
     let s = a .object .now in
     let inside : isAllocated s (a .symbol .section) ≡ true = sym (c .before .before .before .is-allocated-section .ensures) ∙ c .before .before .if1 .taken in
-    rw inside (ap (λ n. Resolved (address n)) (c .add32 .ensures))
+    rw inside (ap (λ n. Resolved (address n)) (c .sum .ensures))
 
 returns-2 : tie.Need-returns-2
 unfolding ofSection
 returns-2 c =
+    let named : tie.Then2 = search in
+    let other : tie.Else1 = search in
+    let tested : tie.After-is-allocated-section = search in
     let start : tie.Start = search in
-    let a = start .args in
-    let s = a .object .now in
-    let inside : isAllocated s (a .symbol .section) ≡ false = sym (c .before .before .is-allocated-section .ensures) ∙ c .before .if1 .left in
-    rw (inside, eq-eqb _ _ (c .if2 .taken))
+    let inside : isAllocated (start .args .object .now) (start .args .symbol .section) ≡ false = sym (tested .is-allocated-section .ensures) ∙ other .if1 .left in
+    rw (inside, eq-eqb _ _ (named .if2 .taken))
 
 returns-3 : tie.Need-returns-3
 unfolding ofSection
@@ -56,6 +57,7 @@ value-in-section-spec =
     (λ c. search needs)
     (λ c κs. search needs)
     returns
+    (λ c. search needs)
     returns-2
     returns-3
     (λ c κs. search needs)

@@ -1,12 +1,17 @@
 -- `relocations_check_one::check_resolved` meets its contract.
 use mathlib.Core.Path.{refl, sym, ap, _∙_}
 use mathlib.Core.Bool.{cond}
+use Prim.Native.Nat.{_+_}
 use native.Mathlib.Omega.{arith}
 use Rattle.numbers_definitions.specs.Whole.{signed}
 use Rattle.placing_symbols.specs.Arrays.{listed}
+use Rattle.elf_read.specs.declared.Relocation.{Relocation}
+use Rattle.relocations_decisions.specs.Decisions.{isStore}
+use Rattle.relocations_rela.proofs.Laws.Shape.{shape-inside}
 use Rattle.relocations_rules.specs.Rules.{isResolved, standsWell}
 use Rattle.relocations_rules.proofs.Laws.Rules.{form-read}
 use Rattle.relocations_bytes.specs.Patches.{patched}
+use Rattle.relocations_bytes.proofs.Laws.Sections.{place-read}
 use Rattle.relocations_patch.proofs.Laws.Regular.{rules-regular}
 use Rattle.relocations_check_one.proofs.Laws.Outcomes.{first-symbol, number-read, word-read}
 use borrow.Author.Needs.{needs}
@@ -25,7 +30,7 @@ abbrev taken : tie.After-found-bytes → tie.After-take-partner
 taken c = c .before .before .before
 
 abbrev read : tie.After-apply-rule → tie.After-found-bytes
-read c = c .before .before .before .before .before .before .before
+read c = c .before .before .before .before .before
 
 -- ---- the needs
 
@@ -62,7 +67,10 @@ returns c =
     let place = placed .place-of .ensures in
     let e = applied .apply-rule .ensures in
     let partner = high .take-partner .ensures in
-    let forms = e .0 ∙ ap (standsWell (a .rule .form) _) (found .found-bytes .ensures) ∙ form-read s (a .site) (a .j) (a .rule) _ (a .here) (f .decided) refl (f .read) in (
+    let at = place-read s (a .site) (a .j) (a .here) _ (f .read) place (f .there .site) (shape-inside s (a .site) (a .j) (f .shape)) (ap isStore (f .decided)) ∙ sym (ap (λ (r : Relocation). a .site .address .0 + r .offset .0) (f .read)) in
+    let forms =
+    e .0 ∙ ap (λ p. standsWell (a .rule .form) p (found .found-bytes .result)) at ∙ ap (standsWell (a .rule .form) (a .site .address .0 + a .here .offset .0)) (found .found-bytes .ensures)
+    ∙ form-read s (a .site) (a .j) (a .rule) _ (a .here) (f .decided) refl (f .read) in (
       record {
         number-is =
             number-read v s (a .site) (a .j) (a .rule) (a .here) f _ value _ place _ _ _ _ _ _ (c .first-broken .ensures) (partner .0 .symbol-is) forms (partner .0 .pair-is) (e .1) (target .target-of .ensures);
@@ -83,9 +91,6 @@ check-resolved-spec =
     (tie.spec
     take-partner-requires
     found-bytes-requires
-    (λ c. search needs)
-    (λ c. search needs)
-    (λ c. search needs)
     (λ c κs. search needs)
     (λ c κs. search needs)
     (λ c κs. search needs)

@@ -14,7 +14,7 @@ returns c =
     let read : tie.After-read-relocation = search in
     let at : tie.Start = search in
     let a = at .args in
-    c .sub32 .ensures
+    c .difference .ensures
     ∙ distance-read (listed (a .values .now) (a .states .now)) (a .object .now) (a .site) (a .k) _ _ _ _ (read .read-relocation .ensures) (valued .value-at .ensures) (target .target-of .ensures)
     (placed .place-of .ensures)
 
@@ -26,6 +26,5 @@ distance-at-spec =
     (λ c κs. search needs)
     (λ c κs. search needs)
     (λ c κs. search needs)
-    (λ c. search needs)
     (λ c κs. search needs)
     returns)

@@ -183,9 +183,9 @@ whole-part BothHalves w v e = never e
 
 -- ---- all three, of the field that was matched
 
-module _ (c : Calculation) (form : Form) (place found w t p d : ℕ) (x : ℤ) where
+module _ (n : ℕ) (c : Calculation) (form : Form) (found w t p d : ℕ) (x : ℤ) where
   abbrev pub Made : Field → Bool → Bool → ℕ → Type 0
-  Made f stands reaches word = (stands ≡ standsWell form place found) × (reaches ≡ reachesWell 32 c f t p) × (word ≡ patched 32 c f w x p d)
+  Made f stands reaches word = (stands ≡ standsWell form p found) × (reaches ≡ reachesWell n c f t p) × (word ≡ patched n c f w x p d)
 
   -- of an instruction, whose form was asked for
   pub instruction-made :
@@ -193,26 +193,26 @@ module _ (c : Calculation) (form : Form) (place found w t p d : ℕ) (x : ℤ) w
       (part : Part)
       (asked : Form)
       (h r : Bool)
-      (n v : ℕ)
+      (u v : ℕ)
       → f ≡ g
       → OfPart part c
       → form ≡ asked
       → isData asked ≡ false
       → h ≡ hasForm asked found (found / 2 ^ 32)
-      → r ≡ partReaches 32 part g t p
-      → v ≡ operandBy 32 c (residue 32 x) p d
-      → n ≡ put (layout g) w (partOf 32 part v)
-      → Made f (eqb (place % 2) 0 && h) r n
-  instruction-made f g part asked h r n v told o form-is e h-is r-is v-is n-is =
-      subst (λ f. Made f (eqb (place % 2) 0 && h) r n) (sym told) (
-        ap (λ h. eqb (place % 2) 0 && h) h-is ∙ stands-form asked place found e ∙ ap (λ k. standsWell k place found) (sym form-is),
-        r-is ∙ part-reaches c g part o 32 t p,
-        n-is ∙ part-patched c g part o 32 w x p d v v-is,
+      → r ≡ partReaches n part g t p
+      → v ≡ operandBy n c (residue n x) p d
+      → u ≡ put (layout g) w (partOf n part v)
+      → Made f (eqb (p % 2) 0 && h) r u
+  instruction-made f g part asked h r u v told o form-is e h-is r-is v-is u-is =
+      subst (λ f. Made f (eqb (p % 2) 0 && h) r u) (sym told) (
+        ap (λ h. eqb (p % 2) 0 && h) h-is ∙ stands-form asked p found e ∙ ap (λ k. standsWell k p found) (sym form-is),
+        r-is ∙ part-reaches c g part o n t p,
+        u-is ∙ part-patched c g part o n w x p d v v-is,
       )
 
   -- of data
   pub data-made :
-      (f : Field) (width : Width) (n : ℕ) → f ≡ Data width → fills c ≡ true → form ≡ Any → n ≡ patched 32 c (Data width) w x p d → Made f true true n
+      (f : Field) (width : Width) (u : ℕ) → f ≡ Data width → fills c ≡ true → form ≡ Any → u ≡ patched n c (Data width) w x p d → Made f true true u
   unfolding standsWell
-  data-made f width n told e form-is n-is =
-      subst (λ f. Made f true true n) (sym told) (sym (ap (λ k. standsWell k place found) form-is), data-reaches c width e 32 t p, n-is)
+  data-made f width u told e form-is u-is =
+      subst (λ f. Made f true true u) (sym told) (sym (ap (λ k. standsWell k p found) form-is), data-reaches c width e n t p, u-is)

@@ -2,6 +2,7 @@
 use mathlib.Core.Path.{refl, ap, _∙_, subst}
 use Prim.Native.Nat.{_/_, _%_, _^_}
 use lib.Dec.{eqb}
+use Rattle.numbers_definitions.specs.Classes.{bits}
 use Rattle.numbers_definitions.specs.Whole.{signed, even}
 use Rattle.instructions_fields.specs.declared.Field.the-variants.{U, I, S, B, J, Cb, Cj, Call, Data}
 use Rattle.instructions_fields.specs.Layouts.{put}
@@ -35,7 +36,7 @@ returns c =
     let o : tie.After-operand-value = search in
     let told = c .before .before .before .enum-told .given .1 in
     let g : Regular (a .calculation) U (a .form) = subst (λ f. Regular (a .calculation) f (a .form)) told (s .pre) in
-    instruction-made (a .calculation) (a .form) (a .place) (a .found) (a .w) (a .t .0) (a .p .0) (a .d) (signed 64 (a .x))
+    instruction-made (bits (a .class)) (a .calculation) (a .form) (a .found) (a .w) (a .t .0) (a .p .0) (a .d) (signed 64 (a .x))
     (a .field) U High (a .form) _ _ _ _
     told
     (g .0)
@@ -53,7 +54,7 @@ returns-2 c =
     let o : tie.After-operand-value = search in
     let told = c .before .before .before .enum-told2 .given .1 in
     let g : Regular (a .calculation) I (a .form) = subst (λ f. Regular (a .calculation) f (a .form)) told (s .pre) in
-    instruction-made (a .calculation) (a .form) (a .place) (a .found) (a .w) (a .t .0) (a .p .0) (a .d) (signed 64 (a .x))
+    instruction-made (bits (a .class)) (a .calculation) (a .form) (a .found) (a .w) (a .t .0) (a .p .0) (a .d) (signed 64 (a .x))
     (a .field) I Low LowI _ _ _ _
     told
     (g .0)
@@ -62,7 +63,7 @@ returns-2 c =
     (c .before .before .has-form .ensures)
     refl
     (o .operand-value .ensures)
-    (c .put-i .ensures ∙ ap (put (layout I) (a .w)) (c .before .low-part .ensures .0))
+    (c .put-i .ensures ∙ ap (put (layout I) (a .w)) (c .before .low-part .ensures .0 (a .class)))
 
 returns-3 : tie.Need-returns-3
 returns-3 c =
@@ -71,7 +72,7 @@ returns-3 c =
     let o : tie.After-operand-value = search in
     let told = c .before .before .before .enum-told3 .given .1 in
     let g : Regular (a .calculation) S (a .form) = subst (λ f. Regular (a .calculation) f (a .form)) told (s .pre) in
-    instruction-made (a .calculation) (a .form) (a .place) (a .found) (a .w) (a .t .0) (a .p .0) (a .d) (signed 64 (a .x))
+    instruction-made (bits (a .class)) (a .calculation) (a .form) (a .found) (a .w) (a .t .0) (a .p .0) (a .d) (signed 64 (a .x))
     (a .field) S Low LowS _ _ _ _
     told
     (g .0)
@@ -80,7 +81,7 @@ returns-3 c =
     (c .before .before .has-form2 .ensures)
     refl
     (o .operand-value .ensures)
-    (c .put-s .ensures ∙ ap (put (layout S) (a .w)) (c .before .low-part2 .ensures .0))
+    (c .put-s .ensures ∙ ap (put (layout S) (a .w)) (c .before .low-part2 .ensures .0 (a .class)))
 
 returns-4 : tie.Need-returns-4
 returns-4 c =
@@ -89,7 +90,7 @@ returns-4 c =
     let o : tie.After-operand-value = search in
     let told = c .before .before .before .before .enum-told4 .given .1 in
     let g : Regular (a .calculation) B (a .form) = subst (λ f. Regular (a .calculation) f (a .form)) told (s .pre) in
-    instruction-made (a .calculation) (a .form) (a .place) (a .found) (a .w) (a .t .0) (a .p .0) (a .d) (signed 64 (a .x))
+    instruction-made (bits (a .class)) (a .calculation) (a .form) (a .found) (a .w) (a .t .0) (a .p .0) (a .d) (signed 64 (a .x))
     (a .field) B Distance Branch _ _ _ _
     told
     (g .0)
@@ -107,7 +108,7 @@ returns-5 c =
     let o : tie.After-operand-value = search in
     let told = c .before .before .before .before .enum-told5 .given .1 in
     let g : Regular (a .calculation) J (a .form) = subst (λ f. Regular (a .calculation) f (a .form)) told (s .pre) in
-    instruction-made (a .calculation) (a .form) (a .place) (a .found) (a .w) (a .t .0) (a .p .0) (a .d) (signed 64 (a .x))
+    instruction-made (bits (a .class)) (a .calculation) (a .form) (a .found) (a .w) (a .t .0) (a .p .0) (a .d) (signed 64 (a .x))
     (a .field) J Distance Jal _ _ _ _
     told
     (g .0)
@@ -125,7 +126,7 @@ returns-6 c =
     let o : tie.After-operand-value = search in
     let told = c .before .before .before .before .enum-told6 .given .1 in
     let g : Regular (a .calculation) Cb (a .form) = subst (λ f. Regular (a .calculation) f (a .form)) told (s .pre) in
-    instruction-made (a .calculation) (a .form) (a .place) (a .found) (a .w) (a .t .0) (a .p .0) (a .d) (signed 64 (a .x))
+    instruction-made (bits (a .class)) (a .calculation) (a .form) (a .found) (a .w) (a .t .0) (a .p .0) (a .d) (signed 64 (a .x))
     (a .field) Cb Distance CBranch _ _ _ _
     told
     (g .0)
@@ -143,7 +144,7 @@ returns-7 c =
     let o : tie.After-operand-value = search in
     let told = c .before .before .before .before .enum-told7 .given .1 in
     let g : Regular (a .calculation) Cj (a .form) = subst (λ f. Regular (a .calculation) f (a .form)) told (s .pre) in
-    instruction-made (a .calculation) (a .form) (a .place) (a .found) (a .w) (a .t .0) (a .p .0) (a .d) (signed 64 (a .x))
+    instruction-made (bits (a .class)) (a .calculation) (a .form) (a .found) (a .w) (a .t .0) (a .p .0) (a .d) (signed 64 (a .x))
     (a .field) Cj Distance CJump _ _ _ _
     told
     (g .0)
@@ -160,16 +161,16 @@ returns-8 c =
     let s : tie.Start = search in
     let a = s .args in
     let o : tie.After-operand-value = search in
-    let told = c .before .before .before .before .before .enum-told8 .given .1 in
+    let told = c .before .before .before .before .enum-told8 .given .1 in
     let g : Regular (a .calculation) Call (a .form) = subst (λ f. Regular (a .calculation) f (a .form)) told (s .pre) in
-    instruction-made (a .calculation) (a .form) (a .place) (a .found) (a .w) (a .t .0) (a .p .0) (a .d) (signed 64 (a .x))
+    instruction-made (bits (a .class)) (a .calculation) (a .form) (a .found) (a .w) (a .t .0) (a .p .0) (a .d) (signed 64 (a .x))
     (a .field) Call BothHalves CallPair _ _ _ _
     told
     (g .0)
     (g .1)
     refl
-    (c .before .before .before .before .has-form7 .ensures)
-    (ap (λ d. eqb (d % 2) 0) (c .before .before .sub32 .ensures))
+    (c .before .before .before .has-form7 .ensures)
+    (ap (λ d. eqb (d % 2) 0) (c .before .before .difference .ensures))
     (o .operand-value .ensures)
     (c .put-field .ensures ∙ ap (put (layout Call) (a .w)) (c .before .both-halves .ensures))
 
@@ -181,12 +182,12 @@ returns-9 c =
     let k : tie.After-field = search in
     let told = k .field .given .1 in
     let g : Regular (a .calculation) (Data (k .field .given .0 .0)) (a .form) = subst (λ f. Regular (a .calculation) f (a .form)) told (s .pre) in
-    data-made (a .calculation) (a .form) (a .place) (a .found) (a .w) (a .t .0) (a .p .0) (a .d) (signed 64 (a .x))
+    data-made (bits (a .class)) (a .calculation) (a .form) (a .found) (a .w) (a .t .0) (a .p .0) (a .d) (signed 64 (a .x))
     (a .field) (k .field .given .0 .0) _
     told
     (g .0)
     (g .1)
-    (c .data-word .ensures (a .p .0) (a .d) (o .operand-value .ensures))
+    (c .data-word .ensures (bits (a .class)) (a .p .0) (a .d) (o .operand-value .ensures))
 
 pub apply-rule-spec : {M : Type 1} → statement M
 apply-rule-spec =
@@ -209,29 +210,24 @@ apply-rule-spec =
     (λ c κs. search needs)
     (λ c κs. search needs)
     (λ c κs. search needs)
-    (λ c. search needs)
     (λ c κs. search needs)
     (λ c. search needs)
     (λ c κs. search needs)
     (λ c κs. search needs)
     (λ c κs. search needs)
-    (λ c. search needs)
     (λ c κs. search needs)
     (λ c. search needs)
     (λ c κs. search needs)
     (λ c κs. search needs)
     (λ c κs. search needs)
-    (λ c. search needs)
     (λ c κs. search needs)
     (λ c. search needs)
     (λ c κs. search needs)
     (λ c κs. search needs)
     (λ c κs. search needs)
-    (λ c. search needs)
     (λ c κs. search needs)
     (λ c. search needs)
     (λ c κs. search needs)
-    (λ c. search needs)
     (λ c κs. search needs)
     (λ c κs. search needs)
     (λ c κs. search needs)

@@ -1,25 +1,29 @@
 -- `relocations_patch::high_part` meets its contract.
 use mathlib.Core.Path.{ap}
-use Prim.Native.Nat.{_*_, _^_, _<_}
-use native.Mathlib.Nat.{mod-lt}
+use Prim.Native.Nat.{ℕ, _*_, _^_, _<_}
 use native.Mathlib.Omega.{arith}
-use lib.Pow.{pow-pos}
+use Rattle.numbers_definitions.specs.declared.Class.{Class}
+use Rattle.numbers_definitions.specs.declared.Class.the-variants.{Elf32, Elf64}
+use Rattle.numbers_definitions.specs.Classes.{bits}
 use Rattle.instructions_riscv.specs.Halves.{high}
 use borrow.Author.Needs.{needs}
 use Rattle.relocations_patch.proofs.high_part.Statement.{statement}
 use Rattle.relocations_patch.proofs.high_part.Tie as tie
 
-mul-result : tie.Need-mul-result
+few : (k : Class) (x : ℕ) → high (bits k) x < 2 ^ 52
 unfolding high
+few Elf32 x = omega arith
+few Elf64 x = omega arith
+
+mul-result : tie.Need-mul-result
 mul-result c =
-    let few : c .hi20 .result < 2 ^ 20 = rw (c .hi20 .ensures) (mod-lt _ (pow-pos 20)) in
-    omega arith
+    let at : tie.Start = search in
+    omega (arith, c .hi20 .ensures, few (at .args .class) (at .args .x))
 
 returns : tie.Need-returns
-unfolding high
 returns c =
-    let few : c .hi20 .result < 2 ^ 20 = rw (c .hi20 .ensures) (mod-lt _ (pow-pos 20)) in
-    (ap (λ h. 4096 * h) (c .hi20 .ensures), omega arith)
+    let at : tie.Start = search in
+    (ap (λ h. 4096 * h) (c .hi20 .ensures), omega (arith, c .hi20 .ensures, few (at .args .class) (at .args .x)))
 
 pub high-part-spec : {M : Type 1} → statement M
-high-part-spec = tie.close (tie.spec (λ c κs. search needs) (λ c. search needs) mul-result returns)
+high-part-spec = tie.close (tie.spec (λ c κs. search needs) mul-result returns)

@@ -1,5 +1,6 @@
 -- `relocations_patch::operand_of` meets its contract.
 use mathlib.Core.Path.{sym, ap, _∙_}
+use Rattle.numbers_definitions.specs.Classes.{bits}
 use Rattle.relocations_bytes.specs.Patches.{operandOf}
 use borrow.Author.Needs.{needs}
 use Rattle.relocations_patch.proofs.operand_of.Statement.{statement}
@@ -7,14 +8,15 @@ use Rattle.relocations_patch.proofs.operand_of.Tie as tie
 
 returns-2 : tie.Need-returns-2
 returns-2 c =
-    let a = c .before .before .before .before .args in
-    c .sub32 .ensures ∙ sym (ap (λ o. operandOf 32 o (a .t .0) (a .p .0) (a .d)) (c .before .before .enum-told2 .given .1))
+    let told : tie.After-enum-told2 = search in
+    let at : tie.Start = search in
+    let a = at .args in
+    c .difference .ensures ∙ sym (ap (λ o. operandOf (bits (a .class)) o (a .t .0) (a .p .0) (a .d)) (told .enum-told2 .given .1))
 
 pub operand-of-spec : {M : Type 1} → statement M
 operand-of-spec =
     tie.close
     (tie.spec
-    (λ c. search needs)
     (λ c. search needs)
     (λ c. search needs)
     (λ c κs. search needs)

@@ -11,19 +11,22 @@ use Rattle.relocations_patch.proofs.symbol_sum.Tie as tie
 
 returns : tie.Need-returns
 returns c =
-    let a = c .before .before .before .before .before .args in
-    c .add64 .ensures ∙ plus-signed 0 64 _ (a .addend) (omega arith) ∙ sym (ap (λ v. residue 64 (pos (S v) +ℤ signed 64 (a .addend))) (c .before .before .before .value .given .1))
+    let told : tie.After-value = search in
+    let at : tie.Start = search in
+    let a = at .args in
+    c .add64 .ensures ∙ plus-signed 0 64 _ (a .addend) (omega arith) ∙ sym (ap (λ v. residue 64 (pos (S v) +ℤ signed 64 (a .addend))) (told .value .given .1))
 
 returns-2 : tie.Need-returns-2
 returns-2 c =
-    let a = c .before .before .before .args in
-    c .add642 .ensures ∙ plus-signed 0 64 0 (a .addend) (omega arith) ∙ sym (ap (λ v. residue 64 (pos (S v) +ℤ signed 64 (a .addend))) (c .before .enum-told .given .1))
+    let told : tie.After-enum-told = search in
+    let at : tie.Start = search in
+    let a = at .args in
+    c .add642 .ensures ∙ plus-signed 0 64 0 (a .addend) (omega arith) ∙ sym (ap (λ v. residue 64 (pos (S v) +ℤ signed 64 (a .addend))) (told .enum-told .given .1))
 
 pub symbol-sum-spec : {M : Type 1} → statement M
 symbol-sum-spec =
     tie.close
     (tie.spec
-    (λ c. search needs)
     (λ c. search needs)
     (λ c κs. search needs)
     (λ c. search needs)
