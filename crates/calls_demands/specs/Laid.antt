@@ -59,7 +59,7 @@ module _ (object order : List ℕ) where
   pub record IsRelocation (i j : ℕ) : Type 0 where
     pub there : i < sectionCount object
     pub counts : countingRela object i ≡ true
-    pub entry : j < count (siteOf i)
+    pub entry : j < count object (siteOf i)
 
   -- no relocation touches byte b of section t
   abbrev pub Untouched : ℕ → ℕ → Type 0
@@ -90,5 +90,5 @@ module _ (object order : List ℕ) where
         → AddUp (addressWidth object) (a .field) (bytesAt after h i (a .size)) (b .field) (bytesAt after l j (b .size)) (target h i)
     -- ".. or distance": 24 or 25 with the one 23 that is its pair
     pub distances-whole : (i j : ℕ) → IsRelocation i j → (b : Rule) → decisionAt object (siteOf i) j ≡ Store b → b .calculation ≡ Of Low Paired
-        → (k : ℕ) × (k < count (siteOf i)) × (pairOf object (siteOf i) (symbol object (siteOf i) j .value) ≡ At k)
+        → (k : ℕ) × (k < count object (siteOf i)) × (pairOf object (siteOf i) (symbol object (siteOf i) j .value) ≡ At k)
         × AddUp (addressWidth object) U (bytesAt after i k 4) (b .field) (bytesAt after i j (b .size)) (distanceAt object order (addresses order) (siteOf i) k)

@@ -19,7 +19,8 @@ use Rattle.relocations_types.specs.declared.Part.{Part}
 use Rattle.relocations_types.specs.declared.Part.the-variants.{Whole, Distance, High, Low, BothHalves}
 use Rattle.relocations_types.specs.declared.Rule.{Rule}
 use Rattle.relocations_types.specs.declared.Decision.the-variants.{Align, Store}
-use Rattle.elf_read.specs.Headers.{addressWidth, sectionTable, sectionCount, maxSections}
+use Rattle.numbers_definitions.specs.Classes.{by}
+use Rattle.elf_read.specs.Headers.{classOf, addressWidth, headerSize, sectionSize, sectionTable, sectionCount, maxSections}
 use Rattle.elf_read.specs.Sections.{sectionAt, allocated, isAllocated, symbolTable}
 use Rattle.elf_read.specs.Entries.{symbolAt, symbolCount, relocationCount, locationOf}
 use Rattle.elf_header.specs.Headers.{maxObject}
@@ -74,7 +75,7 @@ pub record WindowWell (w start len : ℕ) : Type 0 where
 pub record HeaderWell (object : List ℕ) : Type 0 where
   -- "at most 65,536 bytes", "at least 52 bytes"
   pub short : length object ≤ maxObject
-  pub long : 52 ≤ length object
+  pub long : headerSize (classOf object) ≤ length object
   -- "magic 7F 45 4C 46, class 1, data 1, ident version 1, e_type 1, e_machine 243, e_version 1, e_ehsize 52"
   pub magic : leAt 4 object 0 ≡ 0x464C457F
   pub class-32 : leAt 1 object 4 ≡ 1
@@ -83,16 +84,16 @@ pub record HeaderWell (object : List ℕ) : Type 0 where
   pub relocatable : leAt 2 object 16 ≡ 1
   pub risc-v : leAt 2 object 18 ≡ 243
   pub version : leAt 4 object 20 ≡ 1
-  pub header-size : leAt 2 object 40 ≡ 52
+  pub own-size : leAt 2 object (by (classOf object) 40 52) ≡ headerSize (classOf object)
 
 -- ---- 5 "row table (place 0) or row rule"
 
 -- "e_shentsize 40, 1 to 32 rows of 40 bytes, wholly inside the file"
 pub record TableWell (object : List ℕ) : Type 0 where
-  pub entry-size : leAt 2 object 46 ≡ 40
+  pub entry-size : leAt 2 object (by (classOf object) 46 58) ≡ sectionSize (classOf object)
   pub some : 1 ≤ sectionCount object
   pub few : sectionCount object ≤ maxSections
-  pub inside : sectionTable object + 40 * sectionCount object ≤ length object
+  pub inside : sectionTable object + sectionSize (classOf object) * sectionCount object ≤ length object
 
 -- for section i: `SoundSection` of `elf_check`, with a field for each sentence
 
@@ -183,7 +184,7 @@ FormWell object x j =
 -- records."
 
 abbrev pub PairWell : List ℕ → Site → ℕ → Type 0
-PairWell object x j = needsPair (decisionAt object x j) ≡ true → howMany (isPair object x (symbol object x j .value)) (count x) ≡ 1
+PairWell object x j = needsPair (decisionAt object x j) ≡ true → howMany (isPair object x (symbol object x j .value)) (count object x) ≡ 1
 
 -- ---- 13 "distance odd or too far", for addresses of w bits, t, which is T, and p, which is P
 

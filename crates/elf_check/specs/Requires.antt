@@ -4,7 +4,8 @@ use mathlib.Core.Bool.{true}
 use mathlib.Core.List.{List}
 use Prim.Native.Nat.{ℕ, _≤_, _<_}
 use Rattle.numbers_definitions.specs.Bytes.{leAt}
-use Rattle.elf_read.specs.Headers.{sectionSize, sectionCount}
+use Rattle.numbers_definitions.specs.Classes.{by}
+use Rattle.elf_read.specs.Headers.{classOf, sectionSize, sectionCount}
 use Rattle.elf_read.specs.Sections.{sectionAt}
 use Rattle.elf_read.specs.Requires.{TableInside}
 use Rattle.elf_header.specs.Headers.{headerAllowed}
@@ -20,6 +21,6 @@ pub record Targeted (s : List ℕ) (i : ℕ) : Type 0 where
 pub record SoundObject (s : List ℕ) : Type 0 where
   pub header : headerAllowed s ≡ true
   pub table : TableInside s
-  pub entries : leAt 2 s 46 ≡ sectionSize
+  pub entries : leAt 2 s (by (classOf s) 46 58) ≡ sectionSize (classOf s)
   pub some : 1 ≤ sectionCount s
   pub sections : (i : ℕ) → i < sectionCount s → SoundSection s i

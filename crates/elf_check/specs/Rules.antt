@@ -6,7 +6,7 @@ use lib.ListN.{length}
 use lib.Dec.{leb, ltb, eqb}
 use Rattle.numbers_definitions.specs.First.{first, everywhere}
 use Rattle.numbers_definitions.specs.Powers.{oneBit}
-use Rattle.elf_read.specs.Headers.{symbolSize, relocationSize, sectionCount}
+use Rattle.elf_read.specs.Headers.{classOf, symbolSize, relocationSize, sectionCount}
 use Rattle.elf_read.specs.Sections.{NULL, SYMTAB, RELA, NOBITS, REL, sectionAt, allocated, loaded, symbolTable, countingRel, countingRela, relocationsBelow}
 use Rattle.elf_read.specs.Entries.{symbolEntries}
 use Rattle.elf_check.specs.declared.SectionCheck.{SectionCheck}
@@ -36,7 +36,7 @@ unfoldable pub allocatedWell : List ℕ → ℕ → Bool
 allocatedWell s i =
     let h = sectionAt s i in
     not (allocated h)
-    || ((eqb (h .alignment) 0 || oneBit 32 (h .alignment))
+    || ((eqb (h .alignment) 0 || oneBit 64 (h .alignment))
     && not (eqb (h .kind) SYMTAB || eqb (h .kind) RELA || eqb (h .kind) REL))
 
 -- "At most one SYMTAB: entry size 16, whole entries, at most 1,024. The higher row of two is at fault."
@@ -44,7 +44,7 @@ unfoldable pub symbolTableWell : List ℕ → ℕ → Bool
 symbolTableWell s i =
     let h = sectionAt s i in
     not (eqb (h .kind) SYMTAB)
-    || (eqb i (symbolTable s) && eqb (h .entsize) symbolSize && eqb (h .size % symbolSize) 0 && leb (symbolEntries h) maxSymbols)
+    || (eqb i (symbolTable s) && eqb (h .entsize) (symbolSize (classOf s)) && eqb (h .size % symbolSize (classOf s)) 0 && leb (symbolEntries (classOf s) h) maxSymbols)
 
 -- "A counting REL is refused."
 unfoldable pub noCountingRel : List ℕ → ℕ → Bool
@@ -55,7 +55,7 @@ noCountingRel s i = not (countingRel s i)
 unfoldable pub relaKept : List ℕ → ℕ → Bool
 relaKept s i =
     let h = sectionAt s i in
-    (eqb (h .entsize) relocationSize && eqb (h .size % relocationSize) 0)
+    (eqb (h .entsize) (relocationSize (classOf s)) && eqb (h .size % relocationSize (classOf s)) 0)
     && (ltb (symbolTable s) (sectionCount s) && eqb (h .link) (symbolTable s))
     && loaded (sectionAt s (h .info))
     && everywhere (λ j. not (countingRela s j && eqb (sectionAt s j .info) (h .info))) i

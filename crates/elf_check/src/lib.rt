@@ -1,22 +1,21 @@
 // Which objects are allowed: checks 4 and 5.
 ghost use mathlib.Core.Path.{_≡_};
-ghost use Prim.Native.Nat.{_≤_, _<_};
+ghost use Prim.Native.Nat.{_<_};
 ghost use mathlib.Core.Bool.{not, _&&_};
 ghost use lib.Dec.{leb, eqb};
 ghost use Rattle.numbers_definitions.specs.First.{everywhere};
-ghost use lib.ListN.{length};
-ghost use Rattle.elf_read.specs.Headers.{headerSize, sectionCount};
+ghost use Rattle.elf_read.specs.Headers.{sectionCount};
 ghost use Rattle.elf_read.specs.Sections.{sectionAt, symbolTable, countingRela, relocationsBelow};
-ghost use Rattle.elf_read.specs.Requires.{TableInside};
+ghost use Rattle.elf_read.specs.Requires.{HeaderInside, TableInside};
 ghost use Rattle.elf_check.specs.Rules.{maxRelocations, startsNull, insideFile, allocatedWell, symbolTableWell, noCountingRel, relaKept, relocationsKept, relaWell, relocationsWell, sectionCheck, objectCheck};
 ghost use Rattle.elf_check.specs.Requires.{Targeted};
 use elf_read::NOBITS;
 use elf_read::NULL;
 use elf_read::REL;
 use elf_read::RELA;
-use elf_read::RELOCATION_SIZE;
-use elf_read::SYMBOL_SIZE;
 use elf_read::SYMTAB;
+use elf_read::class_of;
+use numbers_arithmetic::ends_within;
 
 // "whole entries, at most 1,024", and "at most 4,096 records"
 pub const MAX_SYMBOLS: usize = 1024;
@@ -58,10 +57,10 @@ fn is_plain_well(object: &[u8], i: usize) -> bool
 {
     let h = elf_read::read_section(object, i);
     let kind = h.kind;
-    let end = h.offset.0 as usize + h.size as usize;
     let align = h.alignment;
     let starts = (i != 0) | (kind == NULL);
-    let inside = (kind == NULL) | (kind == NOBITS) | (end <= object.len());
+    let ends = ends_within(h.offset.0, h.size, object.len() as u64);
+    let inside = (kind == NULL) | (kind == NOBITS) | ends;
     let aligned = (align == 0) | numbers_arithmetic::one_bit(align);
     let table = (kind == SYMTAB) | (kind == RELA) | (kind == REL);
     starts & inside & (!elf_read::is_allocated(h) | (aligned & !table))
@@ -72,12 +71,13 @@ fn is_symbol_table_well(object: &[u8], table: usize, i: usize) -> bool
     requires { ⌜ TableInside (now object) × (i < sectionCount (now object)) × (table ≡ symbolTable (now object)) ⌝ }
     ensures { λ r. ⌜ r ≡ symbolTableWell (now (object .entry)) i ⌝ }
 {
+    let size = elf_read::symbol_size(class_of(object));
     let h = elf_read::read_section(object, i);
     (h.kind != SYMTAB)
         | ((i == table)
-            & (h.entsize == SYMBOL_SIZE)
-            & (h.size % SYMBOL_SIZE == 0)
-            & (elf_read::symbol_entries(h) <= MAX_SYMBOLS))
+            & (h.entsize == size)
+            & (h.size % size == 0)
+            & (elf_read::symbol_entries(object, h) <= MAX_SYMBOLS))
 }
 
 // Whether the relocations up to section i are not too many. `few` tells whether those of all sections are not.
@@ -88,7 +88,7 @@ fn is_number_kept(object: &[u8], few: bool, i: usize) -> bool
     if few {
         return true;
     }
-    elf_read::relocations_below(object, i + 1) <= MAX_RELOCATIONS
+    elf_read::relocations_within(object, i + 1, MAX_RELOCATIONS)
 }
 
 // The rules of a counting RELA. `table` is the lowest symbol table, and `few` tells whether all relocations are not too many.
@@ -98,7 +98,8 @@ fn is_rela_kept(object: &[u8], table: usize, few: bool, i: usize) -> bool
 {
     let h = elf_read::read_section(object, i);
     let target = elf_read::read_section(object, h.info as usize);
-    let sized = (h.entsize == RELOCATION_SIZE) & (h.size % RELOCATION_SIZE == 0);
+    let size = elf_read::relocation_size(class_of(object));
+    let sized = (h.entsize == size) & (h.size % size == 0);
     let linked = (table < elf_read::section_count(object)) & (h.link as usize == table);
     sized
         & linked
@@ -127,7 +128,7 @@ fn is_relocation_well(object: &[u8], table: usize, few: bool, i: usize) -> bool
 
 // Check 5.
 fn check_sections(object: &[u8]) -> SectionCheck
-    requires { ⌜ headerSize ≤ length (now object) ⌝ }
+    requires { ⌜ HeaderInside (now object) ⌝ }
     ensures { λ r. ⌜ r ≡ sectionCheck (now (object .entry)) ⌝ }
 {
     if !elf_header::check_table(object) {
@@ -135,7 +136,7 @@ fn check_sections(object: &[u8]) -> SectionCheck
     }
     let n = elf_read::section_count(object);
     let table = elf_read::symbol_table(object);
-    let few = elf_read::relocations_below(object, n) <= MAX_RELOCATIONS;
+    let few = elf_read::relocations_within(object, n, MAX_RELOCATIONS);
     let mut i: usize = 0;
     while i < n {
         if !(is_plain_well(object, i)

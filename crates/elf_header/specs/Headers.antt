@@ -1,11 +1,13 @@
--- Document 01, "What the object may hold": the header of an ELF32 file (System V gABI).
+-- Document 01, "What the object may hold": the header of a file (System V gABI). `by c m n` is m in a file of class 1 and n in a file of
+-- class 2.
 use Prim.Native.Nat.{ℕ, _+_, _*_}
 use mathlib.Core.Bool.{Bool, _&&_}
 use mathlib.Core.List.{List}
 use lib.ListN.{length}
 use lib.Dec.{leb, eqb}
 use Rattle.numbers_definitions.specs.Bytes.{leAt}
-use Rattle.elf_read.specs.Headers.{headerSize, sectionSize, sectionTable, sectionCount, maxSections}
+use Rattle.numbers_definitions.specs.Classes.{by}
+use Rattle.elf_read.specs.Headers.{classOf, headerSize, sectionSize, sectionTable, sectionCount, maxSections}
 
 abbrev pub maxObject : ℕ
 maxObject = 65536
@@ -15,7 +17,7 @@ maxObject = 65536
 unfoldable pub headerAllowed : List ℕ → Bool
 headerAllowed s =
     leb (length s) maxObject
-    && leb headerSize (length s)
+    && leb (headerSize (classOf s)) (length s)
     && eqb (leAt 4 s 0) 0x464C457F
     && eqb (leAt 1 s 4) 1
     && eqb (leAt 1 s 5) 1
@@ -23,12 +25,12 @@ headerAllowed s =
     && eqb (leAt 2 s 16) 1
     && eqb (leAt 2 s 18) 243
     && eqb (leAt 4 s 20) 1
-    && eqb (leAt 2 s 40) headerSize
+    && eqb (leAt 2 s (by (classOf s) 40 52)) (headerSize (classOf s))
 
 -- check 5 at place 0: "e_shentsize 40, 1 to 32 rows of 40 bytes, wholly inside the file"
 unfoldable pub tableAllowed : List ℕ → Bool
 tableAllowed s =
-    eqb (leAt 2 s 46) sectionSize
+    eqb (leAt 2 s (by (classOf s) 46 58)) (sectionSize (classOf s))
     && leb 1 (sectionCount s)
     && leb (sectionCount s) maxSections
-    && leb (sectionTable s + sectionSize * sectionCount s) (length s)
+    && leb (sectionTable s + sectionSize (classOf s) * sectionCount s) (length s)

@@ -1,31 +1,39 @@
--- The header of an ELF32 file (System V gABI): where its section headers are, and the sizes that the format gives its parts.
+-- The header of an ELF file (System V gABI), for both classes: where its section headers are, and the sizes that the format gives its
+-- parts. `by c m n` is m in a file of class 1 and n in a file of class 2.
 use Prim.Native.Nat.{ℕ}
 use mathlib.Core.List.{List}
+use Rattle.numbers_definitions.specs.declared.Class.{Class}
+use Rattle.numbers_definitions.specs.declared.Class.the-variants.{Elf32}
 use Rattle.numbers_definitions.specs.Bytes.{leAt}
+use Rattle.numbers_definitions.specs.Classes.{by, bits, addressBytes}
+
+-- the class of a file
+unfoldable pub classOf : List ℕ → Class
+classOf s = Elf32
+
+-- how many bits an address has. No other definition says how wide addresses are.
+abbrev pub addressWidth : List ℕ → ℕ
+addressWidth s = bits (classOf s)
 
 -- the sizes in bytes of the file header, a section header, a symbol and a relocation
-abbrev pub headerSize : ℕ
-headerSize = 52
+abbrev pub headerSize : Class → ℕ
+headerSize c = by c 52 64
 
-abbrev pub sectionSize : ℕ
-sectionSize = 40
+abbrev pub sectionSize : Class → ℕ
+sectionSize c = by c 40 64
 
-abbrev pub symbolSize : ℕ
-symbolSize = 16
+abbrev pub symbolSize : Class → ℕ
+symbolSize c = by c 16 24
 
-abbrev pub relocationSize : ℕ
-relocationSize = 12
-
--- how many bits an address has: 32 in a file of class 1 (ELFCLASS32). No other definition says how wide addresses are.
-abbrev pub addressWidth : List ℕ → ℕ
-addressWidth s = 32
+abbrev pub relocationSize : Class → ℕ
+relocationSize c = by c 12 24
 
 -- where the section header table starts, and how many headers it has (document 01: the row table, rows)
 abbrev pub sectionTable : List ℕ → ℕ
-sectionTable s = leAt 4 s 32
+sectionTable s = leAt (addressBytes (classOf s)) s (by (classOf s) 32 40)
 
 abbrev pub sectionCount : List ℕ → ℕ
-sectionCount s = leAt 2 s 48
+sectionCount s = leAt 2 s (by (classOf s) 48 60)
 
 -- "1 to 32 rows"
 abbrev pub maxSections : ℕ

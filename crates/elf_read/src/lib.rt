@@ -1,27 +1,19 @@
-// An ELF32 object: its header, sections, symbols and relocations. Everything is read out of the caller's bytes.
+// An ELF object of either class: its header, sections, symbols and relocations. Everything is read out of the caller's bytes.
 ghost use mathlib.Core.Path.{_≡_};
 ghost use mathlib.Core.Bool.{_&&_};
 ghost use Prim.Native.Nat.{_+_, _*_, _^_, _≤_, _<_};
 ghost use lib.ListN.{length};
-ghost use lib.Dec.{eqb};
-ghost use Rattle.elf_read.specs.Headers.{headerSize, symbolSize, relocationSize, sectionTable, sectionCount};
-ghost use Rattle.elf_read.specs.Sections.{sectionAt, allocated, loaded, isAllocated, symbolTable, targets, countingRela, relocationEntries, relocationsIn, relocationsBelow};
-ghost use Rattle.elf_read.specs.Requires.{HeaderInside, TableInside, Inside};
-ghost use Rattle.elf_read.specs.Entries.{bytesOf, symbolEntries, symbolAt, symbolCount, relocationAt, locationOf};
+ghost use lib.Dec.{leb, eqb};
+ghost use Rattle.elf_read.specs.Headers.{classOf, headerSize, sectionSize, symbolSize, relocationSize, sectionTable, sectionCount};
+ghost use Rattle.elf_read.specs.Sections.{readSection, sectionAt, allocated, loaded, isAllocated, symbolTable, targets, countingRela, relocationEntries, relocationsIn, relocationsBelow};
+ghost use Rattle.elf_read.specs.Requires.{HeaderInside, TableInside, Inside, EntryInside};
+ghost use Rattle.elf_read.specs.Entries.{bytesOf, symbolEntries, readSymbol, symbolAt, symbolCount, readRelocation, relocationAt, locationOf};
+use numbers_definitions::Class;
 use numbers_definitions::FileOffset;
 use numbers_definitions::SectionOffset;
 
 // "1 to 32 rows"
 pub const MAX_SECTIONS: usize = 32;
-
-// The sizes in bytes of the file header, a section header, a symbol and a relocation.
-pub const HEADER_SIZE: usize = 52;
-
-pub const SECTION_SIZE: usize = 40;
-
-pub const SYMBOL_SIZE: u32 = 16;
-
-pub const RELOCATION_SIZE: u32 = 12;
 
 // "Types used"
 pub const NULL: u32 = 0;
@@ -48,13 +40,13 @@ pub const STT_GNU_IFUNC: u8 = 10;
 // A section header (document 01: row).
 pub struct Section {
     pub kind: u32,
-    pub flags: u32,
+    pub flags: u64,
     pub offset: FileOffset,
-    pub size: u32,
+    pub size: u64,
     pub link: u32,
     pub info: u32,
-    pub alignment: u32,
-    pub entsize: u32,
+    pub alignment: u64,
+    pub entsize: u64,
 }
 
 // A symbol: its type and binding, the section that it is defined in, and its value there.
@@ -68,7 +60,7 @@ pub struct Symbol {
 // A relocation (document 01: record). The addend is a signed number in 64-bit two's complement.
 pub struct Relocation {
     pub offset: SectionOffset,
-    pub kind: u8,
+    pub kind: u32,
     pub symbol: u32,
     pub addend: u64,
 }
@@ -79,38 +71,116 @@ pub struct Location {
     pub entry: usize,
 }
 
+// The sizes in bytes of the file header, a section header, a symbol and a relocation.
+pub fn header_size(class: Class) -> usize
+    ensures { λ r. ⌜ r ≡ headerSize class ⌝ }
+{
+    match class {
+        Class::Elf32 => 52,
+        Class::Elf64 => 64,
+    }
+}
+
+pub fn section_size(class: Class) -> u64
+    ensures { λ r. ⌜ r ≡ sectionSize class ⌝ }
+{
+    match class {
+        Class::Elf32 => 40,
+        Class::Elf64 => 64,
+    }
+}
+
+pub fn symbol_size(class: Class) -> u64
+    ensures { λ r. ⌜ (r ≡ symbolSize class) × (0 < r) ⌝ }
+{
+    match class {
+        Class::Elf32 => 16,
+        Class::Elf64 => 24,
+    }
+}
+
+pub fn relocation_size(class: Class) -> u64
+    ensures { λ r. ⌜ (r ≡ relocationSize class) × (0 < r) ⌝ }
+{
+    match class {
+        Class::Elf32 => 12,
+        Class::Elf64 => 24,
+    }
+}
+
+// The class of an object, which has at least the shorter of the two headers.
+pub fn class_of(object: &[u8]) -> Class
+    requires { ⌜ headerSize Class.Elf32 ≤ length (now object) ⌝ }
+    ensures { λ r. ⌜ r ≡ classOf (now (object .entry)) ⌝ }
+{
+    Class::Elf32
+}
+
 // Where the section header table starts.
 pub fn section_table(object: &[u8]) -> FileOffset
-    requires { ⌜ headerSize ≤ length (now object) ⌝ }
+    requires { ⌜ HeaderInside (now object) ⌝ }
     ensures { λ r. ⌜ r .0 ≡ sectionTable (now (object .entry)) ⌝ }
 {
-    FileOffset(numbers_bytes::read32(object, 32))
+    match class_of(object) {
+        Class::Elf32 => FileOffset(numbers_bytes::read32(object, 32) as u64),
+        Class::Elf64 => FileOffset(numbers_bytes::read64(object, 40)),
+    }
 }
 
 // How many sections an object has.
 pub fn section_count(object: &[u8]) -> usize
-    requires { ⌜ headerSize ≤ length (now object) ⌝ }
+    requires { ⌜ HeaderInside (now object) ⌝ }
     ensures { λ r. ⌜ r ≡ sectionCount (now (object .entry)) ⌝ }
 {
-    numbers_bytes::read16(object, 48) as usize
+    match class_of(object) {
+        Class::Elf32 => numbers_bytes::read16(object, 48) as usize,
+        Class::Elf64 => numbers_bytes::read16(object, 60) as usize,
+    }
+}
+
+// The section header at a place of a file of class 1.
+fn section_32(object: &[u8], at: usize) -> Section
+    requires { ⌜ at + sectionSize Class.Elf32 ≤ length (now object) ⌝ }
+    ensures { λ r. ⌜ r ≡ readSection Class.Elf32 (now (object .entry)) at ⌝ }
+{
+    Section {
+        kind: numbers_bytes::read32(object, at + 4),
+        flags: numbers_bytes::read32(object, at + 8) as u64,
+        offset: FileOffset(numbers_bytes::read32(object, at + 16) as u64),
+        size: numbers_bytes::read32(object, at + 20) as u64,
+        link: numbers_bytes::read32(object, at + 24),
+        info: numbers_bytes::read32(object, at + 28),
+        alignment: numbers_bytes::read32(object, at + 32) as u64,
+        entsize: numbers_bytes::read32(object, at + 36) as u64,
+    }
+}
+
+// The section header at a place of a file of class 2.
+fn section_64(object: &[u8], at: usize) -> Section
+    requires { ⌜ at + sectionSize Class.Elf64 ≤ length (now object) ⌝ }
+    ensures { λ r. ⌜ r ≡ readSection Class.Elf64 (now (object .entry)) at ⌝ }
+{
+    Section {
+        kind: numbers_bytes::read32(object, at + 4),
+        flags: numbers_bytes::read64(object, at + 8),
+        offset: FileOffset(numbers_bytes::read64(object, at + 24)),
+        size: numbers_bytes::read64(object, at + 32),
+        link: numbers_bytes::read32(object, at + 40),
+        info: numbers_bytes::read32(object, at + 44),
+        alignment: numbers_bytes::read64(object, at + 48),
+        entsize: numbers_bytes::read64(object, at + 56),
+    }
 }
 
 // The header of section i.
 pub fn read_section(object: &[u8], i: usize) -> Section
-    requires { ⌜ HeaderInside (now object) i ⌝ }
+    requires { ⌜ TableInside (now object) × (i < sectionCount (now object)) ⌝ }
     ensures { λ r. ⌜ r ≡ sectionAt (now (object .entry)) i ⌝ }
 {
     let table = section_table(object);
-    let at = table.0 as usize + SECTION_SIZE * i;
-    Section {
-        kind: numbers_bytes::read32(object, at + 4),
-        flags: numbers_bytes::read32(object, at + 8),
-        offset: FileOffset(numbers_bytes::read32(object, at + 16)),
-        size: numbers_bytes::read32(object, at + 20),
-        link: numbers_bytes::read32(object, at + 24),
-        info: numbers_bytes::read32(object, at + 28),
-        alignment: numbers_bytes::read32(object, at + 32),
-        entsize: numbers_bytes::read32(object, at + 36),
+    match class_of(object) {
+        Class::Elf32 => section_32(object, table.0 as usize + 40 * i),
+        Class::Elf64 => section_64(object, table.0 as usize + 64 * i),
     }
 }
 
@@ -187,26 +257,49 @@ pub fn relocates(object: &[u8], i: usize, t: usize) -> bool
 }
 
 // How many entries a RELA section has.
-pub fn relocation_entries(h: Section) -> usize
-    ensures { λ r. ⌜ (r ≡ relocationEntries h) × (r < 2 ^ 32) ⌝ }
+pub fn relocation_entries(object: &[u8], h: Section) -> usize
+    requires { ⌜ HeaderInside (now object) ⌝ }
+    ensures { λ r. ⌜ r ≡ relocationEntries (classOf (now (object .entry))) h ⌝ }
 {
-    (h.size / RELOCATION_SIZE) as usize
+    match class_of(object) {
+        Class::Elf32 => (h.size / 12) as usize,
+        Class::Elf64 => (h.size / 24) as usize,
+    }
 }
 
 // How many relocations section i holds.
 fn relocations_in(object: &[u8], i: usize) -> usize
     requires { ⌜ TableInside (now object) × (i < sectionCount (now object)) ⌝ }
-    ensures { λ r. ⌜ (r ≡ relocationsIn (now (object .entry)) i) × (r < 2 ^ 32) ⌝ }
+    ensures { λ r. ⌜ r ≡ relocationsIn (now (object .entry)) i ⌝ }
 {
     if is_counting_rela(object, i) {
-        return relocation_entries(read_section(object, i));
+        return relocation_entries(object, read_section(object, i));
     }
     0
 }
 
-// How many relocations the sections below i hold together.
-pub fn relocations_below(object: &[u8], i: usize) -> usize
+// Whether the sections below i together hold at most `most` relocations. The sum is not worked out where it is more: sections
+// that were not checked can claim to hold more relocations than a number of 64 bits counts.
+pub fn relocations_within(object: &[u8], i: usize, most: usize) -> bool
     requires { ⌜ TableInside (now object) × (i ≤ sectionCount (now object)) ⌝ }
+    ensures { λ r. ⌜ r ≡ leb (relocationsBelow (now (object .entry)) i) most ⌝ }
+{
+    let mut left: usize = most;
+    let mut j: usize = 0;
+    while j < i {
+        let here = relocations_in(object, j);
+        if left < here {
+            return false;
+        }
+        left -= here;
+        j += 1;
+    }
+    true
+}
+
+// How many relocations the sections below i hold together, where a number of 64 bits counts them.
+pub fn relocations_below(object: &[u8], i: usize) -> usize
+    requires { ⌜ TableInside (now object) × (i ≤ sectionCount (now object)) × (relocationsBelow (now object) i < 2 ^ 64) ⌝ }
     ensures { λ r. ⌜ r ≡ relocationsBelow (now (object .entry)) i ⌝ }
 {
     let mut total: usize = 0;
@@ -220,7 +313,7 @@ pub fn relocations_below(object: &[u8], i: usize) -> usize
 
 // The bytes of a section, as a part of the object.
 pub fn section_bytes(object: &[u8], h: Section) -> &[u8]
-    requires { ⌜ Inside (now object) (h .offset .0) (h .size) ⌝ }
+    requires { ⌜ Inside (now object) h ⌝ }
     ensures { λ r. ⌜ now r ≡ bytesOf (now (object .entry)) h ⌝ }
 {
     let from = h.offset.0 as usize;
@@ -229,10 +322,14 @@ pub fn section_bytes(object: &[u8], h: Section) -> &[u8]
 }
 
 // How many entries a SYMTAB section has.
-pub fn symbol_entries(h: Section) -> usize
-    ensures { λ r. ⌜ r ≡ symbolEntries h ⌝ }
+pub fn symbol_entries(object: &[u8], h: Section) -> usize
+    requires { ⌜ HeaderInside (now object) ⌝ }
+    ensures { λ r. ⌜ r ≡ symbolEntries (classOf (now (object .entry))) h ⌝ }
 {
-    (h.size / SYMBOL_SIZE) as usize
+    match class_of(object) {
+        Class::Elf32 => (h.size / 16) as usize,
+        Class::Elf64 => (h.size / 24) as usize,
+    }
 }
 
 // How many symbols there are.
@@ -244,51 +341,103 @@ pub fn symbol_count(object: &[u8]) -> usize
     if section_count(object) <= table {
         return 0;
     }
-    symbol_entries(read_section(object, table))
+    symbol_entries(object, read_section(object, table))
 }
 
-// Entry k of a SYMTAB section.
-pub fn read_symbol(object: &[u8], table: Section, k: usize) -> Symbol
-    requires { ⌜ Inside (now object) (table .offset .0 + symbolSize * k) symbolSize ⌝ }
-    ensures { λ r. ⌜ r ≡ symbolAt (now (object .entry)) table k ⌝ }
+// The symbol at a place of a file of class 1.
+fn symbol_32(object: &[u8], at: usize) -> Symbol
+    requires { ⌜ at + symbolSize Class.Elf32 ≤ length (now object) ⌝ }
+    ensures { λ r. ⌜ r ≡ readSymbol Class.Elf32 (now (object .entry)) at ⌝ }
 {
-    let at = table.offset.0 as usize + SYMBOL_SIZE as usize * k;
     let info = numbers_bytes::read8(object, at + 12);
     Symbol {
-        value: SectionOffset(numbers_bytes::read32(object, at + 4)),
+        value: SectionOffset(numbers_bytes::read32(object, at + 4) as u64),
         kind: info % 16,
         binding: info / 16,
         section: numbers_bytes::read16(object, at + 14),
     }
 }
 
-// Entry k of a RELA section.
-pub fn read_relocation(object: &[u8], h: Section, k: usize) -> Relocation
-    requires { ⌜ Inside (now object) (h .offset .0 + relocationSize * k) relocationSize ⌝ }
-    ensures { λ r. ⌜ r ≡ relocationAt (now (object .entry)) h k ⌝ }
+// The symbol at a place of a file of class 2.
+fn symbol_64(object: &[u8], at: usize) -> Symbol
+    requires { ⌜ at + symbolSize Class.Elf64 ≤ length (now object) ⌝ }
+    ensures { λ r. ⌜ r ≡ readSymbol Class.Elf64 (now (object .entry)) at ⌝ }
 {
-    let at = h.offset.0 as usize + RELOCATION_SIZE as usize * k;
+    let info = numbers_bytes::read8(object, at + 4);
+    Symbol {
+        value: SectionOffset(numbers_bytes::read64(object, at + 8)),
+        kind: info % 16,
+        binding: info / 16,
+        section: numbers_bytes::read16(object, at + 6),
+    }
+}
+
+// Entry k of a SYMTAB section.
+pub fn read_symbol(object: &[u8], table: Section, k: usize) -> Symbol
+    requires { ⌜ EntryInside (now object) table (symbolEntries (classOf (now object)) table) k ⌝ }
+    ensures { λ r. ⌜ r ≡ symbolAt (now (object .entry)) table k ⌝ }
+{
+    match class_of(object) {
+        Class::Elf32 => symbol_32(object, table.offset.0 as usize + 16 * k),
+        Class::Elf64 => symbol_64(object, table.offset.0 as usize + 24 * k),
+    }
+}
+
+// The relocation at a place of a file of class 1.
+fn relocation_32(object: &[u8], at: usize) -> Relocation
+    requires { ⌜ at + relocationSize Class.Elf32 ≤ length (now object) ⌝ }
+    ensures { λ r. ⌜ r ≡ readRelocation Class.Elf32 (now (object .entry)) at ⌝ }
+{
     let info = numbers_bytes::read32(object, at + 4);
     Relocation {
-        offset: SectionOffset(numbers_bytes::read32(object, at)),
-        kind: (info % 256) as u8,
+        offset: SectionOffset(numbers_bytes::read32(object, at) as u64),
+        kind: info % 256,
         symbol: info / 256,
         addend: numbers_arithmetic::addend(numbers_bytes::read32(object, at + 8)),
     }
 }
 
+// The relocation at a place of a file of class 2.
+fn relocation_64(object: &[u8], at: usize) -> Relocation
+    requires { ⌜ at + relocationSize Class.Elf64 ≤ length (now object) ⌝ }
+    ensures { λ r. ⌜ r ≡ readRelocation Class.Elf64 (now (object .entry)) at ⌝ }
+{
+    let info = numbers_bytes::read64(object, at + 8);
+    Relocation {
+        offset: SectionOffset(numbers_bytes::read64(object, at)),
+        kind: (info % 0x1_0000_0000) as u32,
+        symbol: (info / 0x1_0000_0000) as u32,
+        addend: numbers_bytes::read64(object, at + 16),
+    }
+}
+
+// Entry k of a RELA section.
+pub fn read_relocation(object: &[u8], h: Section, k: usize) -> Relocation
+    requires { ⌜ EntryInside (now object) h (relocationEntries (classOf (now object)) h) k ⌝ }
+    ensures { λ r. ⌜ r ≡ relocationAt (now (object .entry)) h k ⌝ }
+{
+    match class_of(object) {
+        Class::Elf32 => relocation_32(object, h.offset.0 as usize + 12 * k),
+        Class::Elf64 => relocation_64(object, h.offset.0 as usize + 24 * k),
+    }
+}
+
 // The offset of entry k of a RELA section.
 pub fn read_offset(object: &[u8], h: Section, k: usize) -> SectionOffset
-    requires { ⌜ Inside (now object) (h .offset .0 + relocationSize * k) relocationSize ⌝ }
+    requires { ⌜ EntryInside (now object) h (relocationEntries (classOf (now object)) h) k ⌝ }
     ensures { λ r. ⌜ r ≡ relocationAt (now (object .entry)) h k .offset ⌝ }
 {
-    let at = h.offset.0 as usize + RELOCATION_SIZE as usize * k;
-    SectionOffset(numbers_bytes::read32(object, at))
+    match class_of(object) {
+        Class::Elf32 => {
+            SectionOffset(numbers_bytes::read32(object, h.offset.0 as usize + 12 * k) as u64)
+        }
+        Class::Elf64 => SectionOffset(numbers_bytes::read64(object, h.offset.0 as usize + 24 * k)),
+    }
 }
 
 // Where relocation number k is. Relocations are numbered through all counting RELA sections.
 pub fn locate(object: &[u8], k: usize) -> Location
-    requires { ⌜ TableInside (now object) ⌝ }
+    requires { ⌜ TableInside (now object) × (relocationsBelow (now object) (sectionCount (now object)) < 2 ^ 64) ⌝ }
     ensures { λ r. ⌜ r ≡ locationOf (now (object .entry)) k ⌝ }
 {
     let n = section_count(object);

@@ -126,10 +126,10 @@ pub fn addend(word: u32) -> u64
 }
 
 // Whether exactly one bit of a number is set.
-pub fn one_bit(x: u32) -> bool
-    ensures { λ r. ⌜ r ≡ oneBit 32 x ⌝ }
+pub fn one_bit(x: u64) -> bool
+    ensures { λ r. ⌜ r ≡ oneBit 64 x ⌝ }
 {
-    u32::count_ones(x) == 1
+    u64::count_ones(x) == 1
 }
 
 // The smallest power of two that is at least n.

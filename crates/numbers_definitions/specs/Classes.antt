@@ -1,9 +1,16 @@
--- How wide addresses are.
+-- The two classes of ELF files, and what depends on them.
 use Prim.Native.Nat.{ℕ}
 use Rattle.numbers_definitions.specs.declared.Class.{Class}
 use Rattle.numbers_definitions.specs.declared.Class.the-variants.{Elf32, Elf64}
 
--- how many bits an address has: 32 in a file of class 1 (ELFCLASS32), 64 in one of class 2 (ELFCLASS64)
+-- one number for class 1 (ELFCLASS32), another for class 2 (ELFCLASS64)
+abbrev pub by : Class → ℕ → ℕ → ℕ
+by Elf32 m n = m
+by Elf64 m n = n
+
+-- how many bits an address has, and how many bytes it takes in a file
 abbrev pub bits : Class → ℕ
-bits Elf32 = 32
-bits Elf64 = 64
+bits c = by c 32 64
+
+abbrev pub addressBytes : Class → ℕ
+addressBytes c = by c 4 8

@@ -3,9 +3,9 @@
 
 // Three types that cannot be mixed: a place in the object, a place in a section (document 01: a row offset), and a
 // run-time address.
-pub struct FileOffset(pub u32);
+pub struct FileOffset(pub u64);
 
-pub struct SectionOffset(pub u32);
+pub struct SectionOffset(pub u64);
 
 pub struct Address(pub u64);
 

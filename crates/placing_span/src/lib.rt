@@ -50,7 +50,7 @@ fn raised(h: Section, address: Address, base: Address, end: u64) -> u64
     if !has_bytes(h) {
         return end;
     }
-    larger(end_from(address.0, h.size as u64, base.0), end)
+    larger(end_from(address.0, h.size, base.0), end)
 }
 
 // The lowest laid byte, where it was `start` before this section.

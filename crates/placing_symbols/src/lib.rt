@@ -15,7 +15,6 @@ use elf_read::STT_TLS;
 use elf_read::Section;
 use elf_read::Symbol;
 use numbers_definitions::Address;
-use numbers_definitions::Class;
 use order_format::OrderHeader;
 use order_format::Reading;
 use order_lookup::Addresses;
@@ -53,14 +52,14 @@ fn value_in_section(object: &[u8], given: Value, start: u64, symbol: Symbol) -> 
     let section = symbol.section;
     if elf_read::is_allocated_section(object, section as u32) {
         return SymbolValue::Resolved(Address(numbers_arithmetic::sum(
-            Class::Elf32,
+            elf_read::class_of(object),
             start,
-            symbol.value.0 as u64,
+            symbol.value.0,
         )));
     }
     if section == SHN_ABS {
         // An absolute symbol is in no section: its value is the address itself.
-        return SymbolValue::Resolved(Address(symbol.value.0 as u64));
+        return SymbolValue::Resolved(Address(symbol.value.0));
     }
     if section != SHN_UNDEF {
         return SymbolValue::Unresolved;

@@ -7,11 +7,12 @@ ghost use Prim.Native.Nat.{ℕ, _+_, _^_, _≤_, _<_};
 ghost use lib.ListN.{length, getD};
 ghost use lib.Seq.{sets};
 ghost use Rattle.numbers_definitions.specs.Bytes.{bytes};
+ghost use Rattle.elf_read.specs.Requires.{HeaderInside};
 ghost use Rattle.elf_read.specs.Headers.{sectionCount};
 ghost use Rattle.elf_read.specs.Sections.{sectionAt, loaded};
 ghost use Rattle.elf_check.specs.Requires.{SoundObject};
 ghost use Rattle.relocations_rela.specs.Sites.{count, offset, found};
-ghost use Rattle.relocations_rela.specs.Requires.{There, Placed};
+ghost use Rattle.relocations_rela.specs.Requires.{Placed};
 ghost use Rattle.relocations_rules.specs.Search.{relocationCheck};
 ghost use Rattle.relocations_bytes.specs.Sections.{after, relaOf, relocated};
 ghost use Rattle.relocations_check_all.specs.Sites.{Worded, Worked};
@@ -45,12 +46,12 @@ fn store_one(
 
 // Stores what the relocations of a site leave, in file order.
 fn apply_all(object: &[u8], site: Site, words: &[u64], sizes: &[u8], base: usize, part: &mut [u8])
-    requires { ⌜ (base + count site ≤ length (now words)) × (base + count site ≤ length (now sizes)) × (length (now words) < 2 ^ 32)
-        × ((j : ℕ) → j < count site → Storable (now object) site j (getD (now sizes) (base + j) 0) (length (now part))) × (now part ≡ found (now object) site) ⌝ }
-    ensures { λ _. ⌜ ((order addresses : List ℕ) → Worded (now (object .entry)) order addresses site (count site) (now (words .entry)) (now (sizes .entry)) base
-        → now (part .exit) ≡ after (now (object .entry)) order addresses site (count site)) × (length (now (part .exit)) ≡ length (now (part .entry))) ⌝ }
+    requires { ⌜ HeaderInside (now object) × (base + count (now object) site ≤ length (now words)) × (base + count (now object) site ≤ length (now sizes)) × (length (now words) < 2 ^ 32)
+        × ((j : ℕ) → j < count (now object) site → Storable (now object) site j (getD (now sizes) (base + j) 0) (length (now part))) × (now part ≡ found (now object) site) ⌝ }
+    ensures { λ _. ⌜ ((order addresses : List ℕ) → Worded (now (object .entry)) order addresses site (count (now (object .entry)) site) (now (words .entry)) (now (sizes .entry)) base
+        → now (part .exit) ≡ after (now (object .entry)) order addresses site (count (now (object .entry)) site)) × (length (now (part .exit)) ≡ length (now (part .entry))) ⌝ }
 {
-    let n = elf_read::relocation_entries(site.rela);
+    let n = elf_read::relocation_entries(object, site.rela);
     let mut j: usize = 0;
     while j < n {
         store_one(object, site, words, sizes, base + j, j, part);

@@ -6,7 +6,7 @@ use Prim.Native.Nat.{ℕ, zero, suc, _/_, _%_, _^_}
 use lib.Dec.{eqb}
 use lib.IntN.{ℤ, pos, _+ℤ_, _-ℤ_}
 use Rattle.numbers_definitions.specs.Bytes.{leAt}
-use Rattle.numbers_definitions.specs.Whole.{residue, signed, minus}
+use Rattle.numbers_definitions.specs.Whole.{residue, signed}
 use Rattle.instructions_fields.specs.declared.Field.{Field}
 use Rattle.instructions_fields.specs.Layouts.{formatU, formatI, read, outside}
 use Rattle.instructions_fields.specs.Fields.{layout, valueBits}
@@ -87,7 +87,7 @@ Stored w Refused before final at t p d total = Unit {0}
 unfoldable pub ReadsBack : List ℕ → List ℕ → List ℕ → Site → List ℕ → ℕ → Type 0
 ReadsBack object order addresses x final j =
     Stored (addressWidth object) (decisionAt object x j) (found object x) final (offset object x j) (targetAt object order addresses x j) (P object x j)
-    (pairDistance object order addresses x j) (λ v. stackAt object order addresses x (offset object x j) v (count x))
+    (pairDistance object order addresses x j) (λ v. stackAt object order addresses x (offset object x j) v (count object x))
 
 -- ---- two halves of one number
 

@@ -11,4 +11,4 @@ use Rattle.relocations_rela.specs.Requires.{SoundSite}
 -- a site whose relocations break no rule
 pub record Checked (object order addresses : List ℕ) (x : Site) : Type 0 where
   pub site : SoundSite object x
-  pub kept : (j : ℕ) → j < count x → finding object order addresses x j ≡ Kept
+  pub kept : (j : ℕ) → j < count object x → finding object order addresses x j ≡ Kept

@@ -64,4 +64,4 @@ relaOf object t = first (λ i. countingRela object i && eqb (sectionAt object i 
 unfoldable pub relocated : List ℕ → List ℕ → List ℕ → ℕ → List ℕ
 relocated object order addresses t =
     let x = siteAt object addresses (relaOf object t) in
-    cond (ltb (relaOf object t) (sectionCount object)) (after object order addresses x (count x)) (bytesOf object (sectionAt object t))
+    cond (ltb (relaOf object t) (sectionCount object)) (after object order addresses x (count object x)) (bytesOf object (sectionAt object t))

@@ -29,15 +29,15 @@ unfoldable pub touches : List ℕ → Site → ℕ → ℕ → Bool
 touches object x j b = leb (offset object x j) b && ltb b (end object x j)
 
 unfoldable pub untouched : List ℕ → Site → ℕ → Bool
-untouched object x b = everywhere (λ j. not (touches object x j b)) (count x)
+untouched object x b = everywhere (λ j. not (touches object x j b)) (count object x)
 
 -- "the high half and the low half laid for one address or distance add up to it modulo 2^32": modulo 2^w, where addresses have w bits
 pub record Halves (object order addresses : List ℕ) (x : Site) (final : List ℕ) : Type 0 where
   -- 26 with 27 or 28: for one address T, anywhere in the section
-  pub address : (i j : ℕ) → i < count x → j < count x → (a b : Rule) → decisionAt object x i ≡ Store a → decisionAt object x j ≡ Store b
+  pub address : (i j : ℕ) → i < count object x → j < count object x → (a b : Rule) → decisionAt object x i ≡ Store a → decisionAt object x j ≡ Store b
       → a .calculation ≡ Of High Absolute → b .calculation ≡ Of Low Absolute → targetAt object order addresses x i ≡ targetAt object order addresses x j
       → AddUp (addressWidth object) (a .field) (leAt (a .size) final (offset object x i)) (b .field) (leAt (b .size) final (offset object x j)) (targetAt object order addresses x i)
   -- 23 with 24 or 25: the low half has exactly one pair, and the two halves add up to the distance of that pair
-  pub distance : (j : ℕ) → j < count x → (b : Rule) → decisionAt object x j ≡ Store b → b .calculation ≡ Of Low Paired
-      → (k : ℕ) × (k < count x) × (pairOf object x (symbol object x j .value) ≡ At k)
+  pub distance : (j : ℕ) → j < count object x → (b : Rule) → decisionAt object x j ≡ Store b → b .calculation ≡ Of Low Paired
+      → (k : ℕ) × (k < count object x) × (pairOf object x (symbol object x j .value) ≡ At k)
       × AddUp (addressWidth object) U (leAt 4 final (offset object x k)) (b .field) (leAt (b .size) final (offset object x j)) (distanceAt object order addresses x k)

@@ -1,8 +1,8 @@
 -- What the search over relocations leaves: the words of the relocations, and how many bytes each touches.
 use mathlib.Core.Path.{_≡_}
-use mathlib.Core.Bool.{Bool, true, false, cond}
+use mathlib.Core.Bool.{true, cond}
 use mathlib.Core.List.{List}
-use Prim.Native.Nat.{ℕ, _+_, _≤_, _<_}
+use Prim.Native.Nat.{ℕ, _+_, _<_}
 use lib.ListN.{length, getD}
 use lib.Dec.{eqb}
 use Rattle.elf_read.specs.Headers.{sectionCount}
@@ -33,7 +33,7 @@ module _ (object order addresses : List ℕ) where
 
   -- relocation j of a site is the first that breaks a rule, the one with number n
   pub record BrokenFirst (x : Site) (n j : ℕ) : Type 0 where
-    pub there : j < count x
+    pub there : j < count object x
     pub below : KeptBelow x j
     pub number-is : n ≡ number (finding object order addresses x j)
     pub some : n ≡ 0 → ⊥
@@ -41,7 +41,7 @@ module _ (object order addresses : List ℕ) where
   -- the words and sizes of the relocations of the sections below i
   abbrev pub WordedBelow : ℕ → List ℕ → List ℕ → Type 0
   WordedBelow i words sizes =
-      (s : ℕ) → s < i → countingRela object s ≡ true → Worded (siteAt object addresses s) (count (siteAt object addresses s)) words sizes (relocationsBelow object s)
+      (s : ℕ) → s < i → countingRela object s ≡ true → Worded (siteAt object addresses s) (count object (siteAt object addresses s)) words sizes (relocationsBelow object s)
 
 -- the words and sizes of all relocations, in lists of the right length
 pub record Worked (object order addresses words sizes : List ℕ) : Type 0 where
@@ -56,7 +56,7 @@ pub record SameBelow (n : ℕ) (before after : List ℕ) : Type 0 where
 
 -- what is found in a site: the number of the first broken rule, or 0, and the relocation that breaks it; and what is then in the lists
 pub record SiteChecked (object order addresses : List ℕ) (x : Site) (base : ℕ) (words₀ sizes₀ words sizes : List ℕ) (n at : ℕ) : Type 0 where
-  pub passed : n ≡ 0 → KeptBelow object order addresses x (count x) × Worded object order addresses x (count x) words sizes base
+  pub passed : n ≡ 0 → KeptBelow object order addresses x (count object x) × Worded object order addresses x (count object x) words sizes base
   pub broken : (n ≡ 0 → ⊥) → BrokenFirst object order addresses x n at
   pub words-same : SameBelow base words₀ words
   pub sizes-same : SameBelow base sizes₀ sizes

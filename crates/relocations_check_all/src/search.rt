@@ -14,7 +14,6 @@ ghost use Rattle.relocations_rela.specs.Requires.{SoundSite, Placed};
 ghost use Rattle.relocations_rules.specs.Search.{relocationCheck};
 ghost use Rattle.relocations_check_one.specs.Requires.{Lookups};
 ghost use Rattle.relocations_check_all.specs.Sites.{findingOfNumber, WordedBelow, SiteChecked};
-use elf_read::RELOCATION_SIZE;
 use order_lookup::Addresses;
 use placing_symbols::Symbols;
 use relocations_check_one::check_one;
@@ -69,14 +68,14 @@ fn check_site(
     sizes: &mut [u8],
     base: usize,
 ) -> Halt
-    requires { ⌜ Lookups (now object) symbols (now values) (now states) × SoundSite (now object) site × (count site ≤ length (now highs)) × (length (now highs) < 2 ^ 32)
-        × (base + count site ≤ length (now words)) × (base + count site ≤ length (now sizes)) × (length (now words) < 2 ^ 32) ⌝ }
+    requires { ⌜ Lookups (now object) symbols (now values) (now states) × SoundSite (now object) site × (count (now object) site ≤ length (now highs)) × (length (now highs) < 2 ^ 32)
+        × (base + count (now object) site ≤ length (now words)) × (base + count (now object) site ≤ length (now sizes)) × (length (now words) < 2 ^ 32) ⌝ }
     ensures { λ r. ⌜ ((order addresses : List ℕ) → Valued (now (object .entry)) order addresses (now (values .entry)) (now (states .entry))
         → SiteChecked (now (object .entry)) order addresses site base (now (words .entry)) (now (sizes .entry)) (now (words .exit)) (now (sizes .exit)) (r .number) (r .at))
         × (length (now (words .exit)) ≡ length (now (words .entry))) × (length (now (sizes .exit)) ≡ length (now (sizes .entry)))
         × (length (now (highs .exit)) ≡ length (now (highs .entry))) ⌝ }
 {
-    let n = (site.rela.size / RELOCATION_SIZE) as usize;
+    let n = elf_read::relocation_entries(object, site.rela);
     let mut trail = no_trail();
     let mut last: u64 = 0;
     let mut made: u64 = 0;
@@ -160,7 +159,7 @@ pub fn check_relocations(
             result = RelocationCheck::Broken(finding, (number + halt.at) as u32);
             break 'search;
         }
-        number += elf_read::relocation_entries(site.rela);
+        number += elf_read::relocation_entries(object, site.rela);
         i += 1;
     }
     result

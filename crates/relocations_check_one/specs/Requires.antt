@@ -36,7 +36,7 @@ Tabled v object = (k : ℕ) → isResolved (v k) ≡ true → 0 < k → k < symb
 
 -- the list of high halves: room for all of them, and if it was made they are listed; `made` is then one more than their number
 pub record Listing (object : List ℕ) (x : Site) (l : List ℕ) (made : ℕ) : Type 0 where
-  pub room : count x ≤ length l
+  pub room : count object x ≤ length l
   pub short : length l < 2 ^ 32
   pub highs : 0 < made → Listed object x l (made - 1)
 

@@ -16,11 +16,11 @@ ghost use Rattle.relocations_rules.specs.Rules.{isResolved, isOne, boundaryWell
 ghost use Rattle.relocations_check_one.specs.Outcomes.{storeNumber, distanceBy, distanceOfBy, Partnered, Comes, Onward};
 ghost use Rattle.relocations_check_one.specs.Requires.{Storing, Listing, Lookups, Read};
 use elf_read::Relocation;
+use elf_read::class_of;
 use numbers_arithmetic::add64;
 use numbers_arithmetic::difference;
 use numbers_bytes::read_bytes;
 use numbers_definitions::Address;
-use numbers_definitions::Class;
 use numbers_definitions::SectionOffset;
 use placing_symbols::SymbolValue;
 use placing_symbols::Symbols;
@@ -75,7 +75,7 @@ fn is_on_boundary(start: Address, at: SectionOffset, addend: u64) -> bool
     requires { ⌜ addend ≤ 4094 ⌝ }
     ensures { λ r. ⌜ r ≡ boundaryWell Decision.Align (start .0 + at .0) (signed 64 addend) ⌝ }
 {
-    let p = add64(start.0, at.0 as u64);
+    let p = add64(start.0, at.0);
     add64(p, addend) % numbers_arithmetic::ceil_power(addend as u32 + 2) == 0
 }
 
@@ -119,11 +119,12 @@ fn distance_at(object: &[u8], site: Site, values: &[u64], states: &[u8], k: usiz
     requires { ⌜ There (now object) site k × ValueArrays (now values) (now states) ⌝ }
     ensures { λ r. ⌜ r ≡ distanceBy (listed (now (values .entry)) (now (states .entry))) (now (object .entry)) site k ⌝ }
 {
+    let class = class_of(object);
     let high = elf_read::read_relocation(object, site.rela, k);
     let value = value_at(values, states, high.symbol);
-    let t = target_of(Class::Elf32, value, high.addend);
-    let p = place_of(Class::Elf32, site, high);
-    difference(Class::Elf32, t.0, p.0)
+    let t = target_of(class, value, high.addend);
+    let p = place_of(class, site, high);
+    difference(class, t.0, p.0)
 }
 
 // Lists the high halves of a site, unless they are listed already. The result is one more than their number.
@@ -146,7 +147,7 @@ fn high_half(
     pair: Pair,
     made: u64,
 ) -> Partner
-    requires { ⌜ SoundSite (now object) site × ValueArrays (now values) (now states) × ((k : ℕ) → pair ≡ Pair.At k → k < count site) ⌝ }
+    requires { ⌜ SoundSite (now object) site × ValueArrays (now values) (now states) × ((k : ℕ) → pair ≡ Pair.At k → k < count (now object) site) ⌝ }
     ensures { λ r. ⌜ (not (eqb (r .number) 10) ≡ true) × (not (eqb (r .number) 12) ≡ isOne pair)
         × (r .distance ≡ distanceOfBy (listed (now (values .entry)) (now (states .entry))) (now (object .entry)) site pair) × (r .made ≡ made) ⌝ }
 {
@@ -282,16 +283,17 @@ fn check_resolved(
         j,
     );
     let found = found_bytes(object, site, rule, here, j);
+    let class = class_of(object);
     let applied = apply_rule(
-        Class::Elf32,
+        class,
         calculation,
         field,
         form,
         found,
         present(shares, last, found),
-        target_of(Class::Elf32, value, here.addend),
+        target_of(class, value, here.addend),
         symbol_sum(value, here.addend),
-        place_of(Class::Elf32, site, here),
+        place_of(class, site, here),
         high.distance,
     );
     Outcome {

@@ -7,11 +7,13 @@ use lib.ListN.{length, getD}
 use Rattle.elf_read.specs.Headers.{addressWidth, sectionCount}
 use Rattle.elf_read.specs.Sections.{sectionAt, allocated}
 use Rattle.elf_read.specs.Entries.{symbolCount}
+use Rattle.elf_read.specs.Requires.{HeaderInside}
 use Rattle.relocations_rela.specs.declared.sites.Site.{Site}
 use Rattle.relocations_rela.specs.Sites.{count, entry}
 
 -- a site whose RELA section and target lie in the file, and whose target does not reach past the end of memory
 pub record SoundSite (object : List ℕ) (x : Site) : Type 0 where
+  pub header : HeaderInside object
   pub entries : x .rela .offset .0 + x .rela .size ≤ length object
   pub bytes : x .target .offset .0 + x .target .size ≤ length object
   pub placed : x .address .0 + x .target .size ≤ 2 ^ addressWidth object
@@ -19,7 +21,7 @@ pub record SoundSite (object : List ℕ) (x : Site) : Type 0 where
 -- such a site, and relocation j of it
 pub record There (object : List ℕ) (x : Site) (j : ℕ) : Type 0 where
   pub site : SoundSite object x
-  pub there : j < count x
+  pub there : j < count object x
 
 -- the symbol of relocation j is 0 or in the table
 pub record InTable (object : List ℕ) (x : Site) (j : ℕ) : Type 0 where

@@ -5,6 +5,7 @@ use lib.ListN.{getD}
 use lib.IntN.{ℤ}
 use Rattle.numbers_definitions.specs.Whole.{signed}
 use Rattle.elf_read.specs.declared.Relocation.{Relocation}
+use Rattle.elf_read.specs.Headers.{classOf}
 use Rattle.elf_read.specs.Sections.{sectionAt, relocationEntries}
 use Rattle.elf_read.specs.Entries.{bytesOf, relocationAt}
 use Rattle.relocations_types.specs.declared.Decision.{Decision}
@@ -18,8 +19,8 @@ siteAt object addresses i =
     record { rela = h; target = sectionAt object (h .info); index = h .info; address = record { 0 = getD addresses (h .info) 0 } }
 
 -- how many relocations it has
-abbrev pub count : Site → ℕ
-count x = relocationEntries (x .rela)
+abbrev pub count : List ℕ → Site → ℕ
+count object x = relocationEntries (classOf object) (x .rela)
 
 -- relocation j: its fields, and what its type asks for
 abbrev pub entry : List ℕ → Site → ℕ → Relocation
@@ -31,7 +32,7 @@ offset object x j = entry object x j .offset .0
 abbrev pub decisionAt : List ℕ → Site → ℕ → Decision
 decisionAt object x j = decision (entry object x j .kind)
 
--- A, a signed number. In the file it is the third word of the entry, in two's complement; the entry that is read keeps it modulo 2^64
+-- A, a signed number. In the file it is the third number of the entry, in two's complement; the entry that is read keeps it modulo 2^64
 -- (`Addends.addend-is`).
 abbrev pub A : List ℕ → Site → ℕ → ℤ
 A object x j = signed 64 (entry object x j .addend)

@@ -1,11 +1,12 @@
 // Check 9: type, offset, overlap and addend of a relocation.
 ghost use mathlib.Core.Path.{_≡_};
-ghost use Prim.Native.Nat.{_<_};
+ghost use Prim.Native.Nat.{_+_, _^_, _<_};
 ghost use Rattle.numbers_definitions.specs.Whole.{signed};
-ghost use Rattle.relocations_decisions.specs.Decisions.{stackWidth};
+ghost use Rattle.relocations_decisions.specs.Decisions.{touched, stackWidth};
 ghost use Rattle.relocations_rela.specs.Shape.{addendWell};
 ghost use Rattle.relocations_rela.specs.Trails.{noTrail, advanced, sharesWidth, sharesBy, shapeBy};
 use elf_read::Relocation;
+use numbers_arithmetic::ends_within;
 use numbers_definitions::SectionOffset;
 use relocations_decisions::bytes_touched;
 use relocations_decisions::is_refused;
@@ -42,10 +43,10 @@ pub fn no_trail() -> Trail
 
 // The trail with one more relocation. `width` is its width as a stack.
 pub fn advance(trail: Trail, decision: Decision, width: u64, here: Relocation) -> Trail
-    requires { ⌜ width ≡ stackWidth decision ⌝ }
+    requires { ⌜ (width ≡ stackWidth decision) × (here .offset .0 + touched decision < 2 ^ 64) ⌝ }
     ensures { λ r. ⌜ r ≡ advanced trail decision here ⌝ }
 {
-    let offset = here.offset.0 as u64;
+    let offset = here.offset.0;
     if is_store(decision) {
         return Trail {
             offset,
@@ -67,11 +68,11 @@ pub fn advance(trail: Trail, decision: Decision, width: u64, here: Relocation) -
 pub fn shares_place(trail: Trail, width: u64, at: SectionOffset) -> bool
     ensures { λ r. ⌜ r ≡ sharesWidth trail width (at .0) ⌝ }
 {
-    (trail.start == at.0 as u64) & (0 < trail.width) & (trail.width == width)
+    (trail.start == at.0) & (0 < trail.width) & (trail.width == width)
 }
 
 // The addend rules, at an offset in a section of some size.
-fn is_addend_allowed(decision: Decision, at: SectionOffset, size: u32, addend: u64) -> bool
+fn is_addend_allowed(decision: Decision, at: SectionOffset, size: u64, addend: u64) -> bool
     ensures { λ r. ⌜ r ≡ addendWell decision (at .0) size (signed 64 addend) ⌝ }
 {
     match decision {
@@ -83,13 +84,13 @@ fn is_addend_allowed(decision: Decision, at: SectionOffset, size: u32, addend: u
 }
 
 // Whether ALIGN's addend is even, from 0 to 4,094, and its padding ends in the section.
-fn is_padding(at: SectionOffset, size: u32, addend: u64) -> bool
+fn is_padding(at: SectionOffset, size: u64, addend: u64) -> bool
     ensures { λ r. ⌜ r ≡ addendWell Decision.Align (at .0) size (signed 64 addend) ⌝ }
 {
     if 4094 < addend {
         return false;
     }
-    (addend % 2 == 0) & (at.0 as u64 + addend <= size as u64)
+    (addend % 2 == 0) & ends_within(at.0, addend, size)
 }
 
 // Check 9. `shares` tells whether the relocation shares its place with the previous non-marker.
@@ -98,14 +99,14 @@ pub fn is_shape_well(
     decision: Decision,
     shares: bool,
     here: Relocation,
-    size: u32,
+    size: u64,
 ) -> bool
     requires { ⌜ shares ≡ sharesBy trail decision (here .offset .0) ⌝ }
     ensures { λ r. ⌜ r ≡ shapeBy trail decision here size ⌝ }
 {
-    let offset = here.offset.0 as u64;
+    let offset = here.offset.0;
     let rises = trail.offset <= offset;
-    let inside = offset + bytes_touched(decision) as u64 <= size as u64;
+    let inside = ends_within(offset, bytes_touched(decision) as u64, size);
     let clear = !is_store(decision) | (trail.end <= offset) | shares;
     !is_refused(decision)
         & rises

@@ -119,16 +119,16 @@ fn stacking(calculation: Calculation, width: Width, size: u8) -> Decision
 }
 
 // The type of the high half that a PCREL_LO12 pairs with.
-pub const PCREL_HI20: u8 = 23;
+pub const PCREL_HI20: u32 = 23;
 
 // Whether a type is that of the high half that a PCREL_LO12 pairs with.
-pub fn is_pairing(number: u8) -> bool
+pub fn is_pairing(number: u32) -> bool
     ensures { λ r. ⌜ r ≡ eqb number pairingType ⌝ }
 {
     number == PCREL_HI20
 }
 
-pub fn decide(number: u8) -> Decision
+pub fn decide(number: u32) -> Decision
     ensures { λ r. ⌜ r ≡ decision number ⌝ }
 {
     match number {
@@ -166,6 +166,6 @@ pub fn decide(number: u8) -> Decision
         54 => stacking(Calculation::Set, Width::W8, 1),
         55 => stacking(Calculation::Set, Width::W16, 2),
         56 => stacking(Calculation::Set, Width::W32, 4),
-        2..=15 | 20..=22 | 29..=32 | 41..=42 | 46..=50 | 58..=255 => Decision::Refused,
+        2..=15 | 20..=22 | 29..=32 | 41..=42 | 46..=50 | 58..=0xffff_ffff => Decision::Refused,
     }
 }

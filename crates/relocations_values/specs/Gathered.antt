@@ -18,7 +18,7 @@ pub record Lists (Q : ℕ → Type 0) (l : List ℕ) (m : ℕ) : Type 0 where
 
 -- k is the number of a high half
 abbrev pub High : List ℕ → Site → ℕ → Type 0
-High object x k = (k < count x) × (isHigh object x k ≡ true)
+High object x k = (k < count object x) × (isHigh object x k ≡ true)
 
 -- l begins with the numbers of the m high halves, and is in the order of their offsets unless one fell below the one before
 pub record Gathers (object : List ℕ) (x : Site) (l : List ℕ) (m : ℕ) (falls : Bool) : Type 0 where

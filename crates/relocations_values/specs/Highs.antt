@@ -15,7 +15,7 @@ isHigh object x k = givesPair (decisionAt object x k)
 -- l begins with the numbers of the site's high halves, m of them, each once, in the order of their offsets
 pub record Listed (object : List ℕ) (x : Site) (l : List ℕ) (m : ℕ) : Type 0 where
   pub fits : m ≤ length l
-  pub each : (i : ℕ) → i < m → (getD l i 0 < count x) × (isHigh object x (getD l i 0) ≡ true)
-  pub all : (k : ℕ) → k < count x → isHigh object x k ≡ true → (i : ℕ) × (i < m) × (getD l i 0 ≡ k)
+  pub each : (i : ℕ) → i < m → (getD l i 0 < count object x) × (isHigh object x (getD l i 0) ≡ true)
+  pub all : (k : ℕ) → k < count object x → isHigh object x k ≡ true → (i : ℕ) × (i < m) × (getD l i 0 ≡ k)
   pub once : (i j : ℕ) → i < j → j < m → getD l i 0 ≡ getD l j 0 → ⊥
   pub ordered : (i j : ℕ) → i ≤ j → j < m → offset object x (getD l i 0) ≤ offset object x (getD l j 0)

@@ -23,4 +23,4 @@ howMany p n = sum (λ k. cond (p k) 1 0) n
 -- "There must be exactly one PCREL_HI20 record whose offset equals that value, among the same RELA row's records."
 unfoldable pub pairOf : List ℕ → Site → SectionOffset → Pair
 pairOf object x value =
-    cond (eqb (howMany (isPair object x value) (count x)) 1) (At (first (isPair object x value) (count x))) NotOne
+    cond (eqb (howMany (isPair object x value) (count object x)) 1) (At (first (isPair object x value) (count object x))) NotOne

@@ -1,6 +1,6 @@
 // The high halves of a site, listed once, so that each low half finds its pair by halving.
 ghost use mathlib.Core.Path.{_≡_};
-ghost use Prim.Native.Nat.{_≤_};
+ghost use Prim.Native.Nat.{_^_, _≤_, _<_};
 ghost use lib.ListN.{length};
 ghost use Rattle.relocations_types.specs.Types.{decision};
 ghost use Rattle.relocations_decisions.specs.Decisions.{givesPair};
@@ -19,7 +19,7 @@ struct Gathered {
 }
 
 // Whether a relocation type is that of a high half.
-fn is_high(kind: u8) -> bool
+fn is_high(kind: u32) -> bool
     ensures { λ r. ⌜ r ≡ givesPair (decision kind) ⌝ }
 {
     is_pairing(kind)
@@ -27,12 +27,12 @@ fn is_high(kind: u8) -> bool
 
 // Gathers the numbers of the high halves of a site, in the order of the file.
 fn gather(object: &[u8], site: Site, highs: &mut [u32]) -> Gathered
-    requires { ⌜ SoundSite (now object) site × (count site ≤ length (now highs)) ⌝ }
+    requires { ⌜ SoundSite (now object) site × (count (now object) site ≤ length (now highs)) × (length (now highs) < 2 ^ 32) ⌝ }
     ensures { λ r. ⌜ Gathers (now (object .entry)) site (now (highs .exit)) (r .count) (r .falls) ⌝ }
 {
-    let n = elf_read::relocation_entries(site.rela);
+    let n = elf_read::relocation_entries(object, site.rela);
     let mut m: usize = 0;
-    let mut last: u32 = 0;
+    let mut last: u64 = 0;
     let mut falls = false;
     let mut k: usize = 0;
     while k < n {
@@ -52,7 +52,7 @@ fn gather(object: &[u8], site: Site, highs: &mut [u32]) -> Gathered
 // Lists the high halves of a site, in the order of their offsets. Returns how many there are. They are sorted only where
 // an offset falls, in an object that is refused.
 pub fn list_highs(object: &[u8], site: Site, highs: &mut [u32]) -> usize
-    requires { ⌜ SoundSite (now object) site × (count site ≤ length (now highs)) ⌝ }
+    requires { ⌜ SoundSite (now object) site × (count (now object) site ≤ length (now highs)) × (length (now highs) < 2 ^ 32) ⌝ }
     ensures { λ r. ⌜ Listed (now (object .entry)) site (now (highs .exit)) r × (length (now (highs .exit)) ≡ length (now (highs .entry))) ⌝ }
 {
     let gathered = gather(object, site, highs);

@@ -28,5 +28,5 @@ pub fn target_of(class: Class, value: SymbolValue, addend: u64) -> Address
 pub fn place_of(class: Class, site: Site, here: Relocation) -> Address
     ensures { λ r. ⌜ r .0 ≡ plus (bits class) (site .address .0) (here .offset .0) ⌝ }
 {
-    Address(sum(class, site.address.0, here.offset.0 as u64))
+    Address(sum(class, site.address.0, here.offset.0))
 }

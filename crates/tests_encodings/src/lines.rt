@@ -56,7 +56,7 @@ pub fn half(x: u32) {
 // t: a type, and then 0 for a marker, 1 for ALIGN, 3 for a refusal, or 2 with its rule.
 pub fn decision(number: u8) {
     first(b't', number as u64);
-    match relocations_types::decide(number) {
+    match relocations_types::decide(number as u32) {
         Decision::Marker => then(0),
         Decision::Align => then(1),
         Decision::Store(asked) => rule(asked),

@@ -1,10 +1,10 @@
 // o: checks 4 and 5 of an object. If it passes, a digest for each function that reads it.
-//
-// What the checks say about offsets and counts is tested here again, so that no proof needs a law about it. Such a
-// `return` is never taken.
 ghost use Prim.Native.Nat.{_<_};
-ghost use Rattle.elf_read.specs.Headers.{sectionCount};
-ghost use Rattle.elf_read.specs.Requires.{TableInside};
+ghost use Rattle.elf_read.specs.Headers.{classOf, sectionCount};
+ghost use Rattle.elf_read.specs.Sections.{relocationEntries};
+ghost use Rattle.elf_read.specs.Entries.{symbolEntries};
+ghost use Rattle.elf_read.specs.Requires.{HeaderInside, TableInside, Inside, EntryInside};
+ghost use Rattle.elf_check.specs.Requires.{SoundObject};
 use super::digest;
 use super::lines;
 use elf_check::ObjectCheck;
@@ -19,18 +19,9 @@ pub fn line(s: &[u8]) {
     tests_harness::end();
 }
 
-fn passed(s: &[u8]) {
-    if s.len() < 52 {
-        return;
-    }
-    let n = elf_read::section_count(s);
-    let table = numbers_bytes::read32(s, 32) as usize;
-    if 32 < n {
-        return;
-    }
-    if s.len() < table + 40 * n {
-        return;
-    }
+fn passed(s: &[u8])
+    requires { ⌜ SoundObject (now s) ⌝ }
+{
     lines::answer(b'o', 0, 0);
     sections(s);
     entries(s);
@@ -38,7 +29,7 @@ fn passed(s: &[u8]) {
 
 // How many sections there are, and their headers, roles and bytes.
 fn sections(s: &[u8])
-    requires { ⌜ TableInside (now s) ⌝ }
+    requires { ⌜ SoundObject (now s) ⌝ }
 {
     tests_harness::then(elf_read::section_count(s) as u64);
     tests_harness::then(headers(s));
@@ -48,7 +39,7 @@ fn sections(s: &[u8])
 
 // The symbol table and the symbols; how many relocations there are, where they are, and the relocations themselves.
 fn entries(s: &[u8])
-    requires { ⌜ TableInside (now s) ⌝ }
+    requires { ⌜ SoundObject (now s) ⌝ }
 {
     let n = elf_read::section_count(s);
     tests_harness::then(elf_read::symbol_table(s) as u64);
@@ -74,13 +65,13 @@ fn headers(s: &[u8]) -> u64
 
 fn header(digest: u64, h: Section) -> u64 {
     let a = digest::mix(digest, h.kind as u64);
-    let b = digest::mix(a, h.flags as u64);
-    let c = digest::mix(b, h.offset.0 as u64);
-    let d = digest::mix(c, h.size as u64);
+    let b = digest::mix(a, h.flags);
+    let c = digest::mix(b, h.offset.0);
+    let d = digest::mix(c, h.size);
     let e = digest::mix(d, h.link as u64);
     let f = digest::mix(e, h.info as u64);
-    let g = digest::mix(f, h.alignment as u64);
-    digest::mix(g, h.entsize as u64)
+    let g = digest::mix(f, h.alignment);
+    digest::mix(g, h.entsize)
 }
 
 fn roles(s: &[u8]) -> u64
@@ -124,14 +115,14 @@ fn body(digest: u64, s: &[u8], h: Section) -> u64 {
     if (h.kind == 0) | (h.kind == 8) {
         return digest;
     }
-    if s.len() < h.offset.0 as usize + h.size as usize {
+    if !numbers_arithmetic::ends_within(h.offset.0, h.size, s.len() as u64) {
         return digest;
     }
     digest::bytes(digest, elf_read::section_bytes(s, h))
 }
 
 fn symbols(s: &[u8]) -> u64
-    requires { ⌜ TableInside (now s) ⌝ }
+    requires { ⌜ SoundObject (now s) ⌝ }
 {
     let table = elf_read::symbol_table(s);
     if elf_read::section_count(s) <= table {
@@ -148,15 +139,11 @@ fn symbols(s: &[u8]) -> u64
     d
 }
 
-fn symbol(digest: u64, s: &[u8], table: Section, k: usize) -> u64 {
-    if 1024 <= k {
-        return digest;
-    }
-    if s.len() < table.offset.0 as usize + 16 * k + 16 {
-        return digest;
-    }
+fn symbol(digest: u64, s: &[u8], table: Section, k: usize) -> u64
+    requires { ⌜ EntryInside (now s) table (symbolEntries (classOf (now s)) table) k ⌝ }
+{
     let y = elf_read::read_symbol(s, table, k);
-    let a = digest::mix(digest, y.value.0 as u64);
+    let a = digest::mix(digest, y.value.0);
     let b = digest::mix(a, y.kind as u64);
     let c = digest::mix(b, y.binding as u64);
     digest::mix(c, y.section as u64)
@@ -165,7 +152,7 @@ fn symbol(digest: u64, s: &[u8], table: Section, k: usize) -> u64 {
 // For each section, where three relocations are: the first one after the section, the one before that, and one in the
 // middle of all those up to there.
 fn locations(s: &[u8]) -> u64
-    requires { ⌜ TableInside (now s) ⌝ }
+    requires { ⌜ SoundObject (now s) ⌝ }
 {
     let n = elf_read::section_count(s);
     let mut d = digest::START;
@@ -181,14 +168,14 @@ fn locations(s: &[u8]) -> u64
 }
 
 fn location(digest: u64, s: &[u8], k: usize) -> u64
-    requires { ⌜ TableInside (now s) ⌝ }
+    requires { ⌜ SoundObject (now s) ⌝ }
 {
     let at = elf_read::locate(s, k);
     digest::mix(digest::mix(digest, at.section as u64), at.entry as u64)
 }
 
 fn relocations(s: &[u8]) -> u64
-    requires { ⌜ TableInside (now s) ⌝ }
+    requires { ⌜ SoundObject (now s) ⌝ }
 {
     let n = elf_read::section_count(s);
     let mut d = digest::START;
@@ -202,8 +189,10 @@ fn relocations(s: &[u8]) -> u64
     d
 }
 
-fn relocations_in(digest: u64, s: &[u8], h: Section) -> u64 {
-    let n = elf_read::relocation_entries(h);
+fn relocations_in(digest: u64, s: &[u8], h: Section) -> u64
+    requires { ⌜ HeaderInside (now s) × Inside (now s) h ⌝ }
+{
+    let n = elf_read::relocation_entries(s, h);
     let mut d = digest;
     let mut k: usize = 0;
     while k < n {
@@ -213,15 +202,11 @@ fn relocations_in(digest: u64, s: &[u8], h: Section) -> u64 {
     d
 }
 
-fn relocation(digest: u64, s: &[u8], h: Section, k: usize) -> u64 {
-    if 4096 <= k {
-        return digest;
-    }
-    if s.len() < h.offset.0 as usize + 12 * k + 12 {
-        return digest;
-    }
+fn relocation(digest: u64, s: &[u8], h: Section, k: usize) -> u64
+    requires { ⌜ EntryInside (now s) h (relocationEntries (classOf (now s)) h) k ⌝ }
+{
     let r = elf_read::read_relocation(s, h, k);
-    let a = digest::mix(digest, r.offset.0 as u64);
+    let a = digest::mix(digest, r.offset.0);
     let b = digest::mix(a, r.kind as u64);
     let c = digest::mix(b, r.symbol as u64);
     digest::mix(c, r.addend)

@@ -68,7 +68,7 @@ nothing-read object order addresses x final j none = go (decisionAt object x j) 
   where
     go : (d : Decision) → (isStore d ≡ true → ⊥)
         → Stored (addressWidth object) d (found object x) final (offset object x j) (targetAt object order addresses x j) (P object x j) (pairDistance object order addresses x j)
-        (λ v. stackAt object order addresses x (offset object x j) v (count x))
+        (λ v. stackAt object order addresses x (offset object x j) v (count object x))
     go (Store r) none = absurd (none refl)
     go Marker none = tt
     go Align none = tt
@@ -93,7 +93,7 @@ module _ (object order : List ℕ) (counts : OrderHeader) (image : List ℕ) (fi
       go : Dec (relaOf object t < sectionCount object) → getD (relocated object order a t) b 0 ≡ getD (bytesOf object (sectionAt object t)) b 0
       go (yes r) =
           let f = rela-found object t r in
-          let none : untouched object x b ≡ true = everywhere-is (λ j. not (touches object x j b)) (count x)
+          let none : untouched object x b ≡ true = everywhere-is (λ j. not (touches object x j b)) (count object x)
           (λ j l. not-touched (offset object x j) b (end object x j) (out (relaOf object t) j (record { there = r; counts = f .0; entry = l }) (f .1))) in
           ap (λ s. getD s b 0) (relocated-some object order a t r)
           ∙ untouched-own object order a x b none
@@ -125,14 +125,14 @@ module _ (object order : List ℕ) (counts : OrderHeader) (image : List ℕ) (fi
         let here : q i ≡ true = rw (c, eq-eqb (sectionAt object i .info) (sectionAt object i .info) refl) in
         first-is q (sectionCount object) i (omega arith) (λ k l. not-first (countingRela object k) (sectionAt object k .info) (sectionAt object i .info) (sound .target-new k l)) (λ _. here)
 
-    relocated-target : relocated object order a (sectionAt object i .info) ≡ after object order a x (count x)
+    relocated-target : relocated object order a (sectionAt object i .info) ≡ after object order a x (count object x)
     relocated-target =
         let r : relaOf object (sectionAt object i .info) < sectionCount object = omega (arith, rela-is) in
         relocated-some object order a (sectionAt object i .info) r
-        ∙ ap (λ k. after object order a (siteAt object a k) (count (siteAt object a k))) rela-is
+        ∙ ap (λ k. after object order a (siteAt object a k) (count object (siteAt object a k))) rela-is
 
     -- a section of size 0 has no room for a store
-    no-store : (j : ℕ) → j < count x → hasBytes (sectionAt object (sectionAt object i .info)) ≡ false → (d : Decision) → decisionAt object x j ≡ d → isStore d ≡ true → ⊥
+    no-store : (j : ℕ) → j < count object x → hasBytes (sectionAt object (sectionAt object i .info)) ≡ false → (d : Decision) → decisionAt object x j ≡ d → isStore d ≡ true → ⊥
     unfolding hasBytes siteAt staysInside
     no-store j l e (Store r) p s =
         let h = sectionAt object (sectionAt object i .info) in
@@ -146,7 +146,7 @@ module _ (object order : List ℕ) (counts : OrderHeader) (image : List ℕ) (fi
     no-store j l e Refused p s = clash false refl s
 
     -- every relocation, read out of the image
-    back : (j : ℕ) → j < count x → ReadsBack object order a x (sectionIn object order final (sectionAt object i .info)) j
+    back : (j : ℕ) → j < count object x → ReadsBack object order a x (sectionIn object order final (sectionAt object i .info)) j
     back j l = go (hasBytes (sectionAt object (sectionAt object i .info))) refl
       where
         there : sectionAt object i .info < sectionCount object

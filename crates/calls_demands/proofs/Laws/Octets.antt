@@ -115,8 +115,8 @@ unfolding relocated
 bytes-relocated object order a t b = go (ltb (relaOf object t) (sectionCount object))
   where
     go : (c : Bool)
-        → Bytes (cond c (after object order a (siteAt object a (relaOf object t)) (countOf (siteAt object a (relaOf object t)))) (bytesOf object (sectionAt object t)))
-    go true = bytes-after object order a (siteAt object a (relaOf object t)) b (countOf (siteAt object a (relaOf object t)))
+        → Bytes (cond c (after object order a (siteAt object a (relaOf object t)) (countOf object (siteAt object a (relaOf object t)))) (bytesOf object (sectionAt object t)))
+    go true = bytes-after object order a (siteAt object a (relaOf object t)) b (countOf object (siteAt object a (relaOf object t)))
     go false = bytes-own object t b
 
 bytes-pieces : (object order : List ℕ) → Bytes object → (n : ℕ) → AllBytes (pieces (relocated object order (addresses order)) object (addresses order) (base order) n)

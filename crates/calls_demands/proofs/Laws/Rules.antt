@@ -114,14 +114,14 @@ header-well s e =
       relocatable = eqb-true _ _ (search (and-left, and-right) depth 12);
       risc-v = eqb-true _ _ (search (and-left, and-right) depth 12);
       version = eqb-true _ _ (search (and-left, and-right) depth 12);
-      header-size = eqb-true _ _ (search (and-left, and-right) depth 12);
+      own-size = eqb-true _ _ (search (and-left, and-right) depth 12);
     }
 
 pub well-header : (s : List ℕ) → HeaderWell s → headerAllowed s ≡ true
 unfolding headerAllowed
 well-header s h =
     rw (le-leb _ _ (h .short), le-leb _ _ (h .long), eq-eqb _ _ (h .magic), eq-eqb _ _ (h .class-32), eq-eqb _ _ (h .little-endian), eq-eqb _ _ (h .ident-version), eq-eqb _ _ (h .relocatable), eq-eqb _ _ (h .risc-v), eq-eqb _ _ (h .version))
-    (eq-eqb _ _ (h .header-size))
+    (eq-eqb _ _ (h .own-size))
 
 pub table-well : (s : List ℕ) → tableAllowed s ≡ true → TableWell s
 unfolding tableAllowed

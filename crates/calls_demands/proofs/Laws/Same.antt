@@ -55,7 +55,7 @@ module _ (object order : List ℕ) where
     pub low : offset object (siteOf object order i) j ≤ b
     pub high : b < end object (siteOf object order i) j
 
-  touches-or-not : (t b i : ℕ) → i < sectionCount object → countingRela object i ≡ true → sectionAt object i .info ≡ t → (j : ℕ) → j < count (siteOf object order i)
+  touches-or-not : (t b i : ℕ) → i < sectionCount object → countingRela object i ≡ true → sectionAt object i .info ≡ t → (j : ℕ) → j < count object (siteOf object order i)
       → Touches t b i j ⊎ (Touches t b i j → ⊥)
   touches-or-not t b i there counts relocates j entry = go (decLt b (offset object (siteOf object order i) j)) (decLt b (end object (siteOf object order i) j))
     where
@@ -74,7 +74,7 @@ module _ (object order : List ℕ) where
       go true e (inr other) = inr (λ c. other (c .1 .relocates))
       go true e (inl same) =
           ⊎-elim (λ c. inl c) (λ none. inr (λ c. none (c .0) (c .1 .is .entry) (c .1)))
-          (search-below (Touches t b i) (count (siteOf object order i)) (touches-or-not t b i there e same))
+          (search-below (Touches t b i) (count object (siteOf object order i)) (touches-or-not t b i there e same))
 
   -- ---- two images of which demand 2 says the same
 
@@ -118,11 +118,11 @@ module _ (object order : List ℕ) where
 
         says : (s : List ℕ) → Laid object order before s → (d : Decision) → decisionAt object x j ≡ d
             → Stored (addressWidth object) d (found object x) (sectionIn object order s t) (offset object x j) (targetAt object order (addresses order) x j) (P object x j)
-            (pairDistance object order (addresses order) x j) (λ v. stackAt object order (addresses order) x (offset object x j) v (count x))
+            (pairDistance object order (addresses order) x j) (λ v. stackAt object order (addresses order) x (offset object x j) v (count object x))
         says s l d e =
             subst
             (λ q. Stored (addressWidth object) q (found object x) (sectionIn object order s t) (offset object x j) (targetAt object order (addresses order) x j) (P object x j)
-            (pairDistance object order (addresses order) x j) (λ v. stackAt object order (addresses order) x (offset object x j) v (count x)))
+            (pairDistance object order (addresses order) x j) (λ v. stackAt object order (addresses order) x (offset object x j) v (count object x)))
             e (subst (λ u. ReadsBack object order (addresses order) x (sectionIn object order s u) j) (c .relocates) (l .fields i j (c .is)))
 
         go : (d : Decision) → decisionAt object x j ≡ d → getD sg b 0 ≡ getD sh b 0

@@ -7,13 +7,13 @@ use native.Mathlib.Decide.{decLt}
 use lib.ListN.{length, replicate}
 use borrow.Author.Tests.{ne-eqb, le-ltb}
 use Rattle.numbers_definitions.proofs.Laws.Tests.{never}
-use Rattle.numbers_definitions.specs.Bytes.{le, leAt, bytes, part}
+use Rattle.numbers_definitions.specs.Bytes.{le, leAt, bytes}
 use Rattle.numbers_definitions.specs.First.{first, everywhere, tabulate}
 use Rattle.numbers_definitions.specs.Sums.{sum}
 use Rattle.numbers_definitions.specs.Powers.{oneBit}
-use Rattle.elf_read.specs.Headers.{addressWidth, sectionCount}
-use Rattle.elf_read.specs.Sections.{sectionAt, allocated, loaded, symbolTable, isAllocated, countingRel, countingRela, relocationsIn}
-use Rattle.elf_read.specs.Entries.{bytesOf, relocationAt, relocationCount, locationOf}
+use Rattle.elf_read.specs.Headers.{classOf, addressWidth, sectionCount}
+use Rattle.elf_read.specs.Sections.{readSection, sectionAt, allocated, loaded, symbolTable, isAllocated, countingRel, countingRela, relocationsIn}
+use Rattle.elf_read.specs.Entries.{readRelocation, relocationAt, relocationCount, locationOf}
 use Rattle.elf_header.specs.Headers.{headerAllowed, tableAllowed}
 use Rattle.elf_check.specs.Rules.{startsNull, insideFile, allocatedWell, symbolTableWell, noCountingRel, relaKept, relaWell, relocationsKept, relocationsWell, sectionWell}
 use Rattle.elf_check.specs.Sound.{SoundSection}
@@ -22,8 +22,7 @@ use Rattle.order_format.specs.Orders.{base, entryAt, ascending, wellFormed}
 use Rattle.order_lookup.specs.Values.{valueIn, externalValue}
 use Rattle.order_format.specs.Windows.{lengthAllowed, windowAllowed}
 use Rattle.order_lookup.specs.Addresses.{placedAt, addresses}
-use Rattle.journal_format.specs.Journals.{entry, entries, total, isBlank, endsWithin, sound, Sound, noRoom}
-use Rattle.plan_pieces.specs.Plans.{end, lowest, spanOf}
+use Rattle.journal_format.specs.Journals.{entry, entries, total, isBlank, endsWithin, sound, Sound}
 use Rattle.journal_history.specs.Calls.{Files}
 use Rattle.journal_format.proofs.Laws.Sound.{test-sound}
 use Rattle.placing_check.specs.Placing.{endOf, unit, aligned, endsInMemory, hasBytes, inWindow, share, apart, misplaced}
@@ -32,10 +31,6 @@ use Rattle.relocations_types.specs.Types.{table, among, lookup, decision}
 use Rattle.relocations_rela.specs.Sites.{siteAt}
 use Rattle.relocations_rela.specs.Shape.{neverFalls, staysInside, previous, noOverlap, shapeWell}
 use Rattle.relocations_rules.specs.Rules.{symbolWell, standsWell, formWell, pairWell}
-use Rattle.relocations_bytes.specs.Patches.{patched}
-use Rattle.relocations_bytes.specs.Sections.{relaOf, relocated, applied, after}
-use Rattle.placing_span.specs.Pieces.{pieces}
-use Rattle.calls_judgement.specs.Judgement.{planOf}
 use Rattle.calls_demands.specs.Rules.{Rules, OrderWell, WindowWell, HeaderWell, TableWell, PlacedAsAllocated, ValuedIfUndefined, PlacedIfAllocated, site, entryOf, valueOf, Shape, SymbolResolves, FormIs, OnePair, Reaches, OnBoundary, Room}
 use Rattle.plan_pieces.specs.declared.Span.{Span}
 use Rattle.calls_demands.specs.Laid.{Covers, IsSpan}
@@ -69,32 +64,32 @@ unfoldable pub files : Files
 files = record { image = replicate 4 0xA5; journal = replicate 140 0 }
 
 pub journal-is : Sound (files .journal) (length (files .image))
-unfolding files sound everywhere first entries tabulate entry total leAt le isBlank endsWithin
+unfolding files sound everywhere first entries tabulate entry total leAt le classOf isBlank endsWithin
 journal-is = test-sound (files .journal) (length (files .image)) refl
 
 order-is : OrderWell order
-unfolding order words bytes wellFormed ascending everywhere first leAt le entryAt
+unfolding order words bytes wellFormed ascending everywhere first leAt le classOf entryAt
 order-is = order-well order refl
 
 pub header-is : HeaderWell object
-unfolding object words bytes headerAllowed leAt le
+unfolding object words bytes headerAllowed leAt le classOf
 header-is = header-well object refl
 
 pub table-is : TableWell object
-unfolding object words bytes tableAllowed leAt le
+unfolding object words bytes tableAllowed leAt le classOf
 table-is = table-well object refl
 
 window-is : WindowWell (addressWidth object) (base order) (length (files .image))
-unfolding order files words bytes windowAllowed lengthAllowed leAt le
+unfolding order files words bytes windowAllowed lengthAllowed leAt le classOf
 window-is = window-well (addressWidth object) (base order) (length (files .image)) refl
 
 -- the section header table has four entries
 count-is : sectionCount object ≡ 4
-unfolding object words bytes leAt le
+unfolding object words bytes leAt le classOf
 count-is = refl
 
 pub sections-are : (i : ℕ) → i < 4 → SoundSection object i
-unfolding object words bytes leAt le sectionWell startsNull insideFile allocatedWell symbolTableWell noCountingRel relaKept relaWell relocationsKept relocationsWell sectionAt allocated loaded symbolTable isAllocated countingRel countingRela relocationsIn first everywhere sum oneBit
+unfolding object words bytes leAt le classOf sectionWell startsNull insideFile allocatedWell symbolTableWell noCountingRel relaKept relaWell relocationsKept relocationsWell readSection sectionAt allocated loaded symbolTable isAllocated countingRel countingRela relocationsIn first everywhere sum oneBit
 sections-are zero h = section-sound object 0 refl
 sections-are (suc zero) h = section-sound object 1 refl
 sections-are (suc (suc zero)) h = section-sound object 2 refl
@@ -103,7 +98,7 @@ sections-are (suc (suc (suc (suc i)))) h = absurd (omega arith)
 
 -- section 1 is allocated and placed, and no other number is
 matches-are : (i : ℕ) → PlacedAsAllocated object order i
-unfolding object order words bytes leAt le sectionAt allocated isAllocated placedAt valueIn entryAt first
+unfolding object order words bytes leAt le classOf readSection sectionAt allocated isAllocated placedAt valueIn entryAt first
 matches-are zero = refl
 matches-are (suc zero) = refl
 matches-are (suc (suc zero)) = refl
@@ -111,12 +106,12 @@ matches-are (suc (suc (suc zero))) = refl
 matches-are (suc (suc (suc (suc i)))) = rw (ne-eqb 1 (suc (suc (suc (suc i)))) (λ e. omega arith), le-ltb (suc (suc (suc (suc i)))) 4 (omega arith))
 
 externals-are : (k : ℕ) → ValuedIfUndefined object order k
-unfolding order words bytes leAt le externalValue valueIn first
+unfolding order words bytes leAt le classOf externalValue valueIn first
 externals-are k e = never e
 
 -- section 1 stands at the window's start, and keeps every rule of placing
 placed-are : (i : ℕ) → i < 4 → PlacedIfAllocated object order (length (files .image)) i
-unfolding object order files words bytes leAt le sectionAt allocated misplaced aligned unit endsInMemory endOf inWindow hasBytes loaded share apart everywhere first addresses tabulate placedAt valueIn entryAt
+unfolding object order files words bytes leAt le classOf readSection sectionAt allocated misplaced aligned unit endsInMemory endOf inWindow hasBytes loaded share apart everywhere first addresses tabulate placedAt valueIn entryAt
 placed-are zero h a = never a
 placed-are (suc zero) h a = placed-well object (addresses order) (base order) (length (files .image)) 1 refl a
 placed-are (suc (suc zero)) h a = never a
@@ -125,36 +120,36 @@ placed-are (suc (suc (suc (suc i)))) h a = absurd (omega arith)
 
 -- there is one relocation, and it breaks no rule
 relocations-are : relocationCount object ≡ 1
-unfolding object words bytes leAt le sum relocationsIn countingRela isAllocated sectionAt allocated
+unfolding object words bytes leAt le classOf sum relocationsIn countingRela isAllocated readSection sectionAt allocated
 relocations-are = refl
 
 shape-is : Shape object order 0
-unfolding object order words bytes leAt le sum relocationsIn locationOf countingRela isAllocated sectionAt allocated siteAt relocationAt decision table lookup among shapeWell neverFalls staysInside noOverlap previous first addresses tabulate placedAt valueIn entryAt
+unfolding object order words bytes leAt le classOf sum relocationsIn locationOf countingRela isAllocated readSection sectionAt allocated siteAt readRelocation relocationAt decision table lookup among shapeWell neverFalls staysInside noOverlap previous first addresses tabulate placedAt valueIn entryAt
 shape-is = shape-well object (site object order 0) (entryOf object order 0) refl
 
 symbol-is : SymbolResolves object order 0
-unfolding object order words bytes leAt le sum relocationsIn locationOf countingRela isAllocated sectionAt allocated siteAt relocationAt decision table lookup among symbolWell symbolValue first addresses tabulate placedAt valueIn entryAt
+unfolding object order words bytes leAt le classOf sum relocationsIn locationOf countingRela isAllocated readSection sectionAt allocated siteAt readRelocation relocationAt decision table lookup among symbolWell symbolValue first addresses tabulate placedAt valueIn entryAt
 symbol-is = symbol-well object (site object order 0) (entryOf object order 0) (valueOf object order 0) refl
 
 form-is : FormIs object order 0
-unfolding object order words bytes leAt le sum relocationsIn locationOf countingRela isAllocated sectionAt allocated siteAt relocationAt decision table lookup among formWell standsWell first addresses tabulate placedAt valueIn entryAt
+unfolding object order words bytes leAt le classOf sum relocationsIn locationOf countingRela isAllocated readSection sectionAt allocated siteAt readRelocation relocationAt decision table lookup among formWell standsWell first addresses tabulate placedAt valueIn entryAt
 form-is = form-well object (site object order 0) (entryOf object order 0) refl
 
 pair-is : OnePair object order 0
-unfolding object order words bytes leAt le sum relocationsIn locationOf countingRela isAllocated sectionAt allocated siteAt relocationAt decision table lookup among pairWell first addresses tabulate placedAt valueIn entryAt
+unfolding object order words bytes leAt le classOf sum relocationsIn locationOf countingRela isAllocated readSection sectionAt allocated siteAt readRelocation relocationAt decision table lookup among pairWell first addresses tabulate placedAt valueIn entryAt
 pair-is = pair-well object (site object order 0) (entryOf object order 0) refl
 
 reach-is : Reaches object order 0
-unfolding object order words bytes leAt le sum relocationsIn locationOf countingRela isAllocated sectionAt allocated siteAt relocationAt decision table lookup among first addresses tabulate placedAt valueIn entryAt
+unfolding object order words bytes leAt le classOf sum relocationsIn locationOf countingRela isAllocated readSection sectionAt allocated siteAt readRelocation relocationAt decision table lookup among first addresses tabulate placedAt valueIn entryAt
 reach-is = reach-well object (site object order 0) (entryOf object order 0) _ refl
 
 boundary-is : OnBoundary object order 0
-unfolding object order words bytes leAt le sum relocationsIn locationOf countingRela isAllocated sectionAt allocated siteAt relocationAt decision table lookup among first addresses tabulate placedAt valueIn entryAt
+unfolding object order words bytes leAt le classOf sum relocationsIn locationOf countingRela isAllocated readSection sectionAt allocated siteAt readRelocation relocationAt decision table lookup among first addresses tabulate placedAt valueIn entryAt
 boundary-is = boundary-well object (site object order 0) (entryOf object order 0) refl
 
 -- the section's four bytes are all that is laid
 only-laid : (t b : ℕ) → Covers object order t b → b < 4
-unfolding object order words bytes leAt le sectionAt allocated loaded hasBytes addresses tabulate placedAt valueIn entryAt first
+unfolding object order words bytes leAt le classOf readSection sectionAt allocated loaded hasBytes addresses tabulate placedAt valueIn entryAt first
 only-laid zero b c = never (c .loaded)
 only-laid (suc zero) b c = omega (arith, c .to)
 only-laid (suc (suc zero)) b c = never (c .loaded)
@@ -162,7 +157,7 @@ only-laid (suc (suc (suc zero))) b c = never (c .loaded)
 only-laid (suc (suc (suc (suc t)))) b c = absurd (omega (arith, c .there, count-is))
 
 room-is : Room object order (files .journal)
-unfolding files leAt le
+unfolding files leAt le classOf
 room-is = record { entry-free = λ e. omega (arith, e); bytes-free = λ s is. go s is (decLt 0 (s .size)) }
   where
     go : (s : Span) → IsSpan object order s → Dec (0 < s .size) → 136 + 0 + s .size ≤ 140

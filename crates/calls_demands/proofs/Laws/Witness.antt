@@ -31,9 +31,9 @@ use Rattle.relocations_types.specs.declared.Calculation.the-variants.{Of}
 use Rattle.relocations_types.specs.declared.Role.the-variants.{Plain}
 use Rattle.relocations_types.specs.declared.Rule.{Rule}
 use Rattle.relocations_types.specs.Types.{table, among, lookup, decision}
-use Rattle.elf_read.specs.Headers.{sectionCount}
-use Rattle.elf_read.specs.Sections.{sectionAt, allocated, loaded, symbolTable, countingRel, countingRela, relocationsIn, isAllocated}
-use Rattle.elf_read.specs.Entries.{bytesOf, symbolCount, symbolAt, relocationAt, relocationCount, locationOf}
+use Rattle.elf_read.specs.Headers.{classOf, addressWidth, sectionCount}
+use Rattle.elf_read.specs.Sections.{readSection, sectionAt, allocated, loaded, symbolTable, countingRel, countingRela, relocationsIn, isAllocated}
+use Rattle.elf_read.specs.Entries.{readSymbol, readRelocation, bytesOf, symbolCount, symbolAt, relocationAt, relocationCount, locationOf}
 use Rattle.elf_header.specs.Headers.{headerAllowed, tableAllowed}
 use Rattle.elf_check.specs.Rules.{startsNull, insideFile, allocatedWell, symbolTableWell, noCountingRel, relaKept, relaWell, relocationsKept, relocationsWell, sectionWell}
 use Rattle.elf_check.specs.Sound.{SoundSection}
@@ -126,26 +126,26 @@ files = record { image = replicate 52 0xA5; journal = replicate 192 0 }
 -- ---- what is computed of the object alone
 
 header-is : HeaderWell object
-unfolding object words bytes headerAllowed leAt le
+unfolding object words bytes headerAllowed leAt le classOf
 header-is = header-well object refl
 
 table-is : TableWell object
-unfolding object words bytes tableAllowed leAt le
+unfolding object words bytes tableAllowed leAt le classOf
 table-is = table-well object refl
 
 count-is : sectionCount object ≡ 6
-unfolding object words bytes leAt le
+unfolding object words bytes leAt le classOf
 count-is = refl
 
 sections-are : (i : ℕ) → i < 6 → SoundSection object i
-unfolding object words bytes leAt le sectionWell startsNull insideFile allocatedWell symbolTableWell noCountingRel relaKept relaWell relocationsKept relocationsWell sectionAt allocated loaded symbolTable isAllocated countingRel countingRela relocationsIn first everywhere sum oneBit
+unfolding object words bytes leAt le classOf sectionWell startsNull insideFile allocatedWell symbolTableWell noCountingRel relaKept relaWell relocationsKept relocationsWell readSection sectionAt allocated loaded symbolTable isAllocated countingRel countingRela relocationsIn first everywhere sum oneBit
 sections-are i h = section-sound object i (everywhere-at (sectionWell object) 6 refl i h)
 
 -- ---- what is computed of an order: each rule by its test
 
 -- sections 1 and 2 are allocated and placed, and no other number is; symbol 3 is undefined and has a value
 matches-are : (code i : ℕ) → PlacedAsAllocated object (orderWith code) i
-unfolding object orderWith words bytes leAt le sectionAt allocated isAllocated placedAt valueIn entryAt first
+unfolding object orderWith words bytes leAt le classOf readSection sectionAt allocated isAllocated placedAt valueIn entryAt first
 matches-are code zero = refl
 matches-are code (suc zero) = refl
 matches-are code (suc (suc zero)) = refl
@@ -157,7 +157,7 @@ matches-are code (suc (suc (suc (suc (suc (suc i)))))) =
     rw (ne-eqb 1 k (λ e. omega arith), ne-eqb 2 k (λ e. omega arith), le-ltb k 6 (omega arith))
 
 externals-are : (code k : ℕ) → ValuedIfUndefined object (orderWith code) k
-unfolding object orderWith words bytes leAt le sectionAt externalValue valueIn entryAt first isUndefined symbolTable symbolCount symbolAt
+unfolding object orderWith words bytes leAt le classOf readSection sectionAt externalValue valueIn entryAt first isUndefined symbolTable symbolCount readSymbol symbolAt
 externals-are code zero = valued object (orderWith code) 0 refl
 externals-are code (suc zero) = valued object (orderWith code) 1 refl
 externals-are code (suc (suc zero)) = valued object (orderWith code) 2 refl
@@ -168,14 +168,14 @@ externals-are code (suc (suc (suc (suc k)))) =
 
 record Fine (code from : ℕ) : Type 0 where
   order-is : wellFormed (orderWith code) ≡ true
-  window-is : windowAllowed 32 (base (orderWith code)) 52 ≡ true
+  window-is : windowAllowed (addressWidth object) (base (orderWith code)) 52 ≡ true
   placed-are : everywhere (λ i. not (misplaced object (addresses (orderWith code)) (base (orderWith code)) 52 i)) 6 ≡ true
   relocations-are : relocationCheck object (orderWith code) (addresses (orderWith code)) ≡ Passed
   -- what is laid lies in 28 bytes
   only-laid : (t b : ℕ) → Covers object (orderWith code) t b → (from ≤ b) × (b < from + 28)
 
 fine₁ : Fine 0x20000000 0
-unfolding object orderWith words bytes leAt le wellFormed ascending everywhere first entryAt windowAllowed lengthAllowed sectionAt allocated placedAt valueIn externalValue symbolTable symbolCount symbolAt isAllocated misplaced aligned unit endsInMemory endOf inWindow hasBytes loaded share apart addresses tabulate sum relocationsIn locationOf countingRela siteAt relocationAt bytesOf part decision table lookup among neverFalls staysInside previous sharesPlace noOverlap shapeWell ofSection symbolValue inTarget symbolWell hasForm standsWell formWell isPair howMany pairOf pairWell reaches within even residue signed plus minus finding firstBroken findingOf relocationCheck
+unfolding object orderWith words bytes leAt le classOf wellFormed ascending everywhere first entryAt windowAllowed lengthAllowed readSection sectionAt allocated placedAt valueIn externalValue symbolTable symbolCount readSymbol symbolAt isAllocated misplaced aligned unit endsInMemory endOf inWindow hasBytes loaded share apart addresses tabulate sum relocationsIn locationOf countingRela siteAt readRelocation relocationAt bytesOf part decision table lookup among neverFalls staysInside previous sharesPlace noOverlap shapeWell ofSection symbolValue inTarget symbolWell hasForm standsWell formWell isPair howMany pairOf pairWell reaches within even residue signed plus minus finding firstBroken findingOf relocationCheck
 fine₁ = record { order-is = refl; window-is = refl; placed-are = refl; relocations-are = refl; only-laid = laid }
   where
     laid : (t b : ℕ) → Covers object order₁ t b → (0 ≤ b) × (b < 28)
@@ -188,7 +188,7 @@ fine₁ = record { order-is = refl; window-is = refl; placed-are = refl; relocat
     laid (suc (suc (suc (suc (suc (suc t)))))) b c = absurd (omega (arith, c .there, count-is))
 
 fine₂ : Fine 0x20000020 24
-unfolding object orderWith words bytes leAt le wellFormed ascending everywhere first entryAt windowAllowed lengthAllowed sectionAt allocated placedAt valueIn externalValue symbolTable symbolCount symbolAt isAllocated misplaced aligned unit endsInMemory endOf inWindow hasBytes loaded share apart addresses tabulate sum relocationsIn locationOf countingRela siteAt relocationAt bytesOf part decision table lookup among neverFalls staysInside previous sharesPlace noOverlap shapeWell ofSection symbolValue inTarget symbolWell hasForm standsWell formWell isPair howMany pairOf pairWell reaches within even residue signed plus minus finding firstBroken findingOf relocationCheck
+unfolding object orderWith words bytes leAt le classOf wellFormed ascending everywhere first entryAt windowAllowed lengthAllowed readSection sectionAt allocated placedAt valueIn externalValue symbolTable symbolCount readSymbol symbolAt isAllocated misplaced aligned unit endsInMemory endOf inWindow hasBytes loaded share apart addresses tabulate sum relocationsIn locationOf countingRela siteAt readRelocation relocationAt bytesOf part decision table lookup among neverFalls staysInside previous sharesPlace noOverlap shapeWell ofSection symbolValue inTarget symbolWell hasForm standsWell formWell isPair howMany pairOf pairWell reaches within even residue signed plus minus finding firstBroken findingOf relocationCheck
 fine₂ = record { order-is = refl; window-is = refl; placed-are = refl; relocations-are = refl; only-laid = laid }
   where
     laid : (t b : ℕ) → Covers object order₂ t b → (24 ≤ b) × (b < 24 + 28)
@@ -228,7 +228,7 @@ module _ (code from : ℕ) (fine : Fine code from) where
       record {
         journal-sound = is;
         order-well = order-well order (fine .order-is);
-        window-well = subst (WindowWell 32 (base order)) (sym len) (window-well 32 (base order) 52 (fine .window-is));
+        window-well = subst (WindowWell (addressWidth object) (base order)) (sym len) (window-well (addressWidth object) (base order) 52 (fine .window-is));
         header-well = header-is;
         table-well = table-is;
         sections-well = λ i h. sections-are i (omega (arith, count-is));
@@ -287,11 +287,11 @@ left₂ = done-leaves object order₂ files (demand-2 .holds-done object order�
 
 -- each takes 28 bytes of the journal
 takes₁ : spanOf (planOf object order₁) .size ≡ 28
-unfolding object orderWith words bytes le leAt part sectionAt allocated loaded hasBytes addresses tabulate placedAt valueIn externalValue entryAt first sum pieces planOf spanOf end lowest relocated relaOf countingRela siteAt after applied sumAt distanceAt isPair howMany pairOf symbolTable symbolCount symbolAt isAllocated ofSection relocationAt decision table lookup among bytesOf patched symbolValue residue signed plus minus high low read put
+unfolding object orderWith words bytes le leAt classOf part readSection sectionAt allocated loaded hasBytes addresses tabulate placedAt valueIn externalValue entryAt first sum pieces planOf spanOf end lowest relocated relaOf countingRela siteAt after applied sumAt distanceAt isPair howMany pairOf symbolTable symbolCount readSymbol symbolAt isAllocated ofSection readRelocation relocationAt decision table lookup among bytesOf patched symbolValue residue signed plus minus high low read put
 takes₁ = refl
 
 takes₂ : spanOf (planOf object order₂) .size ≡ 28
-unfolding object orderWith words bytes le leAt part sectionAt allocated loaded hasBytes addresses tabulate placedAt valueIn externalValue entryAt first sum pieces planOf spanOf end lowest relocated relaOf countingRela siteAt after applied sumAt distanceAt isPair howMany pairOf symbolTable symbolCount symbolAt isAllocated ofSection relocationAt decision table lookup among bytesOf patched symbolValue residue signed plus minus high low read put
+unfolding object orderWith words bytes le leAt classOf part readSection sectionAt allocated loaded hasBytes addresses tabulate placedAt valueIn externalValue entryAt first sum pieces planOf spanOf end lowest relocated relaOf countingRela siteAt after applied sumAt distanceAt isPair howMany pairOf symbolTable symbolCount readSymbol symbolAt isAllocated ofSection readRelocation relocationAt decision table lookup among bytesOf patched symbolValue residue signed plus minus high low read put
 takes₂ = refl
 
 stood₁ : stand (begin files) object order₁ (judgement object order₁ (length (files .image))) ≡ succeed (only (stands₁ ∷ []))
@@ -328,11 +328,11 @@ image₂ =
     ++ words (0x12346517 ∷ 0xFD850513 ∷ 0x00002097 ∷ 0x7E0080E7 ∷ 0xFE0508E3 ∷ [])
 
 lays₁ : overwritten (files .image) (planOf object order₁) ≡ image₁
-unfolding files image₁ object orderWith words bytes le leAt part sectionAt allocated loaded hasBytes addresses tabulate placedAt valueIn externalValue entryAt first sum pieces planOf overwritten relocated relaOf countingRela siteAt after applied sumAt distanceAt isPair howMany pairOf symbolTable symbolCount symbolAt isAllocated ofSection relocationAt decision table lookup among bytesOf patched symbolValue residue signed plus minus high low read put
+unfolding files image₁ object orderWith words bytes le leAt classOf part readSection sectionAt allocated loaded hasBytes addresses tabulate placedAt valueIn externalValue entryAt first sum pieces planOf overwritten relocated relaOf countingRela siteAt after applied sumAt distanceAt isPair howMany pairOf symbolTable symbolCount readSymbol symbolAt isAllocated ofSection readRelocation relocationAt decision table lookup among bytesOf patched symbolValue residue signed plus minus high low read put
 lays₁ = refl
 
 lays₂ : overwritten image₁ (planOf object order₂) ≡ image₂
-unfolding image₁ image₂ object orderWith words bytes le leAt part sectionAt allocated loaded hasBytes addresses tabulate placedAt valueIn externalValue entryAt first sum pieces planOf overwritten relocated relaOf countingRela siteAt after applied sumAt distanceAt isPair howMany pairOf symbolTable symbolCount symbolAt isAllocated ofSection relocationAt decision table lookup among bytesOf patched symbolValue residue signed plus minus high low read put
+unfolding image₁ image₂ object orderWith words bytes le leAt classOf part readSection sectionAt allocated loaded hasBytes addresses tabulate placedAt valueIn externalValue entryAt first sum pieces planOf overwritten relocated relaOf countingRela siteAt after applied sumAt distanceAt isPair howMany pairOf symbolTable symbolCount readSymbol symbolAt isAllocated ofSection readRelocation relocationAt decision table lookup among bytesOf patched symbolValue residue signed plus minus high low read put
 lays₂ = refl
 
 -- ---- what is read by the manual's fields out of the code and the data of an install
@@ -358,7 +358,7 @@ low-half = record { calculation = Of Low Paired; field = I; form = LowI; size = 
 
 -- demand 2 says so of each of the two, over any image
 says₁ : (before after : List ℕ) → Laid object order₁ before after → Says (part after 0 20) (part after 24 4) 0x12345FF8 0x2800 0x118
-unfolding object orderWith words bytes le leAt sum relocationsIn countingRela sectionAt allocated isAllocated siteAt relocationAt symbolTable symbolCount symbolAt ofSection decision table lookup among addresses tabulate placedAt valueIn externalValue entryAt first symbolValue bytesOf part residue signed plus minus isPair howMany pairOf distanceAt sumAt stackAt ReadsBack high low read
+unfolding object orderWith words bytes le leAt classOf sum relocationsIn countingRela readSection sectionAt allocated isAllocated siteAt readRelocation relocationAt symbolTable symbolCount readSymbol symbolAt ofSection decision table lookup among addresses tabulate placedAt valueIn externalValue entryAt first symbolValue bytesOf part residue signed plus minus isPair howMany pairOf distanceAt sumAt stackAt ReadsBack high low read
 says₁ before after l =
     let halves = l .distances-whole 4 1 (record { there = omega arith; counts = refl; entry = omega arith }) low-half refl refl in
     let first : halves .0 ≡ 0 = sym (ap place (halves .2)) in
@@ -370,7 +370,7 @@ says₁ before after l =
     }
 
 says₂ : (before after : List ℕ) → Laid object order₂ before after → Says (part after 32 20) (part after 24 4) 0x12345FD8 0x27E0 0xF8
-unfolding object orderWith words bytes le leAt sum relocationsIn countingRela sectionAt allocated isAllocated siteAt relocationAt symbolTable symbolCount symbolAt ofSection decision table lookup among addresses tabulate placedAt valueIn externalValue entryAt first symbolValue bytesOf part residue signed plus minus isPair howMany pairOf distanceAt sumAt stackAt ReadsBack high low read
+unfolding object orderWith words bytes le leAt classOf sum relocationsIn countingRela readSection sectionAt allocated isAllocated siteAt readRelocation relocationAt symbolTable symbolCount readSymbol symbolAt ofSection decision table lookup among addresses tabulate placedAt valueIn externalValue entryAt first symbolValue bytesOf part residue signed plus minus isPair howMany pairOf distanceAt sumAt stackAt ReadsBack high low read
 says₂ before after l =
     let halves = l .distances-whole 4 1 (record { there = omega arith; counts = refl; entry = omega arith }) low-half refl refl in
     let first : halves .0 ≡ 0 = sym (ap place (halves .2)) in

@@ -14,9 +14,10 @@ use Rattle.instructions_fields.specs.declared.Width.the-variants.{W32}
 use Rattle.instructions_fields.specs.declared.Field.the-variants.{Data}
 use Rattle.instructions_fields.specs.Layouts.{read, put}
 use Rattle.instructions_fields.specs.Fields.{layout}
-use Rattle.elf_read.specs.Headers.{addressWidth, sectionCount}
-use Rattle.elf_read.specs.Sections.{sectionAt, allocated, loaded, isAllocated, countingRela, relocationsIn}
-use Rattle.elf_read.specs.Entries.{bytesOf, relocationAt}
+use Rattle.elf_read.proofs.Laws.Headers.{header-there}
+use Rattle.elf_read.specs.Headers.{classOf, addressWidth, sectionCount}
+use Rattle.elf_read.specs.Sections.{readSection, sectionAt, allocated, loaded, isAllocated, countingRela, relocationsIn}
+use Rattle.elf_read.specs.Entries.{readRelocation, bytesOf, relocationAt}
 use Rattle.order_format.specs.Orders.{base, entryAt, ascending, wellFormed}
 use Rattle.order_lookup.specs.Values.{valueIn}
 use Rattle.order_format.specs.Windows.{lengthAllowed, windowAllowed}
@@ -60,25 +61,25 @@ module _ (installs : InstallCall) (d : Demand2 installs) where
   pub one-answer : (a : Answer) → ((o r : List ℕ) (f : Files) → installs o r f .answer ≡ a) → ⊥
   one-answer a same =
       let empty = d .done-holds [] order files (same [] order files ∙ sym (same object order files) ∙ is-done) in
-      omega (arith, empty .header-well .long)
+      omega (arith, header-there [] (empty .header-well .long))
 
   -- the relocation, read out of the image that is left: its field is T
   read-out : (image : List ℕ) → installs object order files .after .image ≡ image → read (layout (Data W32)) (leAt 4 (sectionIn object order image 1) 0) ≡ 0x12345678
-  unfolding object order words bytes le leAt sum relocationsIn countingRela isAllocated sectionAt allocated siteAt relocationAt decision table lookup among addresses tabulate placedAt valueIn entryAt first symbolValue residue signed ReadsBack
+  unfolding object order words bytes le leAt classOf sum relocationsIn countingRela isAllocated readSection sectionAt allocated siteAt readRelocation relocationAt decision table lookup among addresses tabulate placedAt valueIn entryAt first symbolValue residue signed ReadsBack
   read-out image e =
       let back = d .laid object order files is-done .fields 3 0 (record { there = omega arith; counts = refl; entry = omega arith }) in
       ap (λ s. read (layout (Data W32)) (leAt 4 (sectionIn object order s 1) 0)) (sym e) ∙ back .0
 
   -- one that writes nothing: "each laid byte is the object's own or the field that the RISC-V ELF psABI 1.0 asks for"
   pub writes-nothing : ((o r : List ℕ) (f : Files) → installs o r f .after .image ≡ f .image) → ⊥
-  unfolding object order files words bytes le leAt part sectionAt addresses tabulate placedAt valueIn entryAt first read
+  unfolding object order files words bytes le leAt classOf part readSection sectionAt addresses tabulate placedAt valueIn entryAt first read
   writes-nothing wrong =
       let z : _≡_ {A = ℕ} 0xA5A5A5A5 0x12345678 = read-out (files .image) (wrong object order files) in
       omega arith
 
   -- one that lays each section as it is in the object: the same sentence
   pub copies-unpatched : ((o r : List ℕ) (f : Files) → installs o r f .after .image ≡ overwritten (f .image) (pieces (λ t. bytesOf o (sectionAt o t)) o (addresses r) (base r) (sectionCount o))) → ⊥
-  unfolding object order files words bytes le leAt part sectionAt addresses tabulate placedAt valueIn entryAt first read overwritten pieces bytesOf hasBytes loaded allocated
+  unfolding object order files words bytes le leAt classOf part readSection sectionAt addresses tabulate placedAt valueIn entryAt first read overwritten pieces bytesOf hasBytes loaded allocated
   copies-unpatched wrong =
       let z : _≡_ {A = ℕ} 0 0x12345678 = read-out _ (wrong object order files) in
       omega arith
@@ -91,7 +92,7 @@ bare = words (1 ∷ 0x20000000 ∷ 0 ∷ 0 ∷ [])
 
 -- section 1 has no address: check 6 at place 1, and never an address of 0
 missing : FirstBroken (table-of object bare files) (says 6 1)
-unfolding table-of object bare files words bytes leAt le wellFormed ascending everywhere windowAllowed lengthAllowed sectionAt allocated isAllocated placedAt valueIn entryAt first
+unfolding table-of object bare files words bytes leAt le classOf wellFormed ascending everywhere windowAllowed lengthAllowed readSection sectionAt allocated isAllocated placedAt valueIn entryAt first
 missing =
     inr (
       at-once 1 journal-is,
@@ -125,7 +126,7 @@ gives-no-place installs d wrong = omega (arith, ap (λ a. a .place) (names-the-s
 -- one that lays whatever the answer is: demand 1, "image and ledger then hold exactly the bytes they held"
 pub lays-anyway : (installs : InstallCall) (rollsBack : RollbackCall) → Demand1 installs rollsBack → Demand2 installs
     → ((o r : List ℕ) (f : Files) → installs o r f .after .image ≡ overwritten (f .image) (planOf o r)) → ⊥
-unfolding object bare files words bytes le leAt part sectionAt allocated loaded hasBytes addresses tabulate placedAt valueIn entryAt first read put overwritten pieces planOf relocated relaOf countingRela isAllocated siteAt after applied sumAt relocationAt decision table lookup among bytesOf patched symbolValue residue signed
+unfolding object bare files words bytes le leAt classOf part readSection sectionAt allocated loaded hasBytes addresses tabulate placedAt valueIn entryAt first read put overwritten pieces planOf relocated relaOf countingRela isAllocated siteAt after applied sumAt readRelocation relocationAt decision table lookup among bytesOf patched symbolValue residue signed
 lays-anyway installs rollsBack d₁ d₂ wrong =
     let refused : installs object bare files .answer ≡ done → ⊥ = λ e. omega (arith, ap (λ a. a .number) (sym (names-the-section installs d₂) ∙ e)) in
     let same : overwritten (files .image) (planOf object bare) ≡ files .image = sym (wrong object bare files) ∙ ap (λ f. f .image) (d₁ .install-kept object bare files refused) in
@@ -153,7 +154,7 @@ stood =
 
 -- each of the four laid bytes differs from that of the starting image
 differs : (b : ℕ) → b < 4 → getD (files .image) b 0 ≡ getD (overwritten (files .image) (planOf object order)) b 0 → ⊥
-unfolding object order files words bytes le leAt part sectionAt allocated loaded hasBytes addresses tabulate placedAt valueIn entryAt first read put overwritten pieces planOf relocated relaOf countingRela isAllocated siteAt after applied sumAt relocationAt decision table lookup among bytesOf patched symbolValue residue signed
+unfolding object order files words bytes le leAt classOf part readSection sectionAt allocated loaded hasBytes addresses tabulate placedAt valueIn entryAt first read put overwritten pieces planOf relocated relaOf countingRela isAllocated siteAt after applied sumAt readRelocation relocationAt decision table lookup among bytesOf patched symbolValue residue signed
 differs zero h e = let z : _≡_ {A = ℕ} 0xA5 0x78 = e in omega arith
 differs (suc zero) h e = let z : _≡_ {A = ℕ} 0xA5 0x56 = e in omega arith
 differs (suc (suc zero)) h e = let z : _≡_ {A = ℕ} 0xA5 0x34 = e in omega arith
@@ -267,7 +268,7 @@ module _ (installs : InstallCall) (rollsBack : RollbackCall) (d : Demand1 instal
 -- a fit that does not record the old bytes: "A fit appends the span's old bytes."
 pub records-no-old-bytes : (installs : InstallCall) (rollsBack : RollbackCall) → Demand2 installs → Journalled installs rollsBack
     → ((o r : List ℕ) (f : Files) → drop oldAt (installs o r f .after .journal) ≡ drop oldAt (f .journal)) → ⊥
-unfolding object order files words bytes le leAt part sectionAt allocated loaded hasBytes addresses tabulate placedAt valueIn entryAt first
+unfolding object order files words bytes le leAt classOf part readSection sectionAt allocated loaded hasBytes addresses tabulate placedAt valueIn entryAt first
 records-no-old-bytes installs rollsBack d k wrong =
     let a = k .appends object order files (is-done installs d) in
     let s = a .0 in

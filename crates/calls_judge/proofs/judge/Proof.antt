@@ -1,9 +1,10 @@
 -- `calls_judge::judge` meets its contract.
 use mathlib.Core.Path.{_≡_, refl, sym, ap, _∙_}
-use mathlib.Core.Bool.{true, false}
+use mathlib.Core.Bool.{true}
 use mathlib.Core.List.{List}
 use Prim.Native.Nat.{ℕ}
 use borrow.Author.Tests.{not-true, not-false}
+use Rattle.elf_read.specs.Headers.{classOf, addressWidth}
 use Rattle.order_format.specs.Orders.{base}
 use Rattle.order_format.specs.Windows.{windowAllowed}
 use Rattle.order_format.proofs.Laws.Sound.{reading-sound}
@@ -26,7 +27,8 @@ O c = c .args .order .now
 abbrev st : tie.After-window-allowed → tie.Start
 st c = c .before .before .before .before .before .before
 
-asked : (c : tie.After-window-allowed) → windowAllowed 32 (base (O (st c))) (st c .args .len) ≡ c .window-allowed .result
+asked : (c : tie.After-window-allowed) → windowAllowed (addressWidth (S (st c))) (base (O (st c))) (st c .args .len) ≡ c .window-allowed .result
+unfolding classOf
 asked c =
     let s = st c in
     ap (λ b. windowAllowed 32 b (s .args .len)) (sym (reading-sound (O s) (s .args .counts) (s .pre .0) .base-is)) ∙ sym (c .window-allowed .ensures)
@@ -36,7 +38,7 @@ asked c =
 abbrev allowed : tie.Else1 → tie.After-window-allowed
 allowed c = c .before
 
-window : (c : tie.Else1) → windowAllowed 32 (base (O (st (allowed c)))) (st (allowed c) .args .len) ≡ true
+window : (c : tie.Else1) → windowAllowed (addressWidth (S (st (allowed c)))) (base (O (st (allowed c)))) (st (allowed c) .args .len) ≡ true
 window c = asked (allowed c) ∙ not-false _ (c .if1 .left)
 
 -- ---- the needs

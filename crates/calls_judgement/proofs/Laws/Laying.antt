@@ -1,6 +1,6 @@
 -- Laws of laying: the plan of a fitting install lies inside the image, and is laid section by section.
 use mathlib.Core.Path.{_≡_, refl, sym, ap, _∙_, subst}
-use mathlib.Core.Bool.{Bool, true, false, cond, _&&_}
+use mathlib.Core.Bool.{Bool, true, false, cond}
 use mathlib.Core.List.{List, [], _∷_, _++_, append-assoc}
 use Prim.Native.Nat.{ℕ, zero, suc, _+_, _-_, _≤_, _<_}
 use native.Mathlib.Omega.{arith}
@@ -78,7 +78,7 @@ module _ (object order : List ℕ) (counts : OrderHeader) (len : ℕ) (f : Fitti
       go (yes r) =
           let x = siteAt object (addresses order) (relaOf object t) in
           ap length (relocated-some object order (addresses order) t r)
-          ∙ length-after object order (addresses order) x (count x)
+          ∙ length-after object order (addresses order) x (count object x)
           ∙ ap length (found-target object (addresses order) t r)
           ∙ own-length t h l
       go (no r) = ap length (relocated-none object order (addresses order) t (omega arith)) ∙ own-length t h l

@@ -40,7 +40,7 @@ inside c = omega (arith, size-is c, st c .pre .5)
 read-section-requires : tie.Need-read-section-requires
 read-section-requires c κs =
     let s : tie.Start = search in
-    record { header = is-sound _ _ _ _ (s .pre .0) .table .header; inside = omega (arith, is-sound _ _ _ _ (s .pre .0) .table .inside, s .pre .3) }
+    (is-sound _ _ _ _ (s .pre .0) .table, s .pre .3)
 
 add-end : tie.Need-add-end
 add-end c =
@@ -78,7 +78,6 @@ lay-at-spec =
     tie.close
     (tie.spec
     read-section-requires
-    (λ c. search needs)
     add-end
     (λ c. search needs)
     (λ c. search needs)

@@ -63,7 +63,7 @@ inside c = let s = st (read c) in bytes-inside (S s) (O s) (s .args .counts) (Le
 read-section-requires : tie.Need-read-section-requires
 read-section-requires c κs =
     let s : tie.Start = search in
-    record { header = is-sound _ _ _ _ (s .pre .0) .table .header; inside = omega (arith, is-sound _ _ _ _ (s .pre .0) .table .inside, s .pre .3) }
+    (is-sound _ _ _ _ (s .pre .0) .table, s .pre .3)
 
 returns : tie.Need-returns
 returns c =

@@ -12,7 +12,7 @@ use Rattle.numbers_definitions.specs.First.{first, everywhere}
 use Rattle.numbers_definitions.specs.Powers.{oneBit}
 use Rattle.numbers_definitions.proofs.Laws.Tests.{and-left, and-right, both, one-of-two, or-two, given, implied}
 use Rattle.numbers_definitions.proofs.Laws.First.{first-below, everywhere-at, everywhere-is}
-use Rattle.elf_read.specs.Headers.{symbolSize, relocationSize, sectionCount}
+use Rattle.elf_read.specs.Headers.{classOf, symbolSize, relocationSize, sectionCount}
 use Rattle.elf_read.specs.Sections.{NULL, SYMTAB, RELA, NOBITS, REL, sectionAt, allocated, loaded, symbolTable, targets, countingRel, countingRela}
 use Rattle.elf_read.specs.Entries.{symbolEntries}
 use Rattle.elf_check.specs.declared.SectionCheck.{SectionCheck}
@@ -61,11 +61,11 @@ section-symbols : (s : List ℕ) (i : ℕ) → symbolTableWell s i ≡ true → 
 unfolding symbolTableWell
 section-symbols s i e k =
     let h = sectionAt s i in
-    let kept : eqb i (symbolTable s) && eqb (h .entsize) symbolSize && eqb (h .size % symbolSize) 0 && leb (symbolEntries h) maxSymbols ≡ true = given _ _ e (eq-eqb _ _ k) in
+    let kept : eqb i (symbolTable s) && eqb (h .entsize) (symbolSize (classOf s)) && eqb (h .size % symbolSize (classOf s)) 0 && leb (symbolEntries (classOf s) h) maxSymbols ≡ true = given _ _ e (eq-eqb _ _ k) in
     let lowest : eqb i (symbolTable s) ≡ true = search (and-left, and-right) in
-    let entries : eqb (h .entsize) symbolSize ≡ true = search (and-left, and-right) in
-    let whole : eqb (h .size % symbolSize) 0 ≡ true = search (and-left, and-right) in
-    let few : leb (symbolEntries h) maxSymbols ≡ true = search (and-left, and-right) in
+    let entries : eqb (h .entsize) (symbolSize (classOf s)) ≡ true = search (and-left, and-right) in
+    let whole : eqb (h .size % symbolSize (classOf s)) 0 ≡ true = search (and-left, and-right) in
+    let few : leb (symbolEntries (classOf s) h) maxSymbols ≡ true = search (and-left, and-right) in
     record { lowest = eqb-true _ _ lowest; entries = eqb-true _ _ entries; whole = eqb-true _ _ whole; few = leb-true _ _ few }
 
 -- two tests that cannot both hold
@@ -89,11 +89,11 @@ unfolding insideFile
 section-inside s i e a b = leb-true _ _ (either _ _ _ e (ne-eqb _ _ a) (ne-eqb _ _ b))
 
 section-aligned : (s : List ℕ) (i : ℕ) → allocatedWell s i ≡ true → allocated (sectionAt s i) ≡ true
-    → (sectionAt s i .alignment ≡ 0) ⊎ (oneBit 32 (sectionAt s i .alignment) ≡ true)
+    → (sectionAt s i .alignment ≡ 0) ⊎ (oneBit 64 (sectionAt s i .alignment) ≡ true)
 unfolding allocatedWell
 section-aligned s i e a =
     let h = sectionAt s i in
-    let fine : Bool = eqb (h .alignment) 0 || oneBit 32 (h .alignment) in
+    let fine : Bool = eqb (h .alignment) 0 || oneBit 64 (h .alignment) in
     let table : Bool = eqb (h .kind) SYMTAB || eqb (h .kind) RELA || eqb (h .kind) REL in
     let kept : fine && not table ≡ true = given (allocated h) (fine && not table) e a in
     ⊎-map (eqb-true (h .alignment) 0) (one-of-two _ _ (and-left fine (not table) kept))
@@ -103,7 +103,7 @@ section-plain : (s : List ℕ) (i : ℕ) → allocatedWell s i ≡ true → allo
 unfolding allocatedWell
 section-plain s i e a =
     let h = sectionAt s i in
-    let fine : Bool = eqb (h .alignment) 0 || oneBit 32 (h .alignment) in
+    let fine : Bool = eqb (h .alignment) 0 || oneBit 64 (h .alignment) in
     let table : Bool = eqb (h .kind) SYMTAB || eqb (h .kind) RELA || eqb (h .kind) REL in
     let kept : fine && not table ≡ true = given (allocated h) (fine && not table) e a in
     let none = none-of-three (eqb (h .kind) SYMTAB) (eqb (h .kind) RELA) (eqb (h .kind) REL) (and-right fine (not table) kept) in
@@ -114,9 +114,9 @@ unfolding relaWell relocationsWell relaKept relocationsKept
 section-rela s i e f c =
     let h = sectionAt s i in
     let new : ℕ → Bool = λ j. not (countingRela s j && eqb (sectionAt s j .info) (h .info)) in
-    let kept : (eqb (h .entsize) relocationSize && eqb (h .size % relocationSize) 0) && (ltb (symbolTable s) (sectionCount s) && eqb (h .link) (symbolTable s)) && loaded (sectionAt s (h .info)) && everywhere new i ≡ true = given _ _ e c in
-    let entries : eqb (h .entsize) relocationSize ≡ true = search (and-left, and-right) in
-    let whole : eqb (h .size % relocationSize) 0 ≡ true = search (and-left, and-right) in
+    let kept : (eqb (h .entsize) (relocationSize (classOf s)) && eqb (h .size % relocationSize (classOf s)) 0) && (ltb (symbolTable s) (sectionCount s) && eqb (h .link) (symbolTable s)) && loaded (sectionAt s (h .info)) && everywhere new i ≡ true = given _ _ e c in
+    let entries : eqb (h .entsize) (relocationSize (classOf s)) ≡ true = search (and-left, and-right) in
+    let whole : eqb (h .size % relocationSize (classOf s)) 0 ≡ true = search (and-left, and-right) in
     let some-table : ltb (symbolTable s) (sectionCount s) ≡ true = search (and-left, and-right) in
     let linked : eqb (h .link) (symbolTable s) ≡ true = search (and-left, and-right) in
     let target-loaded : loaded (sectionAt s (h .info)) ≡ true = search (and-left, and-right) in

@@ -36,10 +36,10 @@ left c = c .before
 abbrev counted : tie.After-symbol-table Inv-loop μ-loop → tie.After-section-count Inv-loop μ-loop
 counted c = c .before
 
-abbrev looked : tie.After-relocations-below Inv-loop μ-loop → tie.After-symbol-table Inv-loop μ-loop
+abbrev looked : tie.After-relocations-within Inv-loop μ-loop → tie.After-symbol-table Inv-loop μ-loop
 looked c = c .before
 
-abbrev begun : tie.At-loop Inv-loop μ-loop → tie.After-relocations-below Inv-loop μ-loop
+abbrev begun : tie.At-loop Inv-loop μ-loop → tie.After-relocations-within Inv-loop μ-loop
 begun c = c .before
 
 abbrev head : tie.After-is-plain-well Inv-loop μ-loop → tie.At-loop Inv-loop μ-loop
@@ -74,8 +74,8 @@ returns c = sym (check-table-broken _ (sym (c .before .check-table .ensures) ∙
 symbol-table-requires : tie.Need-symbol-table-requires Inv-loop μ-loop
 symbol-table-requires c κs = inside (left c)
 
-relocations-below-requires : tie.Need-relocations-below-requires Inv-loop μ-loop
-relocations-below-requires c κs = (inside (left (counted c)), omega (arith, counted c .section-count .ensures))
+relocations-within-requires : tie.Need-relocations-within-requires Inv-loop μ-loop
+relocations-within-requires c κs = (inside (left (counted c)), omega (arith, counted c .section-count .ensures))
 
 loop-holds : tie.Need-loop-holds Inv-loop μ-loop
 loop-holds c = (omega arith, λ j h. absurd (omega arith))
@@ -100,10 +100,10 @@ is-relocation-well-requires c κs =
       inside (left n),
       omega (arith, n .section-count .ensures),
       table .symbol-table .ensures,
-      ap (λ m. leb m maxRelocations) (below .relocations-below .ensures ∙ ap (relocationsBelow _) (n .section-count .ensures)),
+      below .relocations-within .ensures ∙ ap (λ m. leb (relocationsBelow (entered (tested (left n)) .args .object .now) m) maxRelocations) (n .section-count .ensures),
     )
 
-cast-t12 : tie.Need-cast-t15 Inv-loop μ-loop
+cast-t12 : tie.Need-cast-t14 Inv-loop μ-loop
 cast-t12 c =
     let at = head (plain (tabled (c .before))) in
     let n = counted (looked (begun at)) in
@@ -138,7 +138,7 @@ check-sections-spec =
     returns
     (λ c κs. search needs)
     symbol-table-requires
-    relocations-below-requires
+    relocations-within-requires
     loop-holds
     is-plain-well-requires
     is-symbol-table-well-requires

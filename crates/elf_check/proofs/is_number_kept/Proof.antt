@@ -14,7 +14,7 @@ returns c =
 
 returns-2 : tie.Need-returns-2
 unfolding relocationsKept
-returns-2 c = rw (c .relocations-below .ensures, add-one)
+returns-2 c = rw (c .relocations-within .ensures, add-one)
 
 pub is-number-kept-spec : {M : Type 1} → statement M
 is-number-kept-spec = tie.close (tie.spec returns (λ c. search needs) (λ c κs. search needs) returns-2)

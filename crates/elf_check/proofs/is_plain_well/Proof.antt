@@ -6,16 +6,18 @@ use Rattle.elf_check.proofs.is_plain_well.Tie as tie
 
 returns : tie.Need-returns
 unfolding startsNull insideFile allocatedWell
-returns c = rw (c .is-allocated .ensures, c .before .one-bit .ensures, c .before .before .before .before .read-section .ensures)
+returns c =
+    let one : tie.After-one-bit = search in
+    let ends : tie.After-ends-within = search in
+    let read : tie.After-read-section = search in
+    rw (c .is-allocated .ensures, one .one-bit .ensures, ends .ends-within .ensures, read .read-section .ensures)
 
 pub is-plain-well-spec : {M : Type 1} → statement M
 is-plain-well-spec =
     tie.close
     (tie.spec
     (λ c κs. search needs)
-    (λ c. search needs)
-    (λ c. search needs)
-    (λ c. search needs)
+    (λ c κs. search needs)
     (λ c κs. search needs)
     (λ c κs. search needs)
     returns)

@@ -11,11 +11,11 @@ use Rattle.elf_read.proofs.section_bytes.Tie as tie
 returns : tie.Need-returns
 unfolding bytesOf part
 returns c =
-    let h = c .before .before .before .args .h in
+    let h = (c .before .args .h) in
     let size : h .offset .0 + h .size - h .offset .0 ≡ h .size = omega arith in
     rw size
 
 pub section-bytes-spec : {M : Type 1} → statement M
 section-bytes-spec =
     tie.close
-    (tie.spec (λ c. search needs) (λ c. search needs) (λ c. search needs) (λ c. search needs) (λ c. search needs) (λ c. search needs) returns)
+    (tie.spec (λ c. search needs) (λ c. search needs) (λ c. search needs) (λ c. search needs) returns)

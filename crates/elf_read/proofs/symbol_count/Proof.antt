@@ -3,7 +3,7 @@ use mathlib.Core.Path.{ap, _∙_}
 use Prim.Native.Nat.{_≤_, _<_}
 use native.Mathlib.Omega.{arith}
 use borrow.Author.Tests.{lt-ltb, le-ltb}
-use Rattle.elf_read.specs.Headers.{sectionCount}
+use Rattle.elf_read.specs.Headers.{classOf, sectionCount}
 use Rattle.elf_read.specs.Sections.{sectionAt, symbolTable}
 use Rattle.elf_read.specs.Entries.{symbolEntries, symbolCount}
 use borrow.Author.Needs.{needs}
@@ -20,9 +20,12 @@ returns c =
 returns-2 : tie.Need-returns-2
 unfolding symbolCount
 returns-2 c =
-    let s = c .before .before .before .before .before .before .args .object .now in
+    let read : tie.After-read-section = search in
+    let table : tie.After-symbol-table = search in
+    let at : tie.Start = search in
+    let s = at .args .object .now in
     let there : symbolTable s < sectionCount s = omega arith in
-    rw (lt-ltb _ _ there) (c .symbol-entries .ensures ∙ ap symbolEntries (c .before .read-section .ensures) ∙ ap (λ i. symbolEntries (sectionAt s i)) (c .before .before .before .before .symbol-table .ensures))
+    rw (lt-ltb _ _ there) (c .symbol-entries .ensures ∙ ap (symbolEntries (classOf s)) (read .read-section .ensures) ∙ ap (λ i. symbolEntries (classOf s) (sectionAt s i)) (table .symbol-table .ensures))
 
 pub symbol-count-spec : {M : Type 1} → statement M
 symbol-count-spec =

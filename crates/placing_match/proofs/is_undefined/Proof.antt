@@ -24,7 +24,7 @@ read-section-requires c κs =
     let s = c .before .before .before .before .args .object .now in
     let t = c .before .before .before .before .pre .table in
     let there = some-symbol s (c .before .before .before .before .pre) (c .before .before .before .before .args .k) (omega arith) in
-    record { header = t .header; inside = omega (arith, there .0, t .inside) }
+    (t, omega (arith, there .0))
 
 read-symbol-requires : tie.Need-read-symbol-requires
 read-symbol-requires c κs =

@@ -44,7 +44,6 @@ raised-spec =
     (tie.spec
     (λ c κs. search needs)
     returns
-    (λ c. search needs)
     end-from-requires
     (λ c κs. search needs)
     returns-2)

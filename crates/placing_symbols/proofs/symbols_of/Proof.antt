@@ -15,7 +15,7 @@ read-section-requires-2 c κs =
     let s = c .before .before .before .before .args .object .now in
     let f = c .before .before .before .before .pre in
     let there = some-symbol s f 0 (omega arith) in
-    record { header = f .table .header; inside = omega (arith, there .0, f .table .inside) }
+    (f .table, omega (arith, there .0))
 
 returns-2 : tie.Need-returns-2
 returns-2 c =

@@ -6,18 +6,24 @@ use Rattle.numbers_definitions.specs.Places.{address}
 use Rattle.placing_symbols.specs.declared.SymbolValue.the-variants.{Resolved}
 use Rattle.elf_read.specs.Sections.{isAllocated}
 use Rattle.placing_symbols.specs.Values.{ofSection}
+use Rattle.elf_read.proofs.Laws.Headers.{header-there}
 use borrow.Author.Needs.{needs}
 use Rattle.placing_symbols.proofs.value_in_section.Statement.{statement}
 use Rattle.placing_symbols.proofs.value_in_section.Tie as tie
 
+class-of-requires : tie.Need-class-of-requires
+class-of-requires c κs = let start : tie.Start = search in header-there _ (start .pre .table .header)
+
 returns : tie.Need-returns
 unfolding ofSection
 returns c =
+    let classed : tie.After-class-of = search in
+    let taken : tie.Then1 = search in
+    let tested : tie.After-is-allocated-section = search in
     let start : tie.Start = search in
     let a = start .args in
-    let s = a .object .now in
-    let inside : isAllocated s (a .symbol .section) ≡ true = sym (c .before .before .before .is-allocated-section .ensures) ∙ c .before .before .if1 .taken in
-    rw inside (ap (λ n. Resolved (address n)) (c .sum .ensures))
+    let inside : isAllocated (a .object .now) (a .symbol .section) ≡ true = sym (tested .is-allocated-section .ensures) ∙ taken .if1 .taken in
+    rw (inside, ← (classed .class-of .ensures)) (ap (λ n. Resolved (address n)) (c .sum .ensures))
 
 returns-2 : tie.Need-returns-2
 unfolding ofSection
@@ -54,10 +60,9 @@ value-in-section-spec =
     (tie.spec
     (λ c. search needs)
     (λ c κs. search needs)
-    (λ c. search needs)
+    class-of-requires
     (λ c κs. search needs)
     returns
-    (λ c. search needs)
     returns-2
     returns-3
     (λ c κs. search needs)

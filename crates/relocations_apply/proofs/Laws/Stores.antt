@@ -1,13 +1,12 @@
 -- Storing what relocations leave.
 use mathlib.Core.Path.{_≡_, refl, sym, ap, _∙_}
-use mathlib.Core.Bool.{Bool, true, false}
+use mathlib.Core.Bool.{true}
 use mathlib.Core.List.{List}
 use Prim.Native.Nat.{ℕ, suc, _+_, _≤_, _<_}
 use native.Mathlib.Omega.{arith}
-use lib.ListN.{length, getD}
+use lib.ListN.{getD}
 use lib.Seq.{sets}
 use Rattle.numbers_definitions.specs.Bytes.{bytes}
-use Rattle.numbers_definitions.proofs.Laws.Tests.{never}
 use Rattle.numbers_bytes.specs.Widths.{isWidth}
 use Rattle.relocations_types.specs.declared.Decision.{Decision}
 use Rattle.relocations_types.specs.declared.Decision.the-variants.{Marker, Align, Store, Refused}
@@ -40,7 +39,7 @@ module _ (object order addresses : List ℕ) (x : Site) where
       go Refused e = after-other object order addresses x j (ap isStore e) ∙ sym (ap (λ d. sets (after object order addresses x j) (offset object x j) (bytes (touched d) (wordAt object order addresses x j))) e)
 
   -- one more relocation, stored out of the lists
-  pub stored-next : (words sizes part part₁ : List ℕ) (base j : ℕ) → Worded object order addresses x (count x) words sizes base → j < count x → part ≡ after object order addresses x j
+  pub stored-next : (words sizes part part₁ : List ℕ) (base j : ℕ) → Worded object order addresses x (count object x) words sizes base → j < count object x → part ≡ after object order addresses x j
       → part₁ ≡ sets part (offset object x j) (bytes (getD sizes (base + j) 0) (getD words (base + j) 0)) → part₁ ≡ after object order addresses x (suc j)
   stored-next words sizes part part₁ base j w h e s =
       s
@@ -50,7 +49,7 @@ module _ (object order addresses : List ℕ) (x : Site) where
       ∙ sym (after-word j)
 
 -- a relocation that keeps check 9 can be stored
-storable-shape : (object : List ℕ) (x : Site) (j size n : ℕ) → SoundSite object x → j < count x → shapeWell object x j ≡ true → size ≡ touched (decisionAt object x j) → x .target .size ≤ n
+storable-shape : (object : List ℕ) (x : Site) (j size n : ℕ) → SoundSite object x → j < count object x → shapeWell object x j ≡ true → size ≡ touched (decisionAt object x j) → x .target .size ≤ n
     → Storable object x j size n
 storable-shape object x j size n sound h kept e room =
     record {
@@ -65,7 +64,7 @@ storable-shape object x j size n sound h kept e room =
     go Align q some = let none : touched (decisionAt object x j) ≡ 0 = ap touched q in absurd (omega arith)
     go Refused q some = let none : touched (decisionAt object x j) ≡ 0 = ap touched q in absurd (omega arith)
 
-pub storable : (object order addresses : List ℕ) (x : Site) (words sizes : List ℕ) (base n : ℕ) → Checked object order addresses x → Worded object order addresses x (count x) words sizes base → x .target .size ≤ n
-    → (j : ℕ) → j < count x → Storable object x j (getD sizes (base + j) 0) n
+pub storable : (object order addresses : List ℕ) (x : Site) (words sizes : List ℕ) (base n : ℕ) → Checked object order addresses x → Worded object order addresses x (count object x) words sizes base → x .target .size ≤ n
+    → (j : ℕ) → j < count object x → Storable object x j (getD sizes (base + j) 0) n
 storable object order addresses x words sizes base n checked worded room j h =
     storable-shape object x j _ n (checked .site) h (kept-rules object order addresses x j (checked .kept j h) .shape) (worded .size-at j h) room

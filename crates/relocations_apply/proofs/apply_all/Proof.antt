@@ -20,7 +20,7 @@ abbrev Inv-loop : tie.InvT-loop
 Inv-loop object site words sizes base part₀ n j₀ part j =
     (j ≤ n)
     × (length part ≡ length part₀)
-    × ((o a : List ℕ) → Worded object o a site (count site) words sizes base → part ≡ after object o a site j)
+    × ((o a : List ℕ) → Worded object o a site (count object site) words sizes base → part ≡ after object o a site j)
 
 abbrev μ-loop : tie.MeasureT-loop
 μ-loop object site words sizes base part₀ n j₀ part j = n - j
@@ -35,17 +35,17 @@ begun c = c .before .before
 
 -- ---- what they say
 
-there : (c : tie.In-loop Inv-loop μ-loop) → c .before .loop .j < count (entered (begun c) .args .site)
-there c = omega (arith, c .loop-test .taken, begun c .relocation-entries .ensures .0)
+there : (c : tie.In-loop Inv-loop μ-loop) → c .before .loop .j < count (entered (begun c) .args .object .now) (entered (begun c) .args .site)
+there c = omega (arith, c .loop-test .taken, begun c .relocation-entries .ensures)
 
 -- ---- the needs
 
 loop-holds : tie.Need-loop-holds Inv-loop μ-loop
 unfolding after
-loop-holds c = (omega arith, refl, λ o a w. entered c .pre .4)
+loop-holds c = (omega arith, refl, λ o a w. entered c .pre .5)
 
 add-store-one : tie.Need-add-store-one Inv-loop μ-loop
-add-store-one c = let f = entered (begun c) .pre in omega (arith, there c, f .0, f .2)
+add-store-one c = let f = entered (begun c) .pre in omega (arith, there c, f .1, f .3)
 
 store-one-requires : tie.Need-store-one-requires Inv-loop μ-loop
 store-one-requires c κs =
@@ -53,10 +53,10 @@ store-one-requires c κs =
     let start = entered (begun at) in
     let f = start .pre in
     let now = at .before .loop in (
-      subst (Storable (start .args .object .now) (start .args .site) (now .j) (getD (start .args .sizes .now) (start .args .base + now .j) 0)) (sym (now .inv .1)) (f .3 (now .j) (there at)),
-      omega (arith, there at, f .0),
+      subst (Storable (start .args .object .now) (start .args .site) (now .j) (getD (start .args .sizes .now) (start .args .base + now .j) 0)) (sym (now .inv .1)) (f .4 (now .j) (there at)),
       omega (arith, there at, f .1),
-      f .2,
+      omega (arith, there at, f .2),
+      f .3,
     )
 
 loop-again : tie.Need-loop-again Inv-loop μ-loop
@@ -76,7 +76,7 @@ returns c =
     let now = c .before .loop in
     let start = entered (c .before .before) in
     let a = start .args in
-    let all : now .j ≡ count (a .site) = omega (arith, now .inv .0, c .before .before .relocation-entries .ensures .0) in
+    let all : now .j ≡ count (a .object .now) (a .site) = omega (arith, now .inv .0, c .before .before .relocation-entries .ensures) in
     ((λ o l w. now .inv .2 o l w ∙ ap (after (a .object .now) o l (a .site)) all), now .inv .1)
 
 pub apply-all-spec : {M : Type 1} → statement M

@@ -1,17 +1,14 @@
 -- `relocations_apply::lay_section` meets its contract.
-use mathlib.Core.Path.{_≡_, refl, sym, ap, _∙_, subst}
-use mathlib.Core.Bool.{true}
-use mathlib.Core.List.{List}
-use Prim.Native.Nat.{ℕ, _+_, _≤_, _<_}
+use mathlib.Core.Path.{_≡_, sym, ap, _∙_, subst}
+use Prim.Native.Nat.{_+_, _≤_, _<_}
 use native.Mathlib.Omega.{arith}
 use lib.ListN.{length}
 use Rattle.numbers_definitions.proofs.Laws.Lists.{length-part}
 use Rattle.elf_read.specs.Headers.{sectionCount}
-use Rattle.elf_read.specs.Sections.{sectionAt, countingRela, relocationsBelow}
+use Rattle.elf_read.specs.Sections.{sectionAt, relocationsBelow}
 use Rattle.elf_read.specs.Entries.{bytesOf}
 use Rattle.elf_check.specs.Rules.{maxRelocations}
-use Rattle.elf_check.proofs.Laws.Bounds.{loaded-inside}
-use Rattle.relocations_rela.specs.declared.sites.Site.{Site}
+use Rattle.elf_check.proofs.Laws.Bounds.{loaded-inside, few-below}
 use Rattle.relocations_rela.specs.Sites.{siteAt, count, found}
 use Rattle.relocations_rela.proofs.Laws.Sites.{found-length}
 use Rattle.relocations_bytes.specs.Sections.{after, relaOf}
@@ -76,14 +73,15 @@ site-at-requires c κs =
 relocations-below-requires : tie.Need-relocations-below-requires
 relocations-below-requires c κs =
     let start = entered (header (copied (chosen c))) in
-    (start .pre .0 .table, omega (arith, rela-there c, chosen c .rela-of .ensures))
+    let there : chosen c .rela-of .result ≤ sectionCount (start .args .object .now) = omega (arith, rela-there c, chosen c .rela-of .ensures) in
+    (start .pre .0 .table, there, omega (arith, few-below (start .args .object .now) (start .pre .0) (chosen c .rela-of .result) there))
 
 abbrev sited : tie.After-relocations-below → tie.After-site-at
 sited c = c .before
 
 -- the words of the site's relocations
 worded : (c : tie.After-relocations-below) → let a = entered (header (copied (chosen (sited c)))) .args in
-    Worded (a .object .now) (a .order .now) (a .addresses) (sited c .site-at .result) (count (sited c .site-at .result)) (a .words .now) (a .sizes .now) (c .relocations-below .result)
+    Worded (a .object .now) (a .order .now) (a .addresses) (sited c .site-at .result) (count (a .object .now) (sited c .site-at .result)) (a .words .now) (a .sizes .now) (c .relocations-below .result)
 worded c =
     let at = sited c in
     let start = entered (header (copied (chosen at))) in
@@ -92,18 +90,18 @@ worded c =
     let base : relocationsBelow (a .object .now) i ≡ c .relocations-below .result =
     sym (c .relocations-below .ensures ∙ ap (relocationsBelow (a .object .now)) (chosen at .rela-of .ensures)) in
     let there = start .pre .3 .worded i (rela-there at) (rela-found (a .object .now) (a .t) (rela-there at) .0) in
-    subst (λ x. Worded (a .object .now) (a .order .now) (a .addresses) x (count x) (a .words .now) (a .sizes .now) (c .relocations-below .result)) (sym (site-is at))
-    (subst (Worded (a .object .now) (a .order .now) (a .addresses) (siteAt (a .object .now) (a .addresses) i) (count (siteAt (a .object .now) (a .addresses) i)) (a .words .now) (a .sizes .now)) base there)
+    subst (λ x. Worded (a .object .now) (a .order .now) (a .addresses) x (count (a .object .now) x) (a .words .now) (a .sizes .now) (c .relocations-below .result)) (sym (site-is at))
+    (subst (Worded (a .object .now) (a .order .now) (a .addresses) (siteAt (a .object .now) (a .addresses) i) (count (a .object .now) (siteAt (a .object .now) (a .addresses) i)) (a .words .now) (a .sizes .now)) base there)
 
 -- and that there is room for them
-room : (c : tie.After-relocations-below) → c .relocations-below .result + count (sited c .site-at .result) ≤ maxRelocations
+room : (c : tie.After-relocations-below) → c .relocations-below .result + count (entered (header (copied (chosen (sited c)))) .args .object .now) (sited c .site-at .result) ≤ maxRelocations
 room c =
     let at = sited c in
     let start = entered (header (copied (chosen at))) in
     let a = start .args in
     let i = relaOf (a .object .now) (a .t) in
     let base : c .relocations-below .result ≡ relocationsBelow (a .object .now) i = c .relocations-below .ensures ∙ ap (relocationsBelow (a .object .now)) (chosen at .rela-of .ensures) in
-    omega (arith, ap count (site-is at), site-room (a .object .now) (a .order .now) (a .addresses) (start .pre .0) i (rela-there at) (rela-found (a .object .now) (a .t) (rela-there at) .0))
+    omega (arith, ap (count (a .object .now)) (site-is at), site-room (a .object .now) (a .order .now) (a .addresses) (start .pre .0) i (rela-there at) (rela-found (a .object .now) (a .t) (rela-there at) .0))
 
 abbrev numbered : tie.After-apply-all-arg → tie.After-relocations-below
 numbered c = c .before
@@ -123,6 +121,7 @@ apply-all-requires c κs =
     subst (Checked s (a .order .now) (a .addresses)) (sym (site-is at)) (checked s (a .order .now) (a .addresses) (f .0) (f .1) (f .2) i (rela-there at) (counts .0)) in
     let held = copy .copy .ensures ∙ copy .before .before .section-bytes .ensures ∙ ap (bytesOf s) (header copy .read-section .ensures) ∙ sym (found-target s (a .addresses) (a .t) (rela-there at)) ∙ ap (found s) (sym (site-is at)) in
     let size = ap length held ∙ found-length s (at .site-at .result) (fine .site) in (
+      f .0 .table .header,
       omega (arith, room below, f .3 .words-length),
       omega (arith, room below, f .3 .sizes-length),
       omega (arith, f .3 .words-length),
@@ -139,7 +138,7 @@ returns c =
     let a = start .args in
     let s = a .object .now in
     applied .apply-all .ensures .0 (a .order .now) (a .addresses) (worded below)
-    ∙ ap (λ x. after s (a .order .now) (a .addresses) x (count x)) (site-is at)
+    ∙ ap (λ x. after s (a .order .now) (a .addresses) x (count (a .object .now) x)) (site-is at)
     ∙ sym (relocated-some s (a .order .now) (a .addresses) (a .t) (rela-there at))
 
 returns-2 : tie.Need-returns-2

@@ -1,5 +1,5 @@
 -- `relocations_apply::store_one` meets its contract.
-use mathlib.Core.Path.{_≡_, sym, ap, _∙_}
+use mathlib.Core.Path.{sym, ap, _∙_}
 use native.Mathlib.Omega.{arith}
 use lib.ListN.{getD}
 use lib.Seq.{sets}
@@ -28,7 +28,7 @@ returns c =
 read-offset-requires : tie.Need-read-offset-requires
 read-offset-requires c κs =
     let f = entered c .pre .0 in
-    record { inside = omega (arith, f .there .site .entries, f .there .there) }
+    record { header = f .there .site .header; bytes = record { inside = f .there .site .entries }; there = f .there .there }
 
 mul-write-bytes : tie.Need-mul-write-bytes
 mul-write-bytes c = let at : tie.After-read-offset = search in let f = entered (passed at) .pre in omega (arith, f .1, f .3)
@@ -53,7 +53,6 @@ store-one-spec =
     (λ c. search needs)
     returns
     read-offset-requires
-    (λ c. search needs)
     (λ c. search needs)
     mul-write-bytes
     (λ c. search needs)

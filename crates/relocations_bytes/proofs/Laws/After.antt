@@ -74,6 +74,6 @@ module _ (object order addresses : List ℕ) (x : Site) where
       ∙ leAt-one s b
       ∙ own-below b m (λ j l. h j (omega arith))
 
-  pub untouched-own : (b : ℕ) → untouched object x b ≡ true → getD (after object order addresses x (count x)) b 0 ≡ getD (found object x) b 0
+  pub untouched-own : (b : ℕ) → untouched object x b ≡ true → getD (after object order addresses x (count object x)) b 0 ≡ getD (found object x) b 0
   unfolding untouched
-  untouched-own b e = own-below b (count x) (λ j l. not-true _ (everywhere-at (λ j. not (touches object x j b)) (count x) e j l))
+  untouched-own b e = own-below b (count object x) (λ j l. not-true _ (everywhere-at (λ j. not (touches object x j b)) (count object x) e j l))

@@ -14,8 +14,9 @@ use Rattle.instructions_riscv.specs.Halves.{high, low}
 use Rattle.instructions_riscv.specs.Forms.{hasForm}
 use Rattle.instructions_riscv.specs.Ranges.{reaches}
 use Rattle.relocations_types.specs.Types.{table, among, lookup, decision}
-use Rattle.elf_read.specs.Sections.{sectionAt, allocated, countingRela, relocationsIn, isAllocated}
-use Rattle.elf_read.specs.Entries.{bytesOf, relocationAt, locationOf}
+use Rattle.elf_read.specs.Headers.{classOf}
+use Rattle.elf_read.specs.Sections.{readSection, sectionAt, allocated, countingRela, relocationsIn, isAllocated}
+use Rattle.elf_read.specs.Entries.{bytesOf, readSymbol, readRelocation, relocationAt, locationOf}
 use Rattle.relocations_rela.specs.Sites.{siteAt}
 use Rattle.relocations_rela.specs.Shape.{neverFalls, staysInside, previous, noOverlap, shapeWell}
 use Rattle.placing_symbols.specs.Values.{symbolValue}
@@ -93,5 +94,5 @@ numbers =
     ∷ []
 
 pub right : map (λ n. n .given) numbers ≡ map (λ n. n .said) numbers
-unfolding numbers object words bytes le leAt part first sum ceilPower ceilLog residue signed within even minus read put high low hasForm reaches decision table lookup among sectionAt allocated isAllocated countingRela relocationsIn bytesOf relocationAt locationOf siteAt neverFalls staysInside previous noOverlap shapeWell symbolValue symbolWell standsWell formWell pairWell finding firstBroken findingOf patched sumAt applied after relaOf relocated
+unfolding numbers object words bytes le leAt part first sum ceilPower ceilLog residue signed within even minus read put high low hasForm reaches decision table lookup among classOf readSection sectionAt allocated isAllocated countingRela relocationsIn bytesOf readSymbol readRelocation relocationAt locationOf siteAt neverFalls staysInside previous noOverlap shapeWell symbolValue symbolWell standsWell formWell pairWell finding firstBroken findingOf patched sumAt applied after relaOf relocated
 right = refl

@@ -49,7 +49,7 @@ pub add-up : (w : ℕ) (f g : Field) (b v d : ℕ) → d < 2 ^ w → extended w 
 add-up w f g b v d h p q = halves-whole w d _ _ h p q
 
 -- a section of which every relocation is read back
-module _ (object order addresses : List ℕ) (x : Site) (final : List ℕ) (back : (j : ℕ) → j < count x → ReadsBack object order addresses x final j) where
+module _ (object order addresses : List ℕ) (x : Site) (final : List ℕ) (back : (j : ℕ) → j < count object x → ReadsBack object order addresses x final j) where
   abbrev w : ℕ
   w = addressWidth object
 
@@ -60,9 +60,9 @@ module _ (object order addresses : List ℕ) (x : Site) (final : List ℕ) (back
   abbrev Says : ℕ → Decision → Type 0
   Says j d =
       Stored w d (found object x) final (offset object x j) (t j) (P object x j) (pairDistance object order addresses x j)
-      (λ v. stackAt object order addresses x (offset object x j) v (count x))
+      (λ v. stackAt object order addresses x (offset object x j) v (count object x))
 
-  pub says : (j : ℕ) → j < count x → (d : Decision) → decisionAt object x j ≡ d → Says j d
+  pub says : (j : ℕ) → j < count object x → (d : Decision) → decisionAt object x j ≡ d → Says j d
   says j h d e = subst (Says j) e (unfold ReadsBack in back j h)
 
   -- a pair is a PCREL_HI20
@@ -71,7 +71,7 @@ module _ (object order addresses : List ℕ) (x : Site) (final : List ℕ) (back
   hi20 j value e = pair-is (entry object x j .kind) (and-left (givesPair (decisionAt object x j)) (eqb (offset object x j) (value .0)) e)
 
   -- a PCREL_LO12 has one
-  has-pair : Checked object order addresses x → (j : ℕ) → j < count x → needsPair (decisionAt object x j) ≡ true → (i : ℕ) × (pairOf object x (symbol object x j .value) ≡ At i)
+  has-pair : Checked object order addresses x → (j : ℕ) → j < count object x → needsPair (decisionAt object x j) ≡ true → (i : ℕ) × (pairOf object x (symbol object x j .value) ≡ At i)
   unfolding pairWell
   has-pair k j h n = go (pairOf object x (symbol object x j .value)) refl (one n (kept-rules object order addresses x j (k .kept j h) .pair))
     where
@@ -90,10 +90,10 @@ module _ (object order addresses : List ℕ) (x : Site) (final : List ℕ) (back
 
   -- the number of the whole stack, for the rule of relocation j
   abbrev whole : ℕ → Rule → ℤ
-  whole j r = stackAt object order addresses x (offset object x j) (read (layout (r .field)) (leAt (r .size) (found object x) (offset object x j))) (count x)
+  whole j r = stackAt object order addresses x (offset object x j) (read (layout (r .field)) (leAt (r .size) (found object x) (offset object x j))) (count object x)
 
   -- what relocation j says about a part of an operand
-  pub part-said : (j : ℕ) → j < count x → (r : Rule) (part : Part) (o : Operand) → decisionAt object x j ≡ Store r → r .calculation ≡ Of part o
+  pub part-said : (j : ℕ) → j < count object x → (r : Rule) (part : Part) (o : Operand) → decisionAt object x j ≡ Store r → r .calculation ≡ Of part o
       → SaidPart w part (r .field) (leAt (r .size) final (offset object x j)) (operandOf w o (t j) (P object x j) (pairDistance object order addresses x j)) (t j) (P object x j)
   part-said j h r part o e c =
       subst (λ c. Said w c (r .field) (leAt (r .size) final (offset object x j)) (t j) (P object x j) (pairDistance object order addresses x j) (whole j r)) c (says j h (Store r) e .0)
@@ -119,5 +119,5 @@ module _ (object order addresses : List ℕ) (x : Site) (final : List ℕ) (back
             );
       }
 
-pub halves : (object order addresses : List ℕ) (x : Site) → Checked object order addresses x → Halves object order addresses x (after object order addresses x (count x))
-halves object order addresses x k = halves-of object order addresses x (after object order addresses x (count x)) (read-back object order addresses x k) k
+pub halves : (object order addresses : List ℕ) (x : Site) → Checked object order addresses x → Halves object order addresses x (after object order addresses x (count object x))
+halves object order addresses x k = halves-of object order addresses x (after object order addresses x (count object x)) (read-back object order addresses x k) k

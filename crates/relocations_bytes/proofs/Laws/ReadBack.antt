@@ -26,7 +26,7 @@ use Rattle.relocations_types.specs.declared.Calculation.the-variants.{Of, Add, 
 use Rattle.relocations_types.specs.declared.Rule.{Rule}
 use Rattle.relocations_types.specs.declared.Decision.{Decision}
 use Rattle.relocations_types.specs.declared.Decision.the-variants.{Marker, Align, Store, Refused}
-use Rattle.elf_read.specs.Headers.{addressWidth}
+use Rattle.elf_read.specs.Headers.{classOf, addressWidth}
 use Rattle.elf_read.proofs.Laws.Headers.{address-wide}
 use Rattle.relocations_rela.specs.declared.sites.Site.{Site}
 use Rattle.relocations_rela.specs.Sites.{count, decisionAt, offset, P, found}
@@ -98,7 +98,7 @@ data-some Call e = never e
 reaches-of : (w : ℕ) (d : Decision) (r : Rule) (t p : ℕ) → d ≡ Store r → distanceWell w d t p ≡ true → reachesWell w (r .calculation) (r .field) t p ≡ true
 reaches-of w d r t p e h = sym (ap (λ d. distanceWell w d t p) e) ∙ h
 
-module _ (object order addresses : List ℕ) (x : Site) (k : Checked object order addresses x) (j : ℕ) (h : j < count x)
+module _ (object order addresses : List ℕ) (x : Site) (k : Checked object order addresses x) (j : ℕ) (h : j < count object x)
     (r : Rule) (e : decisionAt object x j ≡ Store r) where
   abbrev c : Calculation
   c = r .calculation
@@ -109,7 +109,7 @@ module _ (object order addresses : List ℕ) (x : Site) (k : Checked object orde
   abbrev n : ℕ
   n = r .size
 
-  shaped : (i : ℕ) → i < count x → shapeWell object x i ≡ true
+  shaped : (i : ℕ) → i < count object x → shapeWell object x i ≡ true
   shaped i l = kept-rules object order addresses x i (k .kept i l) .shape
 
   abbrev w : ℕ
@@ -140,17 +140,17 @@ module _ (object order addresses : List ℕ) (x : Site) (k : Checked object orde
   abbrev Away : ℕ → Type 0
   Away m = (at + n ≤ offset object x m) ⊎ (end object x m ≤ at)
 
-  meets : (m : ℕ) → m < count x → (m ≡ j → ⊥) → isStore (decisionAt object x m) ≡ true → Away m ⊎ Shares object x j m
+  meets : (m : ℕ) → m < count object x → (m ≡ j → ⊥) → isStore (decisionAt object x m) ≡ true → Away m ⊎ Shares object x j m
   meets m l other s = go (decLt m j)
     where
       turned : Shares object x m j → Shares object x j m
       turned q = record { place = sym (q .place); some = omega (arith, q .some, q .width); width = sym (q .width) }
 
       go : Dec (m < j) → Away m ⊎ Shares object x j m
-      go (yes d) = ⊎-elim (λ a. inl (inr a)) (λ q. inr (turned q)) (apart object x (count x) shaped (suc j) m j (omega arith) d h s store)
+      go (yes d) = ⊎-elim (λ a. inl (inr a)) (λ q. inr (turned q)) (apart object x (count object x) shaped (suc j) m j (omega arith) d h s store)
       go (no d) =
           ⊎-elim (λ a. inl (inl (omega (arith, ends)))) (λ q. inr q)
-          (apart object x (count x) shaped (suc m) j m (omega arith) (later d) l store s)
+          (apart object x (count object x) shaped (suc m) j m (omega arith) (later d) l store s)
         where
           later : (m < j → ⊥) → j < m
           later d = after-other m j d other
@@ -188,7 +188,7 @@ module _ (object order addresses : List ℕ) (x : Site) (k : Checked object orde
   -- ---- a relocation of no stack is alone
 
   module _ (single : stacks c ≡ false) where
-    alone : (m : ℕ) → m < count x → (m ≡ j → ⊥) → leAt n (now (suc m)) at ≡ leAt n (now m) at
+    alone : (m : ℕ) → m < count object x → (m ≡ j → ⊥) → leAt n (now (suc m)) at ≡ leAt n (now m) at
     alone m l other = go (isStore (decisionAt object x m)) refl
       where
         none : Shares object x j m → leAt n (now (suc m)) at ≡ leAt n (now m) at
@@ -208,11 +208,11 @@ module _ (object order addresses : List ℕ) (x : Site) (k : Checked object orde
     abbrev laid : ℕ
     laid = patched w c f (leAt n (found object x) at) (sumAt object order addresses x j) (P object x j) (pairDistance object order addresses x j)
 
-    then : (m : ℕ) → j < m → m ≤ count x → leAt n (now m) at ≡ laid
+    then : (m : ℕ) → j < m → m ≤ count object x → leAt n (now m) at ≡ laid
     then zero l b = absurd (omega arith)
     then (suc m) l b = go (decLt j m) (then m)
       where
-        go : Dec (j < m) → (j < m → m ≤ count x → leAt n (now m) at ≡ laid) → leAt n (now (suc m)) at ≡ laid
+        go : Dec (j < m) → (j < m → m ≤ count object x → leAt n (now m) at ≡ laid) → leAt n (now (suc m)) at ≡ laid
         go (yes d) rest = alone m (omega arith) (λ z. omega arith) ∙ rest d (omega arith)
         go (no d) rest =
             let same : m ≡ j = omega arith in
@@ -222,18 +222,19 @@ module _ (object order addresses : List ℕ) (x : Site) (k : Checked object orde
 
     -- at 32 bits every number is near enough; at 64 bits check 13 has to ask for it (document 02, Ticket 1)
     near : (t p d : ℕ) → Near w c t p d
+    unfolding classOf
     near t p d = near-32 c t p d
 
-    pub single-back : Stored w (Store r) (found object x) (now (count x)) at (residue w (sumAt object order addresses x j)) (P object x j)
-        (pairDistance object order addresses x j) (λ v. stackAt object order addresses x at v (count x))
+    pub single-back : Stored w (Store r) (found object x) (now (count object x)) at (residue w (sumAt object order addresses x j)) (P object x j)
+        (pairDistance object order addresses x j) (λ v. stackAt object order addresses x at v (count object x))
     unfolding sumAt
     single-back =
         let y : ℤ = sumAt object order addresses x j in
         let p : ℕ = P object x j in
         let d : ℕ = pairDistance object order addresses x j in
         let b : ℕ = leAt n (found object x) at in
-        let whole : ℤ = stackAt object order addresses x at (read (layout f) b) (count x) in
-        let final : leAt n (now (count x)) at ≡ laid = then (count x) h (omega arith) in
+        let whole : ℤ = stackAt object order addresses x at (read (layout f) b) (count object x) in
+        let final : leAt n (now (count object x)) at ≡ laid = then (count object x) h (omega arith) in
         let reach : reachesWell w c f (residue w y) p ≡ true =
         reaches-of w (decisionAt object x j) r (residue w y) p e (kept-rules object order addresses x j (k .kept j h) .distance) in (
           subst (λ u. Said w c f u (residue w y) p d whole) (sym final)
@@ -330,7 +331,7 @@ module _ (object order addresses : List ℕ) (x : Site) (k : Checked object orde
         go Align u t = never t
         go Refused u t = never t
 
-    holds : (m : ℕ) → m ≤ count x → Holds m
+    holds : (m : ℕ) → m ≤ count object x → Holds m
     unfolding after stackAt
     holds zero l = record { value = sym (small (field-lt f (leAt n (found object x) at) on-data)); rest = refl }
       where
@@ -355,32 +356,32 @@ module _ (object order addresses : List ℕ) (x : Site) (k : Checked object orde
     said-stack Set u t p d whole s r = r
     said-stack (Of part operand) u t p d whole s r = never s
 
-    pub stack-back : (t p d : ℕ) → Stored w (Store r) (found object x) (now (count x)) at t p d (λ v. stackAt object order addresses x at v (count x))
+    pub stack-back : (t p d : ℕ) → Stored w (Store r) (found object x) (now (count object x)) at t p d (λ v. stackAt object order addresses x at v (count object x))
     stack-back t p d =
-        let held = holds (count x) (omega arith) in
-        (said-stack c (leAt n (now (count x)) at) t p d (stackAt object order addresses x at v₀ (count x)) stack (held .value), held .rest)
+        let held = holds (count object x) (omega arith) in
+        (said-stack c (leAt n (now (count object x)) at) t p d (stackAt object order addresses x at v₀ (count object x)) stack (held .value), held .rest)
 
 -- ---- theorems 2 and 3: every relocation of a section whose relocations pass 9 to 14
 
-pub read-back : (object order addresses : List ℕ) (x : Site) → Checked object order addresses x → (j : ℕ) → j < count x
-    → ReadsBack object order addresses x (after object order addresses x (count x)) j
+pub read-back : (object order addresses : List ℕ) (x : Site) → Checked object order addresses x → (j : ℕ) → j < count object x
+    → ReadsBack object order addresses x (after object order addresses x (count object x)) j
 unfolding ReadsBack sumAt
 read-back object order addresses x k j h = go (decisionAt object x j) refl
   where
     final : List ℕ
-    final = after object order addresses x (count x)
+    final = after object order addresses x (count object x)
 
     t : ℕ
     t = targetAt object order addresses x j
 
     go : (d : Decision) → decisionAt object x j ≡ d
         → Stored (addressWidth object) d (found object x) final (offset object x j) t (P object x j) (pairDistance object order addresses x j)
-        (λ v. stackAt object order addresses x (offset object x j) v (count x))
+        (λ v. stackAt object order addresses x (offset object x j) v (count object x))
     go (Store r) e = split (stacks (r .calculation)) refl
       where
         split : (b : Bool) → stacks (r .calculation) ≡ b
             → Stored (addressWidth object) (Store r) (found object x) final (offset object x j) t (P object x j) (pairDistance object order addresses x j)
-            (λ v. stackAt object order addresses x (offset object x j) v (count x))
+            (λ v. stackAt object order addresses x (offset object x j) v (count object x))
         split true s = stack-back object order addresses x k j h r e s t (P object x j) (pairDistance object order addresses x j)
         split false s = single-back object order addresses x k j h r e s
     go Marker e = tt

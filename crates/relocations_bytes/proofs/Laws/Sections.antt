@@ -144,7 +144,7 @@ rela-found object t h =
     (and-left (countingRela object i) (eqb (sectionAt object i .info) t) both, eqb-true _ _ (and-right (countingRela object i) (eqb (sectionAt object i .info) t) both))
 
 pub relocated-some : (object order addresses : List ℕ) (t : ℕ) → relaOf object t < sectionCount object
-    → relocated object order addresses t ≡ after object order addresses (siteAt object addresses (relaOf object t)) (count (siteAt object addresses (relaOf object t)))
+    → relocated object order addresses t ≡ after object order addresses (siteAt object addresses (relaOf object t)) (count object (siteAt object addresses (relaOf object t)))
 unfolding relocated
 relocated-some object order addresses t h = rw (lt-ltb _ _ h)
 

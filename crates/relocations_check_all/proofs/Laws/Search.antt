@@ -5,7 +5,6 @@ use mathlib.Core.List.{List}
 use Prim.Native.Nat.{ℕ, suc, _+_, _-_, _≤_, _<_}
 use native.Mathlib.Omega.{arith}
 use native.Mathlib.Decide.{decLt}
-use lib.ListN.{getD}
 use Rattle.numbers_definitions.specs.Sums.{sum}
 use Rattle.numbers_definitions.proofs.Laws.Sums.{sum-mono}
 use Rattle.numbers_definitions.proofs.Laws.Tests.{never}
@@ -24,7 +23,7 @@ use Rattle.relocations_rules.specs.declared.RelocationCheck.{RelocationCheck}
 use Rattle.relocations_rules.specs.declared.RelocationCheck.the-variants.{Passed, Broken}
 use Rattle.relocations_rules.specs.Search.{number, finding, findingOf, isBroken, relocationCheck}
 use Rattle.relocations_rules.proofs.Laws.Search.{counted, finding-entry, check-broken, check-passed}
-use Rattle.relocations_check_all.specs.Sites.{findingOfNumber, Worded, WordedBelow, SameBelow, SiteChecked}
+use Rattle.relocations_check_all.specs.Sites.{findingOfNumber, Worded, WordedBelow, SiteChecked}
 use Rattle.relocations_check_all.proofs.Laws.Sites.{number-kept, finding-number}
 
 some-broken : (f : Finding) → (number f ≡ 0 → ⊥) → isBroken f ≡ true
@@ -62,7 +61,7 @@ module _ (object order addresses : List ℕ) where
       record { number-is = omega (arith, b .number-is); kept = b .kept; worded = λ s h e. go s h e (decLt s i) }
     where
       go : (s : ℕ) → s < suc i → countingRela object s ≡ true → Dec (s < i)
-          → Worded object order addresses (siteAt object addresses s) (count (siteAt object addresses s)) words sizes (relocationsBelow object s)
+          → Worded object order addresses (siteAt object addresses s) (count object (siteAt object addresses s)) words sizes (relocationsBelow object s)
       go s h e (yes l) = b .worded s l e
       go s h e (no l) =
           let same : i ≡ s = omega arith in
@@ -73,18 +72,18 @@ module _ (object order addresses : List ℕ) where
     site : SiteChecked object order addresses (siteAt object addresses i) n words sizes words₁ sizes₁ m at
     site = subst (λ x. SiteChecked object order addresses x n words sizes words₁ sizes₁ m at) is given
 
-    many : count (siteAt object addresses i) ≡ relocationsIn object i
+    many : count object (siteAt object addresses i) ≡ relocationsIn object i
     many = count-is object addresses sound i h counts
 
     -- relocation j of the site has the number n + j
-    place : (j : ℕ) → j < count (siteAt object addresses i) → findingOf object order addresses (n + j) ≡ finding object order addresses (siteAt object addresses i) j
+    place : (j : ℕ) → j < count object (siteAt object addresses i) → findingOf object order addresses (n + j) ≡ finding object order addresses (siteAt object addresses i) j
     place j l =
         ap (λ n. findingOf object order addresses (n + j)) (below .number-is) ∙ finding-entry object i j h (omega (arith, many)) order addresses
 
-    place-kept : (j : ℕ) → j < count (siteAt object addresses i) → number (finding object order addresses (siteAt object addresses i) j) ≡ 0 → isBroken (findingOf object order addresses (n + j)) ≡ false
+    place-kept : (j : ℕ) → j < count object (siteAt object addresses i) → number (finding object order addresses (siteAt object addresses i) j) ≡ 0 → isBroken (findingOf object order addresses (n + j)) ≡ false
     place-kept j l e = ap isBroken (place j l ∙ number-kept (finding object order addresses (siteAt object addresses i) j) e)
 
-    kept-up-to : (u : ℕ) → u ≤ count (siteAt object addresses i) → ((j : ℕ) → j < u → number (finding object order addresses (siteAt object addresses i) j) ≡ 0)
+    kept-up-to : (u : ℕ) → u ≤ count object (siteAt object addresses i) → ((j : ℕ) → j < u → number (finding object order addresses (siteAt object addresses i) j) ≡ 0)
         → (k : ℕ) → k < n + u → isBroken (findingOf object order addresses k) ≡ false
     kept-up-to u l all k b = go (decLt k n)
       where
@@ -95,13 +94,13 @@ module _ (object order addresses : List ℕ) where
             subst (λ k. isBroken (findingOf object order addresses k) ≡ false) back (place-kept (k - n) (omega arith) (all (k - n) (omega arith)))
 
     -- what was stored before stays
-    same-word : (s : ℕ) → s < i → countingRela object s ≡ true → (j : ℕ) → j < count (siteAt object addresses s) → relocationsBelow object s + j < n
+    same-word : (s : ℕ) → s < i → countingRela object s ≡ true → (j : ℕ) → j < count object (siteAt object addresses s) → relocationsBelow object s + j < n
     unfolding sum
     same-word s l e j b =
-        let some : count (siteAt object addresses s) ≡ relocationsIn object s = count-is object addresses sound s (omega arith) e in
+        let some : count object (siteAt object addresses s) ≡ relocationsIn object s = count-is object addresses sound s (omega arith) e in
         omega (arith, below .number-is, sum-mono (relocationsIn object) (suc s) i l)
 
-    earlier : (s : ℕ) → s < i → countingRela object s ≡ true → Worded object order addresses (siteAt object addresses s) (count (siteAt object addresses s)) words₁ sizes₁ (relocationsBelow object s)
+    earlier : (s : ℕ) → s < i → countingRela object s ≡ true → Worded object order addresses (siteAt object addresses s) (count object (siteAt object addresses s)) words₁ sizes₁ (relocationsBelow object s)
     earlier s l e =
         let w = below .worded s l e in
         record {
@@ -110,23 +109,23 @@ module _ (object order addresses : List ℕ) where
         }
 
     -- a site whose relocations break no rule
-    pub below-site : m ≡ 0 → Below (suc i) (n + count x) words₁ sizes₁
+    pub below-site : m ≡ 0 → Below (suc i) (n + count object x) words₁ sizes₁
     unfolding sum
     below-site none =
         let passed = site .passed none in
         record {
-          number-is = omega (arith, below .number-is, many, ap count is);
-          kept = λ k h. kept-up-to (count (siteAt object addresses i)) (omega arith) (passed .0) k (omega (arith, ap count is));
+          number-is = omega (arith, below .number-is, many, ap (count object) is);
+          kept = λ k h. kept-up-to (count object (siteAt object addresses i)) (omega arith) (passed .0) k (omega (arith, ap (count object) is));
           worded = λ s l e. go s l e (decLt s i) (passed .1);
         }
       where
-        go : (s : ℕ) → s < suc i → countingRela object s ≡ true → Dec (s < i) → Worded object order addresses (siteAt object addresses i) (count (siteAt object addresses i)) words₁ sizes₁ n
-            → Worded object order addresses (siteAt object addresses s) (count (siteAt object addresses s)) words₁ sizes₁ (relocationsBelow object s)
+        go : (s : ℕ) → s < suc i → countingRela object s ≡ true → Dec (s < i) → Worded object order addresses (siteAt object addresses i) (count object (siteAt object addresses i)) words₁ sizes₁ n
+            → Worded object order addresses (siteAt object addresses s) (count object (siteAt object addresses s)) words₁ sizes₁ (relocationsBelow object s)
         go s b e (yes l) w = earlier s l e
         go s b e (no l) w =
             let same : i ≡ s = omega arith in
-            subst (λ s. Worded object order addresses (siteAt object addresses s) (count (siteAt object addresses s)) words₁ sizes₁ (relocationsBelow object s)) same
-            (subst (Worded object order addresses (siteAt object addresses i) (count (siteAt object addresses i)) words₁ sizes₁) (below .number-is) w)
+            subst (λ s. Worded object order addresses (siteAt object addresses s) (count object (siteAt object addresses s)) words₁ sizes₁ (relocationsBelow object s)) same
+            (subst (Worded object order addresses (siteAt object addresses i) (count object (siteAt object addresses i)) words₁ sizes₁) (below .number-is) w)
 
     -- a site with a relocation that breaks one
     module _ (some : m ≡ 0 → ⊥) where
@@ -146,7 +145,7 @@ module _ (object order addresses : List ℕ) where
           check-broken object order addresses (n + at) broken-there (kept-up-to at (omega (arith, b .there)) (b .below)) breaks ∙ ap (λ f. Broken f (n + at)) same
 
   -- all relocations of a site have room
-  pub site-room : SoundObject object → (i : ℕ) → i < sectionCount object → countingRela object i ≡ true → relocationsBelow object i + count (siteAt object addresses i) ≤ maxRelocations
+  pub site-room : SoundObject object → (i : ℕ) → i < sectionCount object → countingRela object i ≡ true → relocationsBelow object i + count object (siteAt object addresses i) ≤ maxRelocations
   unfolding sum
   site-room sound i h e = omega (arith, count-is object addresses sound i h e, sum-mono (relocationsIn object) (suc i) (sectionCount object) h, relocations-few object sound)
 

@@ -1,6 +1,6 @@
 -- Laws of the search over the relocations of a site.
 use mathlib.Core.Path.{_≡_, refl, sym, ap, _∙_, subst}
-use mathlib.Core.Bool.{Bool, true, false, cond}
+use mathlib.Core.Bool.{true, cond}
 use mathlib.Core.List.{List}
 use Prim.Native.Nat.{ℕ, suc, _+_, _^_, _≤_, _<_}
 use native.Mathlib.Omega.{arith}
@@ -8,7 +8,6 @@ use native.Mathlib.Decide.{decLt}
 use lib.ListN.{length, getD, set, length-set}
 use lib.Seq.{getD-set-same, getD-set-other}
 use Rattle.numbers_definitions.specs.Bytes.{leAt}
-use Rattle.numbers_definitions.proofs.Laws.Tests.{never}
 use Rattle.elf_read.specs.declared.Relocation.{Relocation}
 use Rattle.elf_check.specs.Requires.{SoundObject}
 use Rattle.placing_symbols.specs.declared.SymbolValue.{SymbolValue}
@@ -105,7 +104,7 @@ module _ (object order addresses : List ℕ) (x : Site) where
 
 -- after the first j relocations, none of which breaks a rule. The lists were words₀, sizes₀ and highs₀ before.
 pub record Searching (object order addresses : List ℕ) (x : Site) (base : ℕ) (words₀ sizes₀ highs₀ words sizes highs : List ℕ) (trail : Trail) (last made j : ℕ) : Type 0 where
-  pub far : j ≤ count x
+  pub far : j ≤ count object x
   pub trail-is : trail ≡ trailAt object x j
   pub last-is : last ≡ lastWord object order addresses x j
   pub listing : Listing object x highs made
@@ -151,7 +150,7 @@ below-next P j below here i b = go (decLt i j)
         subst P is here
 
 module _ (object order addresses : List ℕ) (x : Site) (base : ℕ) (words₀ sizes₀ highs₀ : List ℕ) where
-  pub searching-start : count x ≤ length highs₀ → length highs₀ < 2 ^ 32 → Searching object order addresses x base words₀ sizes₀ highs₀ words₀ sizes₀ highs₀ noTrail 0 0 0
+  pub searching-start : count object x ≤ length highs₀ → length highs₀ < 2 ^ 32 → Searching object order addresses x base words₀ sizes₀ highs₀ words₀ sizes₀ highs₀ noTrail 0 0 0
   unfolding trailAt lastWord
   searching-start room short =
       record {
@@ -171,7 +170,7 @@ module _ (object order addresses : List ℕ) (x : Site) (base : ℕ) (words₀ s
     present-by t d r last = cond (sharesBy t d (r .offset .0)) last (leAt (touched d) (found object x) (r .offset .0))
 
     pub searching-next : (words sizes highs highs₁ : List ℕ) (trail t : Trail) (d : Decision) (r : Relocation) (last made made₁ j n w size l : ℕ)
-        → Searching object order addresses x base words₀ sizes₀ highs₀ words sizes highs trail last made j → j < count x → base + count x ≤ length words₀ → base + count x ≤ length sizes₀
+        → Searching object order addresses x base words₀ sizes₀ highs₀ words sizes highs trail last made j → j < count object x → base + count object x ≤ length words₀ → base + count object x ≤ length sizes₀
         → r ≡ entry object x j → d ≡ decisionAt object x j → Comes (listed values states) object x j (present-by trail d r last) n w → n ≡ 0
         → Listing object x highs₁ made₁ → length highs₁ ≡ length highs → t ≡ advanced trail d r → size ≡ touched d → l ≡ cond (isStore d) w last
         → Searching object order addresses x base words₀ sizes₀ highs₀ (set words (base + j) w) (set sizes (base + j) size) highs₁ t l made₁ (suc j)

@@ -5,6 +5,8 @@ use Prim.Native.Nat.{_+_}
 use native.Mathlib.Omega.{arith}
 use Rattle.numbers_definitions.specs.Whole.{signed}
 use Rattle.placing_symbols.specs.Arrays.{listed}
+use Rattle.elf_read.specs.Headers.{addressWidth}
+use Rattle.elf_read.proofs.Laws.Headers.{header-there}
 use Rattle.elf_read.specs.declared.Relocation.{Relocation}
 use Rattle.relocations_decisions.specs.Decisions.{isStore}
 use Rattle.relocations_rela.proofs.Laws.Shape.{shape-inside}
@@ -30,7 +32,7 @@ abbrev taken : tie.After-found-bytes → tie.After-take-partner
 taken c = c .before .before .before
 
 abbrev read : tie.After-apply-rule → tie.After-found-bytes
-read c = c .before .before .before .before .before
+read c = c .before .before .before .before .before .before
 
 -- ---- the needs
 
@@ -43,6 +45,9 @@ found-bytes-requires : tie.Need-found-bytes-requires
 found-bytes-requires c κs =
     let high : tie.After-take-partner = search in
     entered (arguments high) .pre .1
+
+class-of-requires : tie.Need-class-of-requires
+class-of-requires c κs = let high : tie.After-take-partner = search in header-there _ (entered (arguments high) .pre .0 .sound .table .header)
 
 apply-rule-requires : tie.Need-apply-rule-requires
 apply-rule-requires c κs =
@@ -64,8 +69,10 @@ returns c =
     let f = start .pre .1 in
     let v = listed (a .values .now) (a .states .now) in
     let value = start .pre .3 in
-    let place = placed .place-of .ensures in
-    let e = applied .apply-rule .ensures in
+    let classed : tie.After-class-of = search in
+    let is = classed .class-of .ensures in
+    let place = rw is at (placed .place-of .ensures) in
+    let e = rw is at (applied .apply-rule .ensures) in
     let partner = high .take-partner .ensures in
     let at = place-read s (a .site) (a .j) (a .here) _ (f .read) place (f .there .site) (shape-inside s (a .site) (a .j) (f .shape)) (ap isStore (f .decided)) ∙ sym (ap (λ (r : Relocation). a .site .address .0 + r .offset .0) (f .read)) in
     let forms =
@@ -73,11 +80,11 @@ returns c =
     ∙ form-read s (a .site) (a .j) (a .rule) _ (a .here) (f .decided) refl (f .read) in (
       record {
         number-is =
-            number-read v s (a .site) (a .j) (a .rule) (a .here) f _ value _ place _ _ _ _ _ _ (c .first-broken .ensures) (partner .0 .symbol-is) forms (partner .0 .pair-is) (e .1) (target .target-of .ensures);
+            number-read v s (a .site) (a .j) (a .rule) (a .here) f _ value _ place _ _ _ _ _ _ (c .first-broken .ensures) (partner .0 .symbol-is) forms (partner .0 .pair-is) (e .1) (rw is at (target .target-of .ensures));
         word-is = λ z.
             word-read v s (a .site) (a .j) (a .rule) (a .here) f _ value _ place _ _ _ _
             (e .2
-            ∙ ap (λ b. patched 32 (a .rule .calculation) (a .rule .field) b (signed 64 (summed .symbol-sum .result)) (placed .place-of .result .0) (high .take-partner .result .distance))
+            ∙ ap (λ b. patched (addressWidth s) (a .rule .calculation) (a .rule .field) b (signed 64 (summed .symbol-sum .result)) (placed .place-of .result .0) (high .take-partner .result .distance))
             (fitted .present .ensures ∙ ap (cond (a .shares) (a .last)) (found .found-bytes .ensures)))
             (omega arith) (summed .symbol-sum .ensures) (partner .0 .distance-is (first-symbol _ _ _ _ (sym (c .first-broken .ensures) ∙ z)));
       },
@@ -91,6 +98,7 @@ check-resolved-spec =
     (tie.spec
     take-partner-requires
     found-bytes-requires
+    class-of-requires
     (λ c κs. search needs)
     (λ c κs. search needs)
     (λ c κs. search needs)

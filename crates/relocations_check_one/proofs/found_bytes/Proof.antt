@@ -30,6 +30,5 @@ found-bytes-spec =
     (tie.spec
     (λ c κs. search needs)
     (λ c. search needs)
-    (λ c. search needs)
     read-bytes-requires
     returns)

@@ -38,7 +38,6 @@ pub is-on-boundary-spec : {M : Type 1} → statement M
 is-on-boundary-spec =
     tie.close
     (tie.spec
-    (λ c. search needs)
     (λ c κs. search needs)
     (λ c κs. search needs)
     cast-ceil-power

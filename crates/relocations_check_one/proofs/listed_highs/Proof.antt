@@ -11,7 +11,7 @@ returns : tie.Need-returns
 returns c = let at : tie.Start = search in (c .if1 .taken, at .pre .1, refl)
 
 list-highs-requires : tie.Need-list-highs-requires
-list-highs-requires c κs = let at : tie.Start = search in (at .pre .0, at .pre .1 .room)
+list-highs-requires c κs = let at : tie.Start = search in (at .pre .0, at .pre .1 .room, at .pre .1 .short)
 
 add-result : tie.Need-add-result
 add-result c =

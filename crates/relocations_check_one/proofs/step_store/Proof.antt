@@ -8,6 +8,7 @@ use Rattle.placing_symbols.specs.Arrays.{listed}
 use Rattle.relocations_types.specs.declared.Decision.the-variants.{Store}
 use Rattle.relocations_rela.specs.Sites.{found}
 use Rattle.relocations_rela.specs.Trails.{sharesWidth, sharesBy}
+use Rattle.relocations_rela.proofs.Laws.Trails.{shape-by-inside}
 use Rattle.relocations_check_one.specs.Outcomes.{Comes}
 use Rattle.relocations_check_one.specs.Requires.{Listing}
 use Rattle.relocations_check_one.proofs.Laws.Outcomes.{shape-read, shape-comes}
@@ -62,7 +63,13 @@ check-store-requires c κs =
     (start .pre .0, record { there = f .there; read = f .read; decided = sym (f .decided); shape = shape }, start .pre .2)
 
 advance-requires : tie.Need-advance-requires
-advance-requires c κs = let bits : tie.After-stack-bits = search in bits .stack-bits .ensures
+advance-requires c κs =
+    let bits : tie.After-stack-bits = search in
+    let tested : tie.After-is-shape-well = search in
+    let left : tie.Else1 = search in
+    let start = entered (wide (shared tested)) in
+    let a = start .args in
+    (bits .stack-bits .ensures, omega (arith, start .pre .1 .there .site .bytes, shape-by-inside (a .trail) (Store (a .rule)) (a .here) (a .site .target .size) (sym (tested .is-shape-well .ensures) ∙ not-false _ (left .if1 .left))))
 
 returns-2 : tie.Need-returns-2
 returns-2 c =

@@ -1,5 +1,5 @@
 -- Addends in two's complement.
-use mathlib.Core.Path.{_≡_, refl, sym, _∙_}
+use mathlib.Core.Path.{_≡_, refl, sym, ap, _∙_}
 use mathlib.Core.Bool.{true, false, not, _&&_, _||_}
 use mathlib.Core.List.{List}
 use Prim.Native.Nat.{ℕ, suc, _+_, _-_, _*_, _%_, _^_, _≤_, _<_}
@@ -8,11 +8,15 @@ use native.Mathlib.Decide.{decLt}
 use lib.Dec.{leb, eqb}
 use lib.IntN.{ℤ, pos, negsuc, natAbs}
 use borrow.Author.Tests.{lt-ltb, le-ltb, le-leb, lt-leb, ne-eqb}
+use Rattle.numbers_definitions.specs.declared.Class.{Class}
+use Rattle.numbers_definitions.specs.declared.Class.the-variants.{Elf32, Elf64}
+use Rattle.numbers_definitions.specs.Classes.{bits, addressBytes}
 use Rattle.numbers_definitions.specs.Bytes.{leAt}
 use Rattle.numbers_definitions.specs.Whole.{residue, signed, within, even}
-use Rattle.numbers_definitions.proofs.Laws.Whole.{sub-back, signed-residue}
+use Rattle.numbers_definitions.proofs.Laws.Whole.{sub-back, signed-residue, residue-signed}
 use Rattle.numbers_definitions.proofs.Laws.Tests.{never}
-use Rattle.elf_read.specs.Entries.{relocationAt}
+use Rattle.elf_read.specs.Headers.{classOf, addressWidth, relocationSize}
+use Rattle.elf_read.specs.Entries.{readRelocation, relocationAt}
 use Rattle.relocations_types.specs.declared.Decision.{Decision}
 use Rattle.relocations_types.specs.declared.Decision.the-variants.{Marker, Align, Store, Refused}
 use Rattle.relocations_decisions.specs.Decisions.{isStore, needsPair}
@@ -29,18 +33,23 @@ pub signed-high : (w a : ℕ) → 2 ^ w ≤ 2 * a → a < 2 ^ w → signed w a �
 unfolding signed
 signed-high w a h b = rw (le-ltb (2 * a) (2 ^ w) h) (sub-back a (2 ^ w) b)
 
--- A is the third word of the relocation's entry, as a signed number. The code keeps it in 64 bits, and that loses nothing.
-wider : (u : ℕ) → u < 2 ^ 32 → signed 64 (residue 64 (signed 32 u)) ≡ signed 32 u
-wider u h = go (decLt (2 * u) (2 ^ 32))
+-- A is the third number of the relocation's entry, as a signed number. The code keeps it in 64 bits, and that loses nothing.
+wider : (c : Class) (u : ℕ) → u < 2 ^ bits c → signed 64 (residue 64 (signed (bits c) u)) ≡ signed (bits c) u
+wider Elf64 u h = ap (signed 64) (residue-signed 64 u h)
+wider Elf32 u h = go (decLt (2 * u) (2 ^ 32))
   where
     go : Dec (2 * u < 2 ^ 32) → signed 64 (residue 64 (signed 32 u)) ≡ signed 32 u
     go (yes l) = rw (signed-low 32 u l) (signed-residue 64 (pos u) (omega arith))
     go (no l) = rw (signed-high 32 u (omega arith) h) (signed-residue 64 (negsuc (2 ^ 32 - suc u)) (omega arith))
 
-pub addend-is : (object : List ℕ) (x : Site) (j : ℕ) → leAt 4 object (x .rela .offset .0 + 12 * j + 8) < 2 ^ 32
-    → A object x j ≡ signed 32 (leAt 4 object (x .rela .offset .0 + 12 * j + 8))
-unfolding relocationAt
-addend-is object x j h = wider (leAt 4 object (x .rela .offset .0 + 12 * j + 8)) h
+-- the third number of entry j
+abbrev third : List ℕ → Site → ℕ → ℕ
+third object x j =
+    leAt (addressBytes (classOf object)) object (x .rela .offset .0 + relocationSize (classOf object) * j + 2 * addressBytes (classOf object))
+
+pub addend-is : (object : List ℕ) (x : Site) (j : ℕ) → third object x j < 2 ^ addressWidth object → A object x j ≡ signed (addressWidth object) (third object x j)
+unfolding relocationAt readRelocation
+addend-is object x j h = wider (classOf object) (third object x j) h
 
 -- ---- ALIGN
 

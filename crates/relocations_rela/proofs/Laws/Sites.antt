@@ -49,12 +49,13 @@ module _ (object addresses : List ℕ) (f : SoundObject object) (i : ℕ) (h : i
       let t : ℕ = sectionAt object i .info in
       let inside = loaded-inside object f t (rela .target-there) (rela .target-loaded) in
       record {
+        header = f .table .header;
         entries = f .sections i h .inside (λ z. omega arith) (λ z. omega arith);
         bytes = inside .inside;
         placed = p .ends t (rela .target-there) (loaded-allocated t (rela .target-loaded));
       }
 
   -- it has as many relocations as are counted for its section
-  pub count-is : count (siteAt object addresses i) ≡ relocationsIn object i
+  pub count-is : count object (siteAt object addresses i) ≡ relocationsIn object i
   unfolding siteAt relocationsIn
   count-is = rw e

@@ -2,15 +2,16 @@
 use mathlib.Core.Path.{_≡_, refl, ap, _∙_}
 use mathlib.Core.Bool.{Bool, true, false, not, cond, _&&_, _||_}
 use mathlib.Core.List.{List}
-use Prim.Native.Nat.{ℕ, zero, suc, _^_, _≤_, _<_}
+use Prim.Native.Nat.{ℕ, zero, suc, _+_, _^_, _≤_, _<_}
 use native.Mathlib.Omega.{arith}
 use lib.Dec.{leb, ltb, eqb}
-use borrow.Author.Tests.{le-leb, lt-ltb, ne-eqb}
+use borrow.Author.Tests.{le-leb, leb-true, lt-ltb, ne-eqb}
 use Rattle.numbers_definitions.specs.Whole.{signed}
 use Rattle.numbers_definitions.proofs.Laws.Tests.{and-left, and-right}
 use Rattle.elf_read.specs.declared.Relocation.{Relocation}
+use Rattle.relocations_types.specs.declared.Decision.{Decision}
 use Rattle.relocations_types.specs.declared.Decision.the-variants.{Align}
-use Rattle.relocations_decisions.specs.Decisions.{isStore, stackWidth}
+use Rattle.relocations_decisions.specs.Decisions.{isStore, touched, stackWidth}
 use Rattle.relocations_rela.specs.declared.sites.Site.{Site}
 use Rattle.relocations_rela.specs.declared.shape.Trail.{Trail}
 use Rattle.relocations_rela.specs.declared.shape.Previous.{Previous}
@@ -87,3 +88,8 @@ unfolding shapeBy
 padded-by t r size kept b =
     let a : addendWell Align (r .offset .0) size (signed 64 (r .addend)) ≡ true = search (and-left, and-right) in
     padded-addend (r .offset .0) size (r .addend) a b
+
+-- the bytes that are touched lie in the section
+pub shape-by-inside : (t : Trail) (d : Decision) (r : Relocation) (size : ℕ) → shapeBy t d r size ≡ true → r .offset .0 + touched d ≤ size
+unfolding shapeBy
+shape-by-inside t d r size e = let inside : leb (r .offset .0 + touched d) size ≡ true = search (and-left, and-right) in leb-true _ _ inside

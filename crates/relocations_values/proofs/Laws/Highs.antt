@@ -125,7 +125,7 @@ module _ (object : List ℕ) (x : Site) where
 
   -- ---- all of them
 
-  pub gathered : (l : List ℕ) (m last : ℕ) (falls : Bool) → m ≤ length l → Gathering l m last falls (count x) → Gathers object x l m falls
+  pub gathered : (l : List ℕ) (m last : ℕ) (falls : Bool) → m ≤ length l → Gathering l m last falls (count object x) → Gathers object x l m falls
   gathered l m last falls room g =
       record {
         lists = record { fits = room; each = g .each; all = λ k h. g .all k (h .0) (h .1); once = λ i j a b e. once i j a b e (decLt i j) (decLt j i) };

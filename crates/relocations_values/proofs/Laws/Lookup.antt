@@ -39,7 +39,7 @@ module _ (object : List ℕ) (x : Site) (l : List ℕ) (m : ℕ) (list : Listed 
     is-pair i h e = both (isHigh object x (getD l i 0)) (eqb (keys object x l i) (value .0)) (list .each i h .1) (eq-eqb _ _ e)
 
     -- a pair is listed
-    place-of : (k : ℕ) → k < count x → isPair object x value k ≡ true → (i : ℕ) × (i < m) × (getD l i 0 ≡ k) × (keys object x l i ≡ value .0)
+    place-of : (k : ℕ) → k < count object x → isPair object x value k ≡ true → (i : ℕ) × (i < m) × (getD l i 0 ≡ k) × (keys object x l i ≡ value .0)
     unfolding isPair
     place-of k h e =
         let there = list .all k h (and-left (isHigh object x k) (eqb (offset object x k) (value .0)) e) in
@@ -47,7 +47,7 @@ module _ (object : List ℕ) (x : Site) (l : List ℕ) (m : ℕ) (list : Listed 
         (there .0, there .1, there .2, ap (offset object x) (there .2) ∙ same)
 
     -- a relocation is no pair if no place that holds it has the offset
-    no-pair : (k : ℕ) → k < count x → ((i : ℕ) → i < m → getD l i 0 ≡ k → keys object x l i ≡ value .0 → ⊥) → isPair object x value k ≡ false
+    no-pair : (k : ℕ) → k < count object x → ((i : ℕ) → i < m → getD l i 0 ≡ k → keys object x l i ≡ value .0 → ⊥) → isPair object x value k ≡ false
     no-pair k h none = go (isPair object x value k) refl
       where
         go : (b : Bool) → isPair object x value k ≡ b → b ≡ false

@@ -1,13 +1,12 @@
 -- Laws of the search for the paired high half.
 use mathlib.Core.Path.{_≡_, refl, sym, ap, _∙_}
-use mathlib.Core.Bool.{Bool, true, false, cond, _&&_}
+use mathlib.Core.Bool.{Bool, true, false, cond}
 use mathlib.Core.List.{List}
 use Prim.Native.Nat.{ℕ, zero, suc, _+_, _≤_, _<_}
 use native.Mathlib.Omega.{arith}
 use native.Mathlib.Decide.{decLt}
-use lib.Dec.{ltb, eqb}
-use borrow.Author.Tests.{ltb-false, eqb-true, ne-eqb}
-use borrow.Author.Count.{below-more}
+use lib.Dec.{eqb}
+use borrow.Author.Tests.{eqb-true, ne-eqb}
 use Rattle.numbers_definitions.specs.First.{first}
 use Rattle.numbers_definitions.specs.Sums.{sum}
 use Rattle.numbers_definitions.specs.declared.SectionOffset.{SectionOffset}
@@ -57,45 +56,45 @@ module _ (p : ℕ → Bool) where
 
 module _ (object : List ℕ) (x : Site) (value : SectionOffset) where
   -- one relocation is a pair, and no other
-  pub pair-alone : (at : ℕ) → at < count x → isPair object x value at ≡ true → ((i : ℕ) → i < count x → (i ≡ at → ⊥) → isPair object x value i ≡ false)
+  pub pair-alone : (at : ℕ) → at < count object x → isPair object x value at ≡ true → ((i : ℕ) → i < count object x → (i ≡ at → ⊥) → isPair object x value i ≡ false)
       → pairOf object x value ≡ At at
   unfolding pairOf
   pair-alone at l here alone =
-      let one : howMany (isPair object x value) (count x) ≡ 1 = one-holds _ (count x) at l here alone in
-      let is : first (isPair object x value) (count x) ≡ at =
-      first-is _ (count x) at (omega arith) (λ k m. alone k (omega arith) (λ z. omega arith)) (λ _. here) in
+      let one : howMany (isPair object x value) (count object x) ≡ 1 = one-holds _ (count object x) at l here alone in
+      let is : first (isPair object x value) (count object x) ≡ at =
+      first-is _ (count object x) at (omega arith) (λ k m. alone k (omega arith) (λ z. omega arith)) (λ _. here) in
       rw (one, is)
 
-  pub pair-missing : ((i : ℕ) → i < count x → isPair object x value i ≡ false) → pairOf object x value ≡ NotOne
+  pub pair-missing : ((i : ℕ) → i < count object x → isPair object x value i ≡ false) → pairOf object x value ≡ NotOne
   unfolding pairOf
-  pair-missing h = rw (none-holds (isPair object x value) (count x) h)
+  pair-missing h = rw (none-holds (isPair object x value) (count object x) h)
 
-  pub pair-twice : (a b : ℕ) → a < b → b < count x → isPair object x value a ≡ true → isPair object x value b ≡ true → pairOf object x value ≡ NotOne
+  pub pair-twice : (a b : ℕ) → a < b → b < count object x → isPair object x value a ≡ true → isPair object x value b ≡ true → pairOf object x value ≡ NotOne
   unfolding pairOf
   pair-twice a b l m e f =
-      let many : eqb (howMany (isPair object x value) (count x)) 1 ≡ false =
-      ne-eqb (howMany (isPair object x value) (count x)) 1 (λ z. omega (arith, two-hold (isPair object x value) (count x) a b l m e f)) in
+      let many : eqb (howMany (isPair object x value) (count object x)) 1 ≡ false =
+      ne-eqb (howMany (isPair object x value) (count object x)) 1 (λ z. omega (arith, two-hold (isPair object x value) (count object x) a b l m e f)) in
       rw many
 
 -- a pair that was found is one of the relocations, and a PCREL_HI20 at the offset
-pub pair-there : (object : List ℕ) (x : Site) (value : SectionOffset) (k : ℕ) → pairOf object x value ≡ At k → (k < count x) × (isPair object x value k ≡ true)
+pub pair-there : (object : List ℕ) (x : Site) (value : SectionOffset) (k : ℕ) → pairOf object x value ≡ At k → (k < count object x) × (isPair object x value k ≡ true)
 unfolding pairOf
-pair-there object x value k e = go (eqb (howMany p (count x)) 1) refl e
+pair-there object x value k e = go (eqb (howMany p (count object x)) 1) refl e
   where
     p : ℕ → Bool
     p = isPair object x value
 
-    some : howMany p (count x) ≡ 1 → Dec (first p (count x) < count x) → first p (count x) < count x
+    some : howMany p (count object x) ≡ 1 → Dec (first p (count object x) < count object x) → first p (count object x) < count object x
     some one (yes l) = l
     some one (no l) =
-        let none : howMany p (count x) ≡ 0 = none-holds p (count x) (λ i m. first-below p (count x) i (omega arith)) in
+        let none : howMany p (count object x) ≡ 0 = none-holds p (count object x) (λ i m. first-below p (count object x) i (omega arith)) in
         absurd (omega arith)
 
-    go : (b : Bool) → eqb (howMany p (count x)) 1 ≡ b → cond b (At (first p (count x))) NotOne ≡ At k → (k < count x) × (p k ≡ true)
+    go : (b : Bool) → eqb (howMany p (count object x)) 1 ≡ b → cond b (At (first p (count object x))) NotOne ≡ At k → (k < count object x) × (p k ≡ true)
     go true q r =
-        let same : first p (count x) ≡ k = cc in
-        let there : first p (count x) < count x = some (eqb-true (howMany p (count x)) 1 q) (decLt (first p (count x)) (count x)) in
-        (omega arith, ap p (sym same) ∙ first-at p (count x) there)
+        let same : first p (count object x) ≡ k = cc in
+        let there : first p (count object x) < count object x = some (eqb-true (howMany p (count object x)) 1 q) (decLt (first p (count object x)) (count object x)) in
+        (omega arith, ap p (sym same) ∙ first-at p (count object x) there)
     go false q r =
         let z : _≡_ {A = ℕ} 0 1 = cc in
         absurd (omega arith)

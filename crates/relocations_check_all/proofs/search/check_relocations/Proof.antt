@@ -1,25 +1,23 @@
 -- `relocations_check_all::search::check_relocations` meets its contract. The invariant: `number` relocations are below section `i`, none of them breaks a rule, and their words are stored. The measure is what is left.
 use mathlib.Core.Path.{_≡_, refl, sym, ap, _∙_, subst}
-use mathlib.Core.Bool.{true, false}
-use Prim.Native.Nat.{ℕ, _+_, _-_, _≤_, _<_}
+use mathlib.Core.Bool.{true}
+use Prim.Native.Nat.{_+_, _-_, _≤_, _<_}
 use native.Mathlib.Numerals.{add-one}
 use native.Mathlib.Omega.{arith}
 use lib.ListN.{length}
 use borrow.Author.Tests.{not-true, not-false}
 use Rattle.elf_read.specs.Headers.{sectionCount}
-use Rattle.elf_read.specs.Sections.{countingRela, relocationsIn}
+use Rattle.elf_read.specs.Sections.{countingRela}
 use Rattle.elf_check.specs.Rules.{maxRelocations}
 use Rattle.elf_check.proofs.Laws.Bounds.{relocations-few}
 use Rattle.placing_symbols.proofs.Laws.Arrays.{listed-is}
 use Rattle.relocations_rela.specs.declared.sites.Site.{Site}
 use Rattle.relocations_rela.specs.Sites.{siteAt, count}
 use Rattle.relocations_rela.specs.Requires.{SoundSite}
-use Rattle.relocations_rela.proofs.Laws.Sites.{sound-site, count-is}
+use Rattle.relocations_rela.proofs.Laws.Sites.{sound-site}
 use Rattle.relocations_rules.specs.declared.RelocationCheck.the-variants.{Passed, Broken}
 use Rattle.relocations_rules.specs.Rules.{isResolved}
 use Rattle.relocations_rules.proofs.Laws.Rules.{resolved-there}
-use Rattle.relocations_rules.proofs.Laws.Search.{counted}
-use Rattle.relocations_check_all.specs.Sites.{WordedBelow, SiteChecked}
 use Rattle.relocations_check_all.proofs.Laws.Search.{Below, below-start, below-skip, site-room, below-site, broken-there, below-broken, below-all, broken-passed}
 use borrow.Author.Needs.{needs}
 use Rattle.relocations_check_all.proofs.search.check_relocations.Statement.{statement}
@@ -85,11 +83,11 @@ abbrev sited : tie.After-check-site-arg3 Inv-search μ-search → tie.After-site
 sited c = c .before .before .before
 
 -- the relocations of the site have room in the lists
-room : (c : tie.After-site-at Inv-search μ-search) → head (counted-at c) .search .number + count (c .site-at .result) ≤ maxRelocations
+room : (c : tie.After-site-at Inv-search μ-search) → head (counted-at c) .search .number + count (entered (begun (head (counted-at c))) .args .object .now) (c .site-at .result) ≤ maxRelocations
 room c =
     let at = head (counted-at c) in
     let start = entered (begun at) in
-    omega (arith, at .search .inv .1 .number-is, ap count (site-is c), site-room (start .args .object .now) (start .args .order .now) (start .args .addresses) (start .pre .0) (at .search .i) (here (counted-at c)) (counts c))
+    omega (arith, at .search .inv .1 .number-is, ap (count (start .args .object .now)) (site-is c), site-room (start .args .object .now) (start .args .order .now) (start .args .addresses) (start .pre .0) (at .search .i) (here (counted-at c)) (counts c))
 
 check-site-requires : tie.Need-check-site-requires Inv-search μ-search
 check-site-requires c κs =
@@ -144,10 +142,15 @@ cast-t26 c = let at : tie.Then2 Inv-search μ-search = search in omega (arith, p
 abbrev went-on : tie.Else2 Inv-search μ-search → tie.After-check-site Inv-search μ-search
 went-on c = c .before .before .before .before .before .before .before .before
 
+relocation-entries-requires : tie.Need-relocation-entries-requires Inv-search μ-search
+relocation-entries-requires c κs =
+    let on : tie.Else2 Inv-search μ-search = search in
+    entered (begun (head (counted-at (site-checked (went-on on))))) .pre .0 .table .header
+
 add-number : tie.Need-add-number Inv-search μ-search
 add-number c =
     let on : tie.Else2 Inv-search μ-search = search in
-    omega (arith, room (site-checked (went-on on)), c .relocation-entries .ensures .0)
+    omega (arith, room (site-checked (went-on on)), c .relocation-entries .ensures)
 
 search-again-2 : tie.Need-search-again-2 Inv-search μ-search
 search-again-2 c =
@@ -163,7 +166,7 @@ search-again-2 c =
     let next =
     below-site (a .object .now) (a .order .now) (a .addresses) (f .0) (now .search .i) (here (counted-at at)) (counts at) _ _ _ _ _ (inv .1) _ _ _ (site-is at)
     (e .0 (a .order .now) (a .addresses) (f .3)) (on .if2 .left) in
-    (omega (arith, counted-at at .before .search-test .taken), rw (add-one, c .relocation-entries .ensures .0) next, e .3 ∙ inv .2, e .1 ∙ inv .3, e .2 ∙ inv .4, inv .5)
+    (omega (arith, counted-at at .before .search-test .taken), rw (add-one, c .relocation-entries .ensures) next, e .3 ∙ inv .2, e .1 ∙ inv .3, e .2 ∙ inv .4, inv .5)
 
 returns : tie.Need-returns Inv-search μ-search
 returns c =
@@ -210,7 +213,7 @@ check-relocations-spec =
     (λ c κs. search needs)
     add-t25
     cast-t26
-    (λ c κs. search needs)
+    relocation-entries-requires
     add-number
     (λ c. search needs)
     (λ c. search needs)

@@ -34,8 +34,11 @@ abbrev μ-loop : tie.MeasureT-loop
 
 -- ---- the places on the way: an inserted line moves one of them
 
+abbrev counted : tie.After-no-trail Inv-loop μ-loop → tie.After-relocation-entries Inv-loop μ-loop
+counted c = c .before
+
 abbrev entered : tie.After-no-trail Inv-loop μ-loop → tie.Start Inv-loop μ-loop
-entered c = c .before .before .before .before .before .before .before .before
+entered c = counted c .before .before .before .before .before .before .before
 
 abbrev head : tie.In-loop Inv-loop μ-loop → tie.At-loop Inv-loop μ-loop
 head c = c .before
@@ -58,6 +61,10 @@ kind : (c : tie.After-decide Inv-loop μ-loop)
     → c .decide .result ≡ decisionAt (entered (start (head (turn (read c)))) .args .object .now) (entered (start (head (turn (read c)))) .args .site) (head (turn (read c)) .loop .j)
 kind c = c .decide .ensures ∙ ap (λ r. decision (r .kind)) (read c .read-relocation .ensures)
 
+-- a turn of the loop has a relocation
+there : (c : tie.In-loop Inv-loop μ-loop) → let a = entered (start (head c)) .args in head c .loop .j < count (a .object .now) (a .site)
+there c = omega (arith, c .loop-test .taken, counted (start (head c)) .relocation-entries .ensures)
+
 -- ---- the needs
 
 loop-holds : tie.Need-loop-holds Inv-loop μ-loop
@@ -77,14 +84,14 @@ loop-holds c =
     )
 
 read-relocation-requires : tie.Need-read-relocation-requires Inv-loop μ-loop
-read-relocation-requires c κs = let f = entered (start (head c)) .pre in record { inside = omega (arith, f .1 .entries) }
+read-relocation-requires c κs = let f = entered (start (head c)) .pre in record { header = f .1 .header; bytes = record { inside = f .1 .entries }; there = there c }
 
 check-one-requires : tie.Need-check-one-requires Inv-loop μ-loop
 check-one-requires c κs =
     let at : tie.After-decide Inv-loop μ-loop = search in
     let now = head (turn (read at)) in
     let f = entered (start now) .pre in
-    (f .0, record { there = record { site = f .1; there = omega arith }; read = read at .read-relocation .ensures; decided = kind at; followed = now .loop .inv .1 }, now .loop .inv .2)
+    (f .0, record { there = record { site = f .1; there = there (turn (read at)) }; read = read at .read-relocation .ensures; decided = kind at; followed = now .loop .inv .1 }, now .loop .inv .2)
 
 abbrev checked : tie.Then1 Inv-loop μ-loop → tie.After-check-one Inv-loop μ-loop
 checked c = c .before .before .before .before
@@ -103,7 +110,7 @@ returns c =
             passed = λ z. absurd (c .if1 .taken z);
             broken = λ some.
                 record {
-                  there = turn (read (decided one)) .loop-test .taken;
+                  there = there (turn (read (decided one)));
                   below = s .kept;
                   number-is = number-found (a .object .now) o l (a .site) (a .values .now) (a .states .now) (at .pre .0 .sound) v (now .loop .j) _ _ _ comes;
                   some = some;
@@ -194,7 +201,7 @@ returns-2 c =
     let now : tie.At-loop Inv-loop μ-loop = search in
     let a = entered (start now) .args in
     let inv = now .loop .inv in
-    let all : now .loop .j ≡ count (a .site) = omega arith in (
+    let all : now .loop .j ≡ count (a .object .now) (a .site) = omega (arith, counted (start now) .relocation-entries .ensures) in (
       (λ o l v.
           let s = inv .6 o l v in
           record {
@@ -214,7 +221,7 @@ check-site-spec =
     (tie.spec
     Inv-loop
     μ-loop
-    (λ c. search needs)
+    (λ c κs. search needs)
     (λ c κs. search needs)
     loop-holds
     read-relocation-requires

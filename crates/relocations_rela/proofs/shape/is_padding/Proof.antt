@@ -14,7 +14,7 @@ returns c =
 returns-2 : tie.Need-returns-2
 returns-2 c =
     let a = c .before .before .args in
-    sym (padding-is (a .at .0) (a .size) (a .addend) (c .before .if1 .left))
+    rw (c .ends-within .ensures) (sym (padding-is (a .at .0) (a .size) (a .addend) (c .before .if1 .left)))
 
 pub is-padding-spec : {M : Type 1} → statement M
-is-padding-spec = tie.close (tie.spec returns (λ c. search needs) (λ c. search needs) returns-2)
+is-padding-spec = tie.close (tie.spec returns (λ c κs. search needs) returns-2)

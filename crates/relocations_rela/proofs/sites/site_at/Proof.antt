@@ -15,7 +15,7 @@ read-section-requires-2 c κs =
     let s = a .object .now in
     let there : sectionAt s (a .i) .info < sectionCount s = f .0 .sections (a .i) (f .1) .rela (f .2) .target-there in
     let info : c .before .read-section .result .info < sectionCount s = rw (c .before .read-section .ensures) there in
-    record { header = f .0 .table .header; inside = omega (arith, info, f .0 .table .inside) }
+    (f .0 .table, info)
 
 array-read-t11 : tie.Need-array-read-t11
 array-read-t11 c =

@@ -49,7 +49,7 @@ returns : tie.Need-returns Inv-loop μ-loop
 returns c =
     let s : tie.Start Inv-loop μ-loop = search in
     let l : tie.At-loop Inv-loop μ-loop = search in
-    let end : l .loop .k ≡ count (s .args .site) = omega arith in
+    let end : l .loop .k ≡ count (s .args .object .now) (s .args .site) = omega arith in
     gathered _ _ _ _ _ _ (omega (arith, l .loop .inv .2 .fits)) (rw end at (l .loop .inv .2))
 
 pub gather-spec : {M : Type 1} → statement M

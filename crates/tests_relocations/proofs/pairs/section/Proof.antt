@@ -8,7 +8,6 @@ use lib.Seq.{length-take-le}
 use Rattle.numbers_definitions.proofs.Laws.Tests.{and-left}
 use Rattle.elf_read.specs.Headers.{sectionCount}
 use Rattle.elf_read.specs.Sections.{sectionAt, loaded}
-use Rattle.elf_read.specs.Requires.{Inside}
 use Rattle.elf_check.specs.Requires.{SoundObject}
 use Rattle.elf_header.proofs.Laws.Headers.{header-short}
 use Rattle.elf_check.proofs.Laws.Bounds.{loaded-inside}
@@ -19,8 +18,7 @@ use Rattle.tests_relocations.proofs.pairs.section.Tie as tie
 -- a loaded section is no larger than an object may be
 size-small : (s : List ℕ) (f : SoundObject s) (t : ℕ) → t < sectionCount s → loaded (sectionAt s t) ≡ true → sectionAt s t .size ≤ 65536
 size-small s f t h e =
-    let inside : Inside s (sectionAt s t .offset .0) (sectionAt s t .size) = loaded-inside s f t h e in
-    omega (arith, header-short s (f .header))
+    omega (arith, loaded-inside s f t h e .inside, header-short s (f .header))
 
 -- ---- where the header has been looked at
 
@@ -66,7 +64,6 @@ section-spec =
     (tie.spec
     (λ c κs. search needs)
     (λ c κs. search needs)
-    (λ c. search needs)
     (λ c. search needs)
     (λ c. search needs)
     part-lay-end
