@@ -4,7 +4,7 @@ use mathlib.Core.Bool.{false}
 use mathlib.Core.List.{List, [], _∷_}
 use Prim.Native.Nat.{ℕ, _≤_, _<_}
 use lib.ListN.{length, getD}
-use Rattle.elf_read.specs.Headers.{sectionCount}
+use Rattle.elf_read.specs.Headers.{classOf, sectionCount}
 use Rattle.elf_read.specs.Sections.{sectionAt, allocated}
 use Rattle.order_format.specs.Orders.{placementCount}
 use Rattle.order_format.specs.Windows.{maxImage}
@@ -50,7 +50,7 @@ pub record Demand2 (installs : InstallCall) : Type 0 where
   -- "Once done, each laid byte is the object's own or the field that the RISC-V ELF psABI 1.0 asks for. .. No other image byte changes."
   pub laid : (object order : List ℕ) (f : Files) → installs object order f .answer ≡ done → Laid object order (f .image) (installs object order f .after .image)
   -- "An order without placements fits only an object with nothing to place."
-  pub nothing-to-place : (object order : List ℕ) (f : Files) → installs object order f .answer ≡ done → placementCount order ≡ 0
+  pub nothing-to-place : (object order : List ℕ) (f : Files) → installs object order f .answer ≡ done → placementCount (classOf object) order ≡ 0
       → (t : ℕ) → t < sectionCount object → allocated (sectionAt object t) ≡ false
 
 -- Document 01, "Ledger": what a call that is done leaves there

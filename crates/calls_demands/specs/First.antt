@@ -1,13 +1,14 @@
 -- "Checks run in this order. Rows go upward. Records go by RELA row, then file order, each through 9 to 14 before the next." This file
--- says what the first broken rule of any list of checks is, and gives document 01's table as such a list.
+-- says what the first broken rule of any list of checks is, and gives document 01's table as such a list. Document 02: "the class is read
+-- before the order, so the checks run 1, 4, 2, 3, 5 for both classes".
 use mathlib.Core.Logic.{_⊎_}
 use mathlib.Core.Path.{_≡_}
 use mathlib.Core.List.{List}
 use Prim.Native.Nat.{ℕ, _^_, _<_}
 use lib.ListN.{length}
-use Rattle.elf_read.specs.Headers.{addressWidth, sectionCount}
+use Rattle.order_lookup.specs.Addresses.{baseFor}
+use Rattle.elf_read.specs.Headers.{classOf, addressWidth, sectionCount}
 use Rattle.elf_read.specs.Entries.{relocationCount}
-use Rattle.order_format.specs.Orders.{base}
 use Rattle.elf_check.specs.Sound.{SoundSection}
 use Rattle.journal_format.specs.Journals.{Sound}
 use Rattle.plan_pieces.specs.Answers.{Answer, says}
@@ -64,9 +65,9 @@ each m n R c = check m (rule n R nil) c
 unfoldable pub table : List ℕ → List ℕ → Files → Checks
 table object order f =
     one 1 (Sound (f .journal) (length (f .image)))
-    (one 2 (OrderWell order)
-    (one 3 (WindowWell (addressWidth object) (base order) (length (f .image)))
     (one 4 (HeaderWell object)
+    (one 2 (OrderWell (classOf object) order)
+    (one 3 (WindowWell (addressWidth object) (baseFor object order) (length (f .image)))
     (one 5 (TableWell object)
     (each (sectionCount object) 5 (SoundSection object)
     (each (2 ^ 32) 6 (PlacedAsAllocated object order)

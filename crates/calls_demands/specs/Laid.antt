@@ -8,8 +8,7 @@ use Rattle.numbers_definitions.specs.Bytes.{leAt, part}
 use Rattle.elf_read.specs.Headers.{addressWidth, sectionCount}
 use Rattle.elf_read.specs.Sections.{sectionAt, countingRela}
 use Rattle.elf_read.specs.Entries.{bytesOf}
-use Rattle.order_format.specs.Orders.{base}
-use Rattle.order_lookup.specs.Addresses.{addresses}
+use Rattle.order_lookup.specs.Addresses.{addressesFor, baseFor}
 use Rattle.plan_pieces.specs.declared.Span.{Span}
 use Rattle.placing_check.specs.Placing.{hasBytes}
 use Rattle.instructions_fields.specs.declared.Field.the-variants.{U}
@@ -31,7 +30,7 @@ use Rattle.relocations_bytes.specs.Promises.{ReadsBack, AddUp}
 module _ (object order : List ℕ) where
   -- where section t starts in the image: "its address less that order's base"
   abbrev pub start : ℕ → ℕ
-  start t = getD (addresses order) t 0 - base order
+  start t = getD (addressesFor object order) t 0 - baseFor object order
 
   -- section t as it stands in an image
   abbrev pub sectionIn : List ℕ → ℕ → List ℕ
@@ -53,7 +52,7 @@ module _ (object order : List ℕ) where
 
   -- the site of RELA section i
   abbrev pub siteOf : ℕ → Site
-  siteOf i = siteAt object (addresses order) i
+  siteOf i = siteAt object (addressesFor object order) i
 
   -- section i is a RELA section that counts, and relocation j is one of its relocations
   pub record IsRelocation (i j : ℕ) : Type 0 where
@@ -71,7 +70,7 @@ module _ (object order : List ℕ) where
 
   -- T of relocation j of RELA section i
   abbrev pub target : ℕ → ℕ → ℕ
-  target i j = targetAt object order (addresses order) (siteOf i) j
+  target i j = targetAt object order (addressesFor object order) (siteOf i) j
 
   -- the image before and after a done install
   pub record Laid (before after : List ℕ) : Type 0 where
@@ -82,7 +81,7 @@ module _ (object order : List ℕ) where
     pub own : (t b : ℕ) → Covers t (start t + b) → Untouched t b → getD after (start t + b) 0 ≡ getD (bytesOf object (sectionAt object t)) b 0
     -- "or the field that the RISC-V ELF psABI 1.0 asks for": each relocation, read back by the manual. So "every jump gives its whole
     -- distance", and the bits outside a field are the object's.
-    pub fields : (i j : ℕ) → IsRelocation i j → ReadsBack object order (addresses order) (siteOf i) (sectionIn after (sectionAt object i .info)) j
+    pub fields : (i j : ℕ) → IsRelocation i j → ReadsBack object order (addressesFor object order) (siteOf i) (sectionIn after (sectionAt object i .info)) j
     -- "the high half and the low half laid for one address .. add up to it modulo 2^32" (2^w, where addresses have w bits): 26 with 27 or
     -- 28, in any two sections
     pub addresses-whole : (h i l j : ℕ) → IsRelocation h i → IsRelocation l j → (a b : Rule) → decisionAt object (siteOf h) i ≡ Store a → decisionAt object (siteOf l) j ≡ Store b
@@ -91,4 +90,4 @@ module _ (object order : List ℕ) where
     -- ".. or distance": 24 or 25 with the one 23 that is its pair
     pub distances-whole : (i j : ℕ) → IsRelocation i j → (b : Rule) → decisionAt object (siteOf i) j ≡ Store b → b .calculation ≡ Of Low Paired
         → (k : ℕ) × (k < count object (siteOf i)) × (pairOf object (siteOf i) (symbol object (siteOf i) j .value) ≡ At k)
-        × AddUp (addressWidth object) U (bytesAt after i k 4) (b .field) (bytesAt after i j (b .size)) (distanceAt object order (addresses order) (siteOf i) k)
+        × AddUp (addressWidth object) U (bytesAt after i k 4) (b .field) (bytesAt after i j (b .size)) (distanceAt object order (addressesFor object order) (siteOf i) k)

@@ -19,16 +19,17 @@ use Rattle.relocations_types.specs.declared.Part.{Part}
 use Rattle.relocations_types.specs.declared.Part.the-variants.{Whole, Distance, High, Low, BothHalves}
 use Rattle.relocations_types.specs.declared.Rule.{Rule}
 use Rattle.relocations_types.specs.declared.Decision.the-variants.{Align, Store}
-use Rattle.numbers_definitions.specs.Classes.{by}
+use Rattle.numbers_definitions.specs.declared.Class.{Class}
+use Rattle.numbers_definitions.specs.Classes.{by, addressBytes}
 use Rattle.elf_read.specs.Headers.{classOf, addressWidth, headerSize, sectionSize, sectionTable, sectionCount, maxSections}
 use Rattle.elf_read.specs.Sections.{sectionAt, allocated, isAllocated, symbolTable}
 use Rattle.elf_read.specs.Entries.{symbolAt, symbolCount, relocationCount, locationOf}
 use Rattle.elf_header.specs.Headers.{maxObject}
 use Rattle.elf_check.specs.Sound.{SoundSection}
-use Rattle.order_format.specs.Orders.{maxPlacements, maxExternals, base, placementCount, placement, externalsStart, externalCount, external}
+use Rattle.order_format.specs.Orders.{maxPlacements, maxExternals, placementCount, placement, externalsStart, externalCount, external}
 use Rattle.order_format.specs.Windows.{maxImage}
 use Rattle.order_lookup.specs.Values.{isGiven, externalValue}
-use Rattle.order_lookup.specs.Addresses.{addresses, placedAt}
+use Rattle.order_lookup.specs.Addresses.{placedAt, addressesFor, baseFor}
 use Rattle.journal_format.specs.Journals.{maxEntries, oldAt, count as countOf, held, Sound}
 use Rattle.plan_pieces.specs.declared.Span.{Span}
 use Rattle.journal_history.specs.Calls.{Files}
@@ -46,22 +47,23 @@ use Rattle.calls_demands.specs.Laid.{IsSpan}
 
 -- ---- 1 "ledger unsound": `Sound` of the journal
 
--- ---- 2 "order bytes malformed": "sections in a fixed order, each after its u32 count"
+-- ---- 2 "order bytes malformed": "sections in a fixed order, each after its u32 count". c is the class of the object; for class 2 "the order's
+-- base, addresses and values become u64".
 
-pub record OrderWell (order : List ℕ) : Type 0 where
-  -- "window base (count 1; one u32)"
-  pub long : 16 ≤ length order
+pub record OrderWell (c : Class) (order : List ℕ) : Type 0 where
+  -- "window base (count 1; one u32)"; the three counts and the base are there
+  pub long : 12 + addressBytes c ≤ length order
   pub one-base : leAt 4 order 0 ≡ 1
   -- "placements (count at most 32; row u32, address u32)"
-  pub few-placements : placementCount order ≤ maxPlacements
-  pub placements-inside : externalsStart order ≤ length order
+  pub few-placements : placementCount c order ≤ maxPlacements
+  pub placements-inside : externalsStart c order ≤ length order
   -- "outside values (count at most 1,024; symbol u32, value u32)"
-  pub few-externals : externalCount order ≤ maxExternals
+  pub few-externals : externalCount c order ≤ maxExternals
   -- "no byte left over"
-  pub whole : length order ≡ externalsStart order + 8 * externalCount order
+  pub whole : length order ≡ externalsStart c order + (4 + addressBytes c) * externalCount c order
   -- "Both lists strictly ascending by index"
-  pub placements-ascend : (i : ℕ) → suc i < placementCount order → placement order i .index < placement order (suc i) .index
-  pub externals-ascend : (i : ℕ) → suc i < externalCount order → external order i .index < external order (suc i) .index
+  pub placements-ascend : (i : ℕ) → suc i < placementCount c order → placement c order i .index < placement c order (suc i) .index
+  pub externals-ascend : (i : ℕ) → suc i < externalCount c order → external c order i .index < external c order (suc i) .index
 
 -- ---- 3 "window rule broken": "the image covers base up to base + its length; length 0 to 65,536, end at most 2^32", for
 -- addresses of w bits 2^w
@@ -73,12 +75,12 @@ pub record WindowWell (w start len : ℕ) : Type 0 where
 -- ---- 4 "header or file length"
 
 pub record HeaderWell (object : List ℕ) : Type 0 where
-  -- "at most 65,536 bytes", "at least 52 bytes"
+  -- "at most 65,536 bytes", "at least 52 bytes"; in class 2 "header 64 bytes"
   pub short : length object ≤ maxObject
   pub long : headerSize (classOf object) ≤ length object
-  -- "magic 7F 45 4C 46, class 1, data 1, ident version 1, e_type 1, e_machine 243, e_version 1, e_ehsize 52"
+  -- "magic 7F 45 4C 46, class 1, data 1, ident version 1, e_type 1, e_machine 243, e_version 1, e_ehsize 52"; "Accept ELF class 2"
   pub magic : leAt 4 object 0 ≡ 0x464C457F
-  pub class-32 : leAt 1 object 4 ≡ 1
+  pub class-known : (leAt 1 object 4 ≡ 1) ⊎ (leAt 1 object 4 ≡ 2)
   pub little-endian : leAt 1 object 5 ≡ 1
   pub ident-version : leAt 1 object 6 ≡ 1
   pub relocatable : leAt 2 object 16 ≡ 1
@@ -88,7 +90,7 @@ pub record HeaderWell (object : List ℕ) : Type 0 where
 
 -- ---- 5 "row table (place 0) or row rule"
 
--- "e_shentsize 40, 1 to 32 rows of 40 bytes, wholly inside the file"
+-- "e_shentsize 40, 1 to 32 rows of 40 bytes, wholly inside the file"; in class 2 "rows 64"
 pub record TableWell (object : List ℕ) : Type 0 where
   pub entry-size : leAt 2 object (by (classOf object) 46 58) ≡ sectionSize (classOf object)
   pub some : 1 ≤ sectionCount object
@@ -100,7 +102,7 @@ pub record TableWell (object : List ℕ) : Type 0 where
 -- ---- 6 "placements differ from allocated rows": a number is placed exactly when it is that of an allocated section
 
 abbrev pub PlacedAsAllocated : List ℕ → List ℕ → ℕ → Type 0
-PlacedAsAllocated object order i = isGiven (placedAt order i) ≡ isAllocated object i
+PlacedAsAllocated object order i = isGiven (placedAt (classOf object) order i) ≡ isAllocated object i
 
 -- ---- 7 "outside value for a wrong symbol": "only undefined symbols (section 0, index above 0)"
 
@@ -110,7 +112,7 @@ pub record Undefined (object : List ℕ) (k : ℕ) : Type 0 where
   pub no-section : symbolAt object (sectionAt object (symbolTable object)) k .section ≡ 0
 
 abbrev pub ValuedIfUndefined : List ℕ → List ℕ → ℕ → Type 0
-ValuedIfUndefined object order k = isGiven (externalValue order k) ≡ true → Undefined object k
+ValuedIfUndefined object order k = isGiven (externalValue (classOf object) order k) ≡ true → Undefined object k
 
 -- ---- 8 "placing", of an allocated section i
 
@@ -126,7 +128,7 @@ pub record PlacedWell (object a : List ℕ) (start len i : ℕ) : Type 0 where
       → (endOf object a j ≤ getD a i 0) ⊎ (endOf object a i ≤ getD a j 0)
 
 abbrev pub PlacedIfAllocated : List ℕ → List ℕ → ℕ → ℕ → Type 0
-PlacedIfAllocated object order len i = allocated (sectionAt object i) ≡ true → PlacedWell object (addresses order) (base order) len i
+PlacedIfAllocated object order len i = allocated (sectionAt object i) ≡ true → PlacedWell object (addressesFor object order) (baseFor object order) len i
 
 -- ---- of a whole number: -back ≤ z ≤ ahead, and it is even
 
@@ -220,13 +222,13 @@ BoundaryWell object x j = decisionAt object x j ≡ Align → (P object x j + na
 module _ (object order : List ℕ) where
   -- its site, and its number there
   abbrev pub site : ℕ → Site
-  site k = siteAt object (addresses order) (locationOf object k .section)
+  site k = siteAt object (addressesFor object order) (locationOf object k .section)
 
   abbrev pub entryOf : ℕ → ℕ
   entryOf k = locationOf object k .entry
 
   abbrev pub valueOf : ℕ → SymbolValue
-  valueOf k = valueAt object order (addresses order) (site k) (entryOf k)
+  valueOf k = valueAt object order (addressesFor object order) (site k) (entryOf k)
 
   abbrev pub Shape : ℕ → Type 0
   Shape k = ShapeWell object (site k) (entryOf k)
@@ -241,7 +243,7 @@ module _ (object order : List ℕ) where
   OnePair k = PairWell object (site k) (entryOf k)
 
   abbrev pub Reaches : ℕ → Type 0
-  Reaches k = ReachWell object (site k) (entryOf k) (targetAt object order (addresses order) (site k) (entryOf k))
+  Reaches k = ReachWell object (site k) (entryOf k) (targetAt object order (addressesFor object order) (site k) (entryOf k))
 
   abbrev pub OnBoundary : ℕ → Type 0
   OnBoundary k = BoundaryWell object (site k) (entryOf k)
@@ -256,8 +258,8 @@ pub record Room (object order journal : List ℕ) : Type 0 where
 
 pub record Rules (object order : List ℕ) (f : Files) : Type 0 where
   pub journal-sound : Sound (f .journal) (length (f .image))
-  pub order-well : OrderWell order
-  pub window-well : WindowWell (addressWidth object) (base order) (length (f .image))
+  pub order-well : OrderWell (classOf object) order
+  pub window-well : WindowWell (addressWidth object) (baseFor object order) (length (f .image))
   pub header-well : HeaderWell object
   pub table-well : TableWell object
   pub sections-well : (i : ℕ) → i < sectionCount object → SoundSection object i

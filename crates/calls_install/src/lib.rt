@@ -2,6 +2,8 @@
 ghost use mathlib.Core.Path.{_≡_};
 ghost use mathlib.Core.Bool.{true};
 ghost use lib.ListN.{length};
+ghost use Rattle.elf_read.specs.Headers.{classOf};
+ghost use Rattle.elf_header.specs.Headers.{headerAllowed};
 ghost use Rattle.order_format.specs.Orders.{reading};
 ghost use Rattle.journal_format.specs.Journals.{sound};
 ghost use Rattle.journal_history.specs.Calls.{files};
@@ -43,7 +45,7 @@ fn fit(
     Answer::Done
 }
 
-// Checks 3 to 15, and laying. What the checks work out is kept in scratch arrays on the stack, so that it is worked out once.
+// Check 3, checks 5 to 15, and laying. What the checks work out is kept in scratch arrays on the stack, so that it is worked out once.
 fn judge_and_fit(
     object: &[u8],
     order: &[u8],
@@ -51,7 +53,7 @@ fn judge_and_fit(
     image: &mut [u8],
     journal: &mut [u8],
 ) -> Answer
-    requires { ⌜ (reading (now order) ≡ Reading.WellFormed counts) × (sound (now journal) (length (now image)) ≡ true) ⌝ }
+    requires { ⌜ (headerAllowed (now object) ≡ true) × (reading (classOf (now object)) (now order) ≡ Reading.WellFormed counts) × (sound (now journal) (length (now image)) ≡ true) ⌝ }
     ensures { λ r. ⌜ record { answer = answerOf r; after = files (now (image .exit)) (now (journal .exit)) }
         ≡ ourInstall (now (object .entry)) (now (order .entry)) (files (now (image .entry)) (now (journal .entry))) ⌝ }
 {
@@ -85,7 +87,8 @@ fn judge_and_fit(
     )
 }
 
-// Installs an object by an order (document 01: a fit). Nothing is written before the last check has passed.
+// Installs an object by an order (document 01: a fit). Nothing is written before the last check has passed. The header is checked
+// first, because the object's class says how the order is read.
 pub fn install(object: &[u8], order: &[u8], image: &mut [u8], journal: &mut [u8]) -> Answer
     ensures { λ r. ⌜ record { answer = answerOf r; after = files (now (image .exit)) (now (journal .exit)) }
         ≡ ourInstall (now (object .entry)) (now (order .entry)) (files (now (image .entry)) (now (journal .entry))) ⌝ }
@@ -93,7 +96,10 @@ pub fn install(object: &[u8], order: &[u8], image: &mut [u8], journal: &mut [u8]
     if !journal_format::is_sound(journal, image.len()) {
         return Answer::JournalUnsound;
     }
-    match order_format::read_order(order) {
+    if !elf_header::check_header(object) {
+        return Answer::BadHeader;
+    }
+    match order_format::read_order(elf_read::class_of(object), order) {
         Reading::Malformed => Answer::OrderMalformed,
         Reading::WellFormed(counts) => judge_and_fit(object, order, counts, image, journal),
     }

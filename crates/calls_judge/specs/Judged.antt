@@ -6,7 +6,7 @@ use Prim.Native.Nat.{ℕ}
 use lib.ListN.{length}
 use lib.Dec.{eqb}
 use Rattle.elf_check.specs.Rules.{maxRelocations}
-use Rattle.order_lookup.specs.Addresses.{addresses as «the-addresses»}
+use Rattle.order_lookup.specs.Addresses.{addressesFor}
 use Rattle.relocations_check_all.specs.Sites.{Worked}
 use Rattle.calls_judgement.specs.Judgement.{judgement}
 use Rattle.calls_judge.specs.declared.Judged.{Judged}
@@ -20,7 +20,7 @@ pub record Lent (highs words sizes : List ℕ) : Type 0 where
 
 -- the address array, and what each relocation stores
 pub record Ready (object order array words sizes : List ℕ) : Type 0 where
-  pub addresses-are : array ≡ «the-addresses» order
+  pub addresses-are : array ≡ addressesFor object order
   pub worked : Worked object order array words sizes
 
 -- The answer is that of the judgement. Where it is that of an install that is done, everything is ready for laying.

@@ -1,18 +1,20 @@
-// What a call answers, and the judgement: checks 3 to 14 over lent bytes of object and order.
+// What a call answers, and the judgement: check 3 and checks 5 to 14 over lent bytes of object and order.
 ghost use mathlib.Core.Path.{_≡_};
 ghost use mathlib.Core.Bool.{true};
 ghost use lib.Dec.{eqb};
+ghost use Rattle.elf_read.specs.Headers.{classOf};
+ghost use Rattle.elf_header.specs.Headers.{headerAllowed};
 ghost use Rattle.order_format.specs.Orders.{reading};
 ghost use Rattle.placing_match.specs.Placements.{placementCheck};
 ghost use Rattle.relocations_rules.specs.Search.{number, isBroken};
 ghost use Rattle.calls_judgement.specs.Requires.{Readable, Named, Placeable};
 ghost use Rattle.plan_pieces.specs.Answers.{says, packed};
-ghost use Rattle.order_lookup.specs.Addresses.{noAddresses, addresses as «the-addresses»};
+ghost use Rattle.order_lookup.specs.Addresses.{noAddresses, addressesFor};
 ghost use Rattle.calls_judge.specs.Answers.{answerOf};
 ghost use Rattle.calls_judge.specs.Judged.{Lent, JudgedWell};
 use elf_check::MAX_SYMBOLS;
-use elf_check::ObjectCheck;
-use numbers_definitions::Class;
+use elf_check::SectionCheck;
+use elf_read::class_of;
 use order_format::OrderHeader;
 use order_format::Reading;
 use order_lookup::Addresses;
@@ -77,7 +79,7 @@ fn judge_relocations(
     words: &mut [u64],
     sizes: &mut [u8],
 ) -> Judged
-    requires { ⌜ Placeable (now object) (now order) counts len × (addresses ≡ «the-addresses» (now order)) × Lent (now highs) (now words) (now sizes) ⌝ }
+    requires { ⌜ Placeable (now object) (now order) counts len × (addresses ≡ addressesFor (now object) (now order)) × Lent (now highs) (now words) (now sizes) ⌝ }
     ensures { λ r. ⌜ JudgedWell (now (object .entry)) (now (order .entry)) len r (now (words .exit)) (now (sizes .exit)) ⌝ }
 {
     let mut values = [0u64; MAX_SYMBOLS];
@@ -128,7 +130,7 @@ fn judge_placing(
     requires { ⌜ Named (now object) (now order) counts len × (addresses ≡ noAddresses) × Lent (now highs) (now words) (now sizes) ⌝ }
     ensures { λ r. ⌜ JudgedWell (now (object .entry)) (now (order .entry)) len r (now (words .exit)) (now (sizes .exit)) ⌝ }
 {
-    let filled = order_lookup::fill_addresses(addresses, order, counts);
+    let filled = order_lookup::fill_addresses(class_of(object), addresses, order, counts);
     let placing = placing_check::check_placing(object, filled, counts.base, len);
     let placed = placing.addresses;
     let fault = placing.fault;
@@ -205,7 +207,8 @@ fn judge_placements(
     }
 }
 
-// Checks 3 to 14 for an image of `len` bytes, by an order that has been read. `addresses` comes with zeros and goes back filled.
+// Check 3 and checks 5 to 14 for an image of `len` bytes, of an object whose header passes check 4, by an order that has been read.
+// `addresses` comes with zeros and goes back filled.
 // Where the answer is that of an install that is done, `words` and `sizes` say what each relocation stores.
 pub fn judge(
     object: &[u8],
@@ -217,17 +220,17 @@ pub fn judge(
     words: &mut [u64],
     sizes: &mut [u8],
 ) -> Judged
-    requires { ⌜ (reading (now order) ≡ Reading.WellFormed counts) × (addresses ≡ noAddresses) × Lent (now highs) (now words) (now sizes) ⌝ }
+    requires { ⌜ (headerAllowed (now object) ≡ true) × (reading (classOf (now object)) (now order) ≡ Reading.WellFormed counts) × (addresses ≡ noAddresses) × Lent (now highs) (now words) (now sizes) ⌝ }
     ensures { λ r. ⌜ JudgedWell (now (object .entry)) (now (order .entry)) len r (now (words .exit)) (now (sizes .exit)) ⌝ }
 {
-    if !order_format::window_allowed(Class::Elf32, counts.base, len) {
+    if !order_format::window_allowed(class_of(object), counts.base, len) {
         return Judged {
             answer: Answer::WindowBroken,
             addresses,
         };
     }
-    match elf_check::check_object(object) {
-        ObjectCheck::Passed => judge_placements(
+    match elf_check::check_sections(object) {
+        SectionCheck::Sound => judge_placements(
             object,
             order,
             counts,
@@ -237,11 +240,7 @@ pub fn judge(
             words,
             sizes,
         ),
-        ObjectCheck::BadHeader => Judged {
-            answer: Answer::BadHeader,
-            addresses,
-        },
-        ObjectCheck::BadSection(i) => Judged {
+        SectionCheck::Broken(i) => Judged {
             answer: Answer::BadSection(i),
             addresses,
         },

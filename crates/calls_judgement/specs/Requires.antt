@@ -7,13 +7,14 @@ use lib.ListN.{getD}
 use lib.Seq.{sets}
 use Rattle.order_format.specs.declared.OrderHeader.{OrderHeader}
 use Rattle.order_format.specs.declared.Reading.the-variants.{WellFormed}
-use Rattle.order_format.specs.Orders.{base, reading}
+use Rattle.order_format.specs.Orders.{reading}
 use Rattle.order_format.specs.Windows.{windowAllowed}
-use Rattle.order_lookup.specs.Addresses.{addresses}
-use Rattle.elf_read.specs.Headers.{addressWidth}
+use Rattle.order_lookup.specs.Addresses.{addressesFor, baseFor}
+use Rattle.elf_read.specs.Headers.{classOf, addressWidth}
 use Rattle.elf_read.specs.Sections.{sectionAt}
-use Rattle.elf_check.specs.declared.ObjectCheck.the-variants.{Passed}
-use Rattle.elf_check.specs.Rules.{objectCheck}
+use Rattle.elf_header.specs.Headers.{headerAllowed}
+use Rattle.elf_check.specs.declared.SectionCheck.the-variants.{Sound}
+use Rattle.elf_check.specs.Rules.{sectionCheck}
 use Rattle.placing_match.specs.declared.Fault.the-variants.{Nowhere}
 use Rattle.placing_match.specs.Placements.{placementCheck}
 use Rattle.placing_match.specs.Externals.{externalCheck}
@@ -22,11 +23,12 @@ use Rattle.relocations_bytes.specs.Sections.{relocated}
 use Rattle.relocations_rules.specs.declared.RelocationCheck.the-variants.{Passed as AllKept}
 use Rattle.relocations_rules.specs.Search.{relocationCheck}
 
--- checks 2 to 5
+-- checks 4, 2, 3 and 5
 pub record Readable (object order : List ℕ) (counts : OrderHeader) (len : ℕ) : Type 0 where
-  pub reading-is : reading order ≡ WellFormed counts
-  pub window : windowAllowed (addressWidth object) (base order) len ≡ true
-  pub object-is : objectCheck object ≡ Passed
+  pub header : headerAllowed object ≡ true
+  pub reading-is : reading (classOf object) order ≡ WellFormed counts
+  pub window : windowAllowed (addressWidth object) (baseFor object order) len ≡ true
+  pub sections : sectionCheck object ≡ Sound
 
 -- checks 2 to 7
 pub record Named (object order : List ℕ) (counts : OrderHeader) (len : ℕ) : Type 0 where
@@ -37,14 +39,14 @@ pub record Named (object order : List ℕ) (counts : OrderHeader) (len : ℕ) : 
 -- checks 2 to 8
 pub record Placeable (object order : List ℕ) (counts : OrderHeader) (len : ℕ) : Type 0 where
   pub named : Named object order counts len
-  pub placing : placingCheck object (addresses order) (base order) len ≡ Nowhere
+  pub placing : placingCheck object (addressesFor object order) (baseFor object order) len ≡ Nowhere
 
 -- checks 2 to 14
 pub record Fitting (object order : List ℕ) (counts : OrderHeader) (len : ℕ) : Type 0 where
   pub placeable : Placeable object order counts len
-  pub relocations : relocationCheck object order (addresses order) ≡ AllKept
+  pub relocations : relocationCheck object order (addressesFor object order) ≡ AllKept
 
 -- an image with section t laid into it
 unfoldable pub withSection : List ℕ → List ℕ → ℕ → List ℕ → List ℕ
 withSection object order t image =
-    cond (hasBytes (sectionAt object t)) (sets image (getD (addresses order) t 0 - base order) (relocated object order (addresses order) t)) image
+    cond (hasBytes (sectionAt object t)) (sets image (getD (addressesFor object order) t 0 - baseFor object order) (relocated object order (addressesFor object order) t)) image

@@ -4,7 +4,7 @@ ghost use mathlib.Core.Bool.{true};
 ghost use Prim.Native.Nat.{_+_, _≤_, _<_};
 ghost use lib.ListN.{length};
 ghost use lib.Seq.{sets};
-ghost use Rattle.order_lookup.specs.Addresses.{addresses as «the-addresses»};
+ghost use Rattle.order_lookup.specs.Addresses.{addressesFor};
 ghost use Rattle.elf_read.specs.Headers.{sectionCount};
 ghost use Rattle.elf_read.specs.Sections.{sectionAt, loaded};
 ghost use Rattle.plan_pieces.specs.Plans.{overwritten};
@@ -28,8 +28,8 @@ fn lay_at(
     at: usize,
     image: &mut [u8],
 )
-    requires { ⌜ Fitting (now object) (now order) counts (length (now image)) × (addresses ≡ «the-addresses» (now order)) × Worked (now object) (now order) addresses (now words) (now sizes) × (t < sectionCount (now object)) × (loaded (sectionAt (now object) t) ≡ true) × (at + sectionAt (now object) t .size ≤ length (now image)) ⌝ }
-    ensures { λ _. ⌜ now (image .exit) ≡ sets (now (image .entry)) at (relocated (now (object .entry)) (now (order .entry)) («the-addresses» (now (order .entry))) t) ⌝ }
+    requires { ⌜ Fitting (now object) (now order) counts (length (now image)) × (addresses ≡ addressesFor (now object) (now order)) × Worked (now object) (now order) addresses (now words) (now sizes) × (t < sectionCount (now object)) × (loaded (sectionAt (now object) t) ≡ true) × (at + sectionAt (now object) t .size ≤ length (now image)) ⌝ }
+    ensures { λ _. ⌜ now (image .exit) ≡ sets (now (image .entry)) at (relocated (now (object .entry)) (now (order .entry)) (addressesFor (now (object .entry)) (now (order .entry))) t) ⌝ }
 {
     let h = elf_read::read_section(object, t);
     let end = at + h.size as usize;
@@ -55,7 +55,7 @@ fn lay_one(
     t: usize,
     image: &mut [u8],
 )
-    requires { ⌜ Fitting (now object) (now order) counts (length (now image)) × (addresses ≡ «the-addresses» (now order)) × Worked (now object) (now order) addresses (now words) (now sizes) × (t < sectionCount (now object)) ⌝ }
+    requires { ⌜ Fitting (now object) (now order) counts (length (now image)) × (addresses ≡ addressesFor (now object) (now order)) × Worked (now object) (now order) addresses (now words) (now sizes) × (t < sectionCount (now object)) ⌝ }
     ensures { λ _. ⌜ now (image .exit) ≡ withSection (now (object .entry)) (now (order .entry)) t (now (image .entry)) ⌝ }
 {
     let h = elf_read::read_section(object, t);
@@ -86,7 +86,7 @@ pub fn lay(
     sizes: &[u8],
     image: &mut [u8],
 )
-    requires { ⌜ Fitting (now object) (now order) counts (length (now image)) × (addresses ≡ «the-addresses» (now order)) × Worked (now object) (now order) addresses (now words) (now sizes) ⌝ }
+    requires { ⌜ Fitting (now object) (now order) counts (length (now image)) × (addresses ≡ addressesFor (now object) (now order)) × Worked (now object) (now order) addresses (now words) (now sizes) ⌝ }
     ensures { λ _. ⌜ now (image .exit) ≡ overwritten (now (image .entry)) (planOf (now (object .entry)) (now (order .entry))) ⌝ }
 {
     let n = elf_read::section_count(object);

@@ -11,9 +11,7 @@ use Rattle.elf_read.specs.Sections.{NULL, SYMTAB, RELA, NOBITS, REL, sectionAt,
 use Rattle.elf_read.specs.Entries.{symbolEntries}
 use Rattle.elf_check.specs.declared.SectionCheck.{SectionCheck}
 use Rattle.elf_check.specs.declared.SectionCheck.the-variants.{Sound, Broken}
-use Rattle.elf_check.specs.declared.ObjectCheck.{ObjectCheck}
-use Rattle.elf_check.specs.declared.ObjectCheck.the-variants.{Passed, BadHeader, BadSection}
-use Rattle.elf_header.specs.Headers.{headerAllowed, tableAllowed}
+use Rattle.elf_header.specs.Headers.{tableAllowed}
 
 abbrev pub maxSymbols : ℕ
 maxSymbols = 1024
@@ -86,11 +84,3 @@ unfoldable pub sectionCheck : List ℕ → SectionCheck
 sectionCheck s =
     let i = first (λ j. not (sectionWell s j)) (sectionCount s) in
     cond (tableAllowed s) (cond (ltb i (sectionCount s)) (Broken i) Sound) (Broken 0)
-
--- checks 4 and 5
-abbrev pub afterHeader : SectionCheck → ObjectCheck
-afterHeader Sound = Passed
-afterHeader (Broken i) = BadSection i
-
-unfoldable pub objectCheck : List ℕ → ObjectCheck
-objectCheck s = cond (headerAllowed s) (afterHeader (sectionCheck s)) BadHeader

@@ -1,4 +1,4 @@
-// Which objects are allowed: checks 4 and 5.
+// Which sections are allowed: check 5, of an object whose header passes check 4.
 ghost use mathlib.Core.Path.{_≡_};
 ghost use Prim.Native.Nat.{_<_};
 ghost use mathlib.Core.Bool.{not, _&&_};
@@ -7,7 +7,7 @@ ghost use Rattle.numbers_definitions.specs.First.{everywhere};
 ghost use Rattle.elf_read.specs.Headers.{sectionCount};
 ghost use Rattle.elf_read.specs.Sections.{sectionAt, symbolTable, countingRela, relocationsBelow};
 ghost use Rattle.elf_read.specs.Requires.{HeaderInside, TableInside};
-ghost use Rattle.elf_check.specs.Rules.{maxRelocations, startsNull, insideFile, allocatedWell, symbolTableWell, noCountingRel, relaKept, relocationsKept, relaWell, relocationsWell, sectionCheck, objectCheck};
+ghost use Rattle.elf_check.specs.Rules.{maxRelocations, startsNull, insideFile, allocatedWell, symbolTableWell, noCountingRel, relaKept, relocationsKept, relaWell, relocationsWell, sectionCheck};
 ghost use Rattle.elf_check.specs.Requires.{Targeted};
 use elf_read::NOBITS;
 use elf_read::NULL;
@@ -26,13 +26,6 @@ pub const MAX_RELOCATIONS: usize = 4096;
 pub enum SectionCheck {
     Sound,
     Broken(u32),
-}
-
-// What checks 4 and 5 find.
-pub enum ObjectCheck {
-    Passed,
-    BadHeader,
-    BadSection(u32),
 }
 
 // Whether no counting RELA below section i has this target.
@@ -127,7 +120,7 @@ fn is_relocation_well(object: &[u8], table: usize, few: bool, i: usize) -> bool
 }
 
 // Check 5.
-fn check_sections(object: &[u8]) -> SectionCheck
+pub fn check_sections(object: &[u8]) -> SectionCheck
     requires { ⌜ HeaderInside (now object) ⌝ }
     ensures { λ r. ⌜ r ≡ sectionCheck (now (object .entry)) ⌝ }
 {
@@ -147,17 +140,4 @@ fn check_sections(object: &[u8]) -> SectionCheck
         i += 1;
     }
     SectionCheck::Sound
-}
-
-// Checks 4 and 5.
-pub fn check_object(object: &[u8]) -> ObjectCheck
-    ensures { λ r. ⌜ r ≡ objectCheck (now (object .entry)) ⌝ }
-{
-    if !elf_header::check_header(object) {
-        return ObjectCheck::BadHeader;
-    }
-    match check_sections(object) {
-        SectionCheck::Sound => ObjectCheck::Passed,
-        SectionCheck::Broken(i) => ObjectCheck::BadSection(i),
-    }
 }

@@ -40,7 +40,7 @@ pub fn check_header(object: &[u8]) -> bool
         return false;
     }
     (numbers_bytes::read32(object, 0) == 0x464c457f)
-        & (object[4] == 1)
+        & ((object[4] == 1) | (object[4] == 2))
         & (object[5] == 1)
         & (object[6] == 1)
         & (numbers_bytes::read16(object, 16) == 1)

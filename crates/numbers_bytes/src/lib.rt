@@ -5,7 +5,9 @@ ghost use Prim.Native.Nat.{_+_, _≤_, _<_};
 ghost use lib.ListN.{length};
 ghost use lib.Seq.{sets};
 ghost use Rattle.numbers_definitions.specs.Bytes.{leAt, bytes, part};
+ghost use Rattle.numbers_definitions.specs.Classes.{addressBytes};
 ghost use Rattle.numbers_bytes.specs.Widths.{isWidth};
+use numbers_definitions::Class;
 
 // A byte as a wider number.
 fn wide(b: u8) -> u16
@@ -48,6 +50,17 @@ pub fn read64(s: &[u8], at: usize) -> u64
     let low = read32(s, at);
     let high = read32(s, at + 4);
     low as u64 + 4294967296 * high as u64
+}
+
+// The address that the bytes at `at` spell: four in a file of class 1, eight in one of class 2, the lowest first.
+pub fn read_address(class: Class, s: &[u8], at: usize) -> u64
+    requires { ⌜ at + addressBytes class ≤ length (now s) ⌝ }
+    ensures { λ r. ⌜ r ≡ leAt (addressBytes class) (now (s .entry)) at ⌝ }
+{
+    match class {
+        Class::Elf32 => read32(s, at) as u64,
+        Class::Elf64 => read64(s, at),
+    }
 }
 
 // Writes a number as one byte.

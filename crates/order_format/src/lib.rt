@@ -1,9 +1,9 @@
 // An order: the window's base, where each section goes, and the values of undefined symbols.
 ghost use mathlib.Core.Path.{_≡_};
-ghost use Prim.Native.Nat.{_+_, _*_, _≤_};
+ghost use Prim.Native.Nat.{_+_, _*_, _^_, _≤_, _<_};
 ghost use lib.ListN.{length};
 ghost use Rattle.numbers_definitions.specs.Classes.{bits};
-ghost use Rattle.order_format.specs.Orders.{entrySize, externalsAt, maxPlacements, reading, entryAt, ascending};
+ghost use Rattle.order_format.specs.Orders.{entrySize, emptySize, placementsStart, externalsAt, maxPlacements, reading, entryAt, ascending};
 ghost use Rattle.order_format.specs.Windows.{lengthAllowed, windowAllowed};
 use numbers_definitions::Address;
 use numbers_definitions::Class;
@@ -13,14 +13,6 @@ pub const MAX_PLACEMENTS: usize = 32;
 pub const MAX_EXTERNALS: usize = 1024;
 
 pub const MAX_IMAGE: usize = 65536;
-
-// The sizes in bytes of an entry, and of an order without entries, which is three counts and the base.
-pub const ENTRY_SIZE: usize = 8;
-
-pub const EMPTY_SIZE: usize = 16;
-
-// Placements start after the base and their count.
-pub const PLACEMENTS_START: usize = 12;
 
 // A section and its address, or a symbol and its value, which is a run-time address too.
 pub struct Entry {
@@ -40,35 +32,66 @@ pub enum Reading {
     WellFormed(OrderHeader),
 }
 
-// Where the external values start: after the placements and the count of the external values.
-pub fn externals_start(placements: usize) -> usize
-    requires { ⌜ placements ≤ maxPlacements ⌝ }
-    ensures { λ r. ⌜ r ≡ externalsAt placements ⌝ }
+// The size in bytes of an order without entries, which is three counts and the base.
+fn empty_size(class: Class) -> usize
+    ensures { λ r. ⌜ r ≡ emptySize class ⌝ }
 {
-    EMPTY_SIZE + ENTRY_SIZE * placements
+    match class {
+        Class::Elf32 => 16,
+        Class::Elf64 => 20,
+    }
+}
+
+// Placements start after the base and their count.
+pub fn placements_start(class: Class) -> usize
+    ensures { λ r. ⌜ r ≡ placementsStart class ⌝ }
+{
+    match class {
+        Class::Elf32 => 12,
+        Class::Elf64 => 16,
+    }
+}
+
+// Where entry i of a list that starts at `at` stands. An entry is an index of four bytes and an address.
+fn entry_place(class: Class, at: usize, i: usize) -> usize
+    requires { ⌜ at + entrySize class * i < 2 ^ 64 ⌝ }
+    ensures { λ r. ⌜ r ≡ at + entrySize class * i ⌝ }
+{
+    match class {
+        Class::Elf32 => at + 8 * i,
+        Class::Elf64 => at + 12 * i,
+    }
+}
+
+// Where the external values start: after the placements and the count of the external values.
+pub fn externals_start(class: Class, placements: usize) -> usize
+    requires { ⌜ placements ≤ maxPlacements ⌝ }
+    ensures { λ r. ⌜ r ≡ externalsAt class placements ⌝ }
+{
+    entry_place(class, empty_size(class), placements)
 }
 
 // Entry i of a list that starts at `at`.
-pub fn read_entry(order: &[u8], at: usize, i: usize) -> Entry
-    requires { ⌜ at + entrySize * i + entrySize ≤ length (now order) ⌝ }
-    ensures { λ r. ⌜ r ≡ entryAt (now (order .entry)) at i ⌝ }
+pub fn read_entry(class: Class, order: &[u8], at: usize, i: usize) -> Entry
+    requires { ⌜ at + entrySize class * i + entrySize class ≤ length (now order) ⌝ }
+    ensures { λ r. ⌜ r ≡ entryAt class (now (order .entry)) at i ⌝ }
 {
-    let place = at + ENTRY_SIZE * i;
+    let place = entry_place(class, at, i);
     Entry {
         index: numbers_bytes::read32(order, place),
-        value: Address(numbers_bytes::read32(order, place + 4) as u64),
+        value: Address(numbers_bytes::read_address(class, order, place + 4)),
     }
 }
 
 // Whether the n entries from `at` on ascend strictly by their indices.
-fn ascends(order: &[u8], at: usize, n: usize) -> bool
-    requires { ⌜ at + entrySize * n ≤ length (now order) ⌝ }
-    ensures { λ r. ⌜ r ≡ ascending (λ i. entryAt (now (order .entry)) at i .index) n ⌝ }
+fn ascends(class: Class, order: &[u8], at: usize, n: usize) -> bool
+    requires { ⌜ at + entrySize class * n ≤ length (now order) ⌝ }
+    ensures { λ r. ⌜ r ≡ ascending (λ i. entryAt class (now (order .entry)) at i .index) n ⌝ }
 {
     let mut i: usize = 1;
     while i < n {
-        let low = read_entry(order, at, i - 1);
-        let high = read_entry(order, at, i);
+        let low = read_entry(class, order, at, i - 1);
+        let high = read_entry(class, order, at, i);
         if high.index <= low.index {
             return false;
         }
@@ -77,42 +100,41 @@ fn ascends(order: &[u8], at: usize, n: usize) -> bool
     true
 }
 
-// Check 2: the base and the counts of an order, or that the bytes are not an order.
-pub fn read_order(order: &[u8]) -> Reading
-    ensures { λ r. ⌜ r ≡ reading (now (order .entry)) ⌝ }
+// Check 2: the base and the counts of an order, or that the bytes are not an order. The count of a list is the four bytes before
+// the list.
+pub fn read_order(class: Class, order: &[u8]) -> Reading
+    ensures { λ r. ⌜ r ≡ reading class (now (order .entry)) ⌝ }
 {
-    if order.len() < EMPTY_SIZE {
+    if order.len() < empty_size(class) {
         return Reading::Malformed;
     }
     if numbers_bytes::read32(order, 0) != 1 {
         return Reading::Malformed;
     }
-    let placements = numbers_bytes::read32(order, 8) as usize;
+    let first = placements_start(class);
+    let placements = numbers_bytes::read32(order, first - 4) as usize;
     if MAX_PLACEMENTS < placements {
         return Reading::Malformed;
     }
-    let start = externals_start(placements);
+    let start = externals_start(class, placements);
     if order.len() < start {
         return Reading::Malformed;
     }
-    let externals = numbers_bytes::read32(
-        order,
-        PLACEMENTS_START + ENTRY_SIZE * placements,
-    ) as usize;
+    let externals = numbers_bytes::read32(order, start - 4) as usize;
     if MAX_EXTERNALS < externals {
         return Reading::Malformed;
     }
-    if order.len() != start + ENTRY_SIZE * externals {
+    if order.len() != entry_place(class, start, externals) {
         return Reading::Malformed;
     }
-    if !ascends(order, PLACEMENTS_START, placements) {
+    if !ascends(class, order, first, placements) {
         return Reading::Malformed;
     }
-    if !ascends(order, start, externals) {
+    if !ascends(class, order, start, externals) {
         return Reading::Malformed;
     }
     Reading::WellFormed(OrderHeader {
-        base: Address(numbers_bytes::read32(order, 4) as u64),
+        base: Address(numbers_bytes::read_address(class, order, 4)),
         placements,
         externals,
     })

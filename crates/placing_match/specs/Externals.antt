@@ -3,6 +3,7 @@ use Prim.Native.Nat.{ℕ, _^_}
 use mathlib.Core.Bool.{Bool, not, _&&_}
 use mathlib.Core.List.{List}
 use lib.Dec.{ltb, eqb}
+use Rattle.elf_read.specs.Headers.{classOf}
 use Rattle.elf_read.specs.Sections.{sectionAt, symbolTable}
 use Rattle.elf_read.specs.Entries.{SHN_UNDEF, symbolAt, symbolCount}
 use Rattle.order_lookup.specs.Values.{isGiven, externalValue}
@@ -16,4 +17,4 @@ isUndefined object k =
 
 -- check 7: "outside value for a wrong symbol", at the "lowest such symbol"
 unfoldable pub externalCheck : List ℕ → List ℕ → Fault
-externalCheck object order = lowest (λ k. isGiven (externalValue order k) && not (isUndefined object k)) (2 ^ 32)
+externalCheck object order = lowest (λ k. isGiven (externalValue (classOf object) order k) && not (isUndefined object k)) (2 ^ 32)

@@ -4,6 +4,7 @@ use mathlib.Core.Bool.{Bool, not, cond, _&&_, _||_}
 use mathlib.Core.List.{List}
 use lib.Dec.{ltb}
 use Rattle.numbers_definitions.specs.First.{first}
+use Rattle.elf_read.specs.Headers.{classOf}
 use Rattle.elf_read.specs.Sections.{isAllocated}
 use Rattle.order_lookup.specs.Values.{isGiven}
 use Rattle.order_lookup.specs.Addresses.{placedAt}
@@ -17,7 +18,7 @@ lowest broken n = cond (ltb (first broken n) n) (At (first broken n)) Nowhere
 -- a number is in one list only: it is placed and not allocated, or allocated and not placed
 unfoldable pub differs : List ℕ → List ℕ → ℕ → Bool
 differs object order i =
-    (isGiven (placedAt order i) && not (isAllocated object i)) || (isAllocated object i && not (isGiven (placedAt order i)))
+    (isGiven (placedAt (classOf object) order i) && not (isAllocated object i)) || (isAllocated object i && not (isGiven (placedAt (classOf object) order i)))
 
 -- check 6: "placements differ from allocated rows", at the "lowest row in one only". A placement may name any number of 32 bits.
 unfoldable pub placementCheck : List ℕ → List ℕ → Fault

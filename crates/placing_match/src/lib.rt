@@ -2,7 +2,7 @@
 ghost use mathlib.Core.Path.{_≡_};
 ghost use mathlib.Core.Bool.{not, _&&_};
 ghost use Rattle.numbers_definitions.specs.First.{first};
-ghost use Rattle.elf_read.specs.Headers.{sectionCount};
+ghost use Rattle.elf_read.specs.Headers.{classOf, sectionCount};
 ghost use Rattle.elf_read.specs.Sections.{isAllocated};
 ghost use Rattle.elf_check.specs.Requires.{SoundObject};
 ghost use Rattle.order_format.specs.Orders.{reading, placement, placementCount};
@@ -11,8 +11,9 @@ ghost use Rattle.placing_match.specs.Placements.{placementCheck};
 ghost use Rattle.order_lookup.specs.Values.{isGiven};
 ghost use Rattle.placing_match.specs.Externals.{isUndefined, externalCheck};
 use elf_read::SHN_UNDEF;
+use elf_read::class_of;
+use numbers_definitions::Class;
 use order_format::OrderHeader;
-use order_format::PLACEMENTS_START;
 use order_format::Reading;
 use order_lookup::Value;
 
@@ -33,15 +34,15 @@ fn is_given(value: Value) -> bool
 }
 
 // The lowest allocated section that an order does not place, or the number of sections where there is none.
-fn lowest_unplaced(object: &[u8], order: &[u8], counts: OrderHeader) -> usize
-    requires { ⌜ SoundObject (now object) × (reading (now order) ≡ Reading.WellFormed counts) ⌝ }
-    ensures { λ r. ⌜ r ≡ first (λ i. isAllocated (now (object .entry)) i && not (isGiven (placedAt (now (order .entry)) i))) (sectionCount (now (object .entry))) ⌝ }
+fn lowest_unplaced(class: Class, object: &[u8], order: &[u8], counts: OrderHeader) -> usize
+    requires { ⌜ SoundObject (now object) × (reading class (now order) ≡ Reading.WellFormed counts) ⌝ }
+    ensures { λ r. ⌜ r ≡ first (λ i. isAllocated (now (object .entry)) i && not (isGiven (placedAt class (now (order .entry)) i))) (sectionCount (now (object .entry))) ⌝ }
 {
     let n = elf_read::section_count(object);
     let mut i: usize = 0;
     while i < n {
         let allocated = elf_read::is_allocated_section(object, i as u32);
-        let placed = is_given(order_lookup::placed_at(order, counts, i as u32));
+        let placed = is_given(order_lookup::placed_at(class, order, counts, i as u32));
         if allocated & !placed {
             return i;
         }
@@ -51,14 +52,15 @@ fn lowest_unplaced(object: &[u8], order: &[u8], counts: OrderHeader) -> usize
 }
 
 // The first placement whose number names no allocated section, or the number of placements where there is none.
-fn first_extra(object: &[u8], order: &[u8], counts: OrderHeader) -> usize
-    requires { ⌜ SoundObject (now object) × (reading (now order) ≡ Reading.WellFormed counts) ⌝ }
-    ensures { λ r. ⌜ r ≡ first (λ j. not (isAllocated (now (object .entry)) (placement (now (order .entry)) j .index))) (placementCount (now (order .entry))) ⌝ }
+fn first_extra(class: Class, object: &[u8], order: &[u8], counts: OrderHeader) -> usize
+    requires { ⌜ SoundObject (now object) × (reading class (now order) ≡ Reading.WellFormed counts) ⌝ }
+    ensures { λ r. ⌜ r ≡ first (λ j. not (isAllocated (now (object .entry)) (placement class (now (order .entry)) j .index))) (placementCount class (now (order .entry))) ⌝ }
 {
+    let start = order_format::placements_start(class);
     let n = counts.placements;
     let mut j: usize = 0;
     while j < n {
-        let e = order_format::read_entry(order, PLACEMENTS_START, j);
+        let e = order_format::read_entry(class, order, start, j);
         if !elf_read::is_allocated_section(object, e.index) {
             return j;
         }
@@ -69,14 +71,20 @@ fn first_extra(object: &[u8], order: &[u8], counts: OrderHeader) -> usize
 
 // Check 6: the lowest number that is placed and not allocated, or allocated and not placed.
 pub fn check_placements(object: &[u8], order: &[u8], counts: OrderHeader) -> Fault
-    requires { ⌜ SoundObject (now object) × (reading (now order) ≡ Reading.WellFormed counts) ⌝ }
+    requires { ⌜ SoundObject (now object) × (reading (classOf (now object)) (now order) ≡ Reading.WellFormed counts) ⌝ }
     ensures { λ r. ⌜ r ≡ placementCheck (now (object .entry)) (now (order .entry)) ⌝ }
 {
-    let unplaced = lowest_unplaced(object, order, counts);
-    let extra = first_extra(object, order, counts);
+    let class = class_of(object);
+    let unplaced = lowest_unplaced(class, object, order, counts);
+    let extra = first_extra(class, object, order, counts);
     let missing = unplaced < elf_read::section_count(object);
     if extra < counts.placements {
-        let e = order_format::read_entry(order, PLACEMENTS_START, extra);
+        let e = order_format::read_entry(
+            class,
+            order,
+            order_format::placements_start(class),
+            extra,
+        );
         if missing & (unplaced < e.index as usize) {
             return Fault::At(unplaced as u32);
         }
@@ -104,14 +112,15 @@ fn is_undefined(object: &[u8], k: u32) -> bool
 
 // Check 7: the lowest symbol that has an external value and is not undefined.
 pub fn check_externals(object: &[u8], order: &[u8], counts: OrderHeader) -> Fault
-    requires { ⌜ SoundObject (now object) × (reading (now order) ≡ Reading.WellFormed counts) ⌝ }
+    requires { ⌜ SoundObject (now object) × (reading (classOf (now object)) (now order) ≡ Reading.WellFormed counts) ⌝ }
     ensures { λ r. ⌜ r ≡ externalCheck (now (object .entry)) (now (order .entry)) ⌝ }
 {
-    let start = order_format::externals_start(counts.placements);
+    let class = class_of(object);
+    let start = order_format::externals_start(class, counts.placements);
     let n = counts.externals;
     let mut j: usize = 0;
     while j < n {
-        let e = order_format::read_entry(order, start, j);
+        let e = order_format::read_entry(class, order, start, j);
         if !is_undefined(object, e.index) {
             return Fault::At(e.index);
         }

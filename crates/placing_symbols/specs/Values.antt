@@ -7,7 +7,7 @@ use lib.Dec.{ltb, eqb}
 use Rattle.numbers_definitions.specs.Places.{address}
 use Rattle.numbers_definitions.specs.Whole.{plus}
 use Rattle.elf_read.specs.declared.Symbol.{Symbol}
-use Rattle.elf_read.specs.Headers.{addressWidth}
+use Rattle.elf_read.specs.Headers.{classOf, addressWidth}
 use Rattle.elf_read.specs.Sections.{sectionAt, isAllocated, symbolTable}
 use Rattle.elf_read.specs.Entries.{SHN_UNDEF, SHN_ABS, STB_WEAK, STT_TLS, STT_GNU_IFUNC, symbolAt, symbolCount}
 use Rattle.order_lookup.specs.declared.Value.{Value}
@@ -41,4 +41,4 @@ unfoldable pub symbolValue : List ℕ → List ℕ → List ℕ → ℕ → Symb
 symbolValue object order addresses k =
     let y = symbolAt object (sectionAt object (symbolTable object)) k in
     cond (eqb k 0) (Resolved (address 0))
-    (cond (ltb k (symbolCount object)) (ofEntry object (externalValue order k) (getD addresses (y .section) 0) y) Unresolved)
+    (cond (ltb k (symbolCount object)) (ofEntry object (externalValue (classOf object) order k) (getD addresses (y .section) 0) y) Unresolved)

@@ -1,5 +1,6 @@
 // The values of symbols.
 ghost use mathlib.Core.Path.{_≡_};
+ghost use Rattle.elf_read.specs.Headers.{classOf};
 ghost use Rattle.elf_check.specs.Requires.{SoundObject};
 ghost use Rattle.order_format.specs.Orders.{reading};
 ghost use Rattle.placing_symbols.specs.Values.{ofUndefined, ofSection, ofEntry};
@@ -14,6 +15,7 @@ use elf_read::STT_GNU_IFUNC;
 use elf_read::STT_TLS;
 use elf_read::Section;
 use elf_read::Symbol;
+use elf_read::class_of;
 use numbers_definitions::Address;
 use order_format::OrderHeader;
 use order_format::Reading;
@@ -52,7 +54,7 @@ fn value_in_section(object: &[u8], given: Value, start: u64, symbol: Symbol) -> 
     let section = symbol.section;
     if elf_read::is_allocated_section(object, section as u32) {
         return SymbolValue::Resolved(Address(numbers_arithmetic::sum(
-            elf_read::class_of(object),
+            class_of(object),
             start,
             symbol.value.0,
         )));
@@ -134,14 +136,15 @@ pub fn symbol_values(
     values: &mut [u64],
     states: &mut [u8],
 ) -> Addresses
-    requires { ⌜ SoundObject (now object) × (reading (now order) ≡ Reading.WellFormed counts) × SymbolsOf (now object) symbols × (now values ≡ noValues) × (now states ≡ noValues) ⌝ }
+    requires { ⌜ SoundObject (now object) × (reading (classOf (now object)) (now order) ≡ Reading.WellFormed counts) × SymbolsOf (now object) symbols × (now values ≡ noValues) × (now states ≡ noValues) ⌝ }
     ensures { λ r. ⌜ (r ≡ addresses) × Valued (now (object .entry)) (now (order .entry)) addresses (now (values .exit)) (now (states .exit)) ⌝ }
 {
     let table = symbols.table;
     let count = symbols.count;
     // Symbol 0 resolves, to 0.
     states[0] = 1;
-    let first = take_external(order, counts, 0, 0);
+    let class = class_of(object);
+    let first = take_external(class, order, counts, 0, 0);
     let mut next = first.next;
     let mut k: usize = 1;
     while k < count {
@@ -152,7 +155,7 @@ pub fn symbol_values(
         } else {
             0
         };
-        let taken = take_external(order, counts, next, k as u32);
+        let taken = take_external(class, order, counts, next, k as u32);
         let given = taken.value;
         let value = entry_value(object, given, start, symbol);
         values[k] = number_of(value);

@@ -43,11 +43,11 @@ places object order f = (
   omega arith,
   λ h1. (
     omega arith,
-    λ h2. (
+    λ h4. (
       omega arith,
-      λ h3. (
+      λ h2. (
         omega arith,
-        λ h4. (
+        λ h3. (
           omega arith,
           λ h5.
               let t : TableWell object = h5 0 (omega arith) .0 in

@@ -9,13 +9,14 @@ use lib.ListN.{length}
 use lib.Dec.{leb, eqb}
 use borrow.Author.Tests.{leb-true, le-leb, eqb-true, eqb-false}
 use Rattle.numbers_definitions.proofs.Laws.Tests.{clash}
-use Rattle.order_format.specs.Orders.{base, wellFormed}
-use Rattle.elf_read.specs.Headers.{addressWidth}
+use Rattle.order_format.specs.Orders.{wellFormed}
+use Rattle.elf_read.specs.Headers.{classOf, addressWidth}
 use Rattle.order_format.specs.Windows.{maxImage, lengthAllowed, windowAllowed}
-use Rattle.order_lookup.specs.Addresses.{addresses}
-use Rattle.elf_check.specs.declared.ObjectCheck.{ObjectCheck}
-use Rattle.elf_check.specs.declared.ObjectCheck.the-variants.{Passed, BadHeader, BadSection}
-use Rattle.elf_check.specs.Rules.{objectCheck}
+use Rattle.order_lookup.specs.Addresses.{addressesFor, baseFor}
+use Rattle.elf_header.specs.Headers.{headerAllowed}
+use Rattle.elf_check.specs.declared.SectionCheck.{SectionCheck}
+use Rattle.elf_check.specs.declared.SectionCheck.the-variants.{Sound as AllSound, Broken as BrokenSection}
+use Rattle.elf_check.specs.Rules.{sectionCheck}
 use Rattle.journal_format.specs.Journals.{count, held, Sound, sound, noRoom}
 use Rattle.plan_pieces.specs.Plans.{Piece, Verdict, refused, plan, overwritten, spanOf}
 use Rattle.plan_pieces.specs.Answers.{Answer, says, done}
@@ -39,7 +40,7 @@ use Rattle.relocations_rules.specs.declared.RelocationCheck.the-variants.{Passe
 use Rattle.relocations_rules.specs.Search.{number, relocationCheck}
 use Rattle.placing_match.proofs.Laws.Theorems.{nothing-to-place as «none-placed»}
 use Rattle.calls_judgement.specs.Requires.{Fitting}
-use Rattle.calls_judgement.specs.Judgement.{afterObject, afterFault, afterRelocations, planOf, judgement}
+use Rattle.calls_judgement.specs.Judgement.{afterTest, afterSections, afterFault, afterRelocations, planOf, judgement}
 use Rattle.calls_judgement.proofs.Laws.Judgement.{broken-is, some-number, Fits, plan-fits}
 use Rattle.calls_judgement.proofs.Laws.Laying.{length-fits, length-short, plan-inside, lays-inside}
 use Rattle.calls_demands.specs.Rules.{Rules}
@@ -60,10 +61,10 @@ holds-once n h = h 0 (omega arith) .0
 pub rules-hold : (object order : List ℕ) (f : Files) → AllHold (table object order f) → Rules object order f
 unfolding table
 rules-hold object order f h1 =
-    let h2 = h1 .1 in
+    let h4 = h1 .1 in
+    let h2 = h4 .1 in
     let h3 = h2 .1 in
-    let h4 = h3 .1 in
-    let h5 = h4 .1 in
+    let h5 = h3 .1 in
     let hs = h5 .1 in
     let h6 = hs .1 in
     let h7 = h6 .1 in
@@ -94,11 +95,11 @@ unfolding table
 hold-rules object order f r = (
   at-once 1 (r .journal-sound),
   (
-    at-once 2 (r .order-well),
+    at-once 4 (r .header-well),
     (
-      at-once 3 (r .window-well),
+      at-once 2 (r .order-well),
       (
-        at-once 4 (r .header-well),
+        at-once 3 (r .window-well),
         (
           at-once 5 (r .table-well),
           (
@@ -139,11 +140,11 @@ numbers-are object order f =
     let one : (n : ℕ) → 0 < n → n ≤ 15 → OfInstall n × Unit {0} = λ n l h. (up n l h, tt) in (
       one 1 (omega arith) (omega arith),
       (
-        one 2 (omega arith) (omega arith),
+        one 4 (omega arith) (omega arith),
         (
-          one 3 (omega arith) (omega arith),
+          one 2 (omega arith) (omega arith),
           (
-            one 4 (omega arith) (omega arith),
+            one 3 (omega arith) (omega arith),
             (
               one 5 (omega arith) (omega arith),
               (
@@ -216,26 +217,26 @@ named c a (inr first) b broken = one-first c a b first broken
 refused-above : (object order : List ℕ) (len : ℕ) (a : Answer) → judgement object order len ≡ refused a → 0 < a .number
 unfolding judgement
 refused-above object order len answer h =
-    go (wellFormed order) (windowAllowed (addressWidth object) (base order) len) (objectCheck object) (placementCheck object order) (externalCheck object order)
-    (placingCheck object (addresses order) (base order) len) (relocationCheck object order (addresses order)) refl h
+    go (headerAllowed object) (wellFormed (classOf object) order) (windowAllowed (addressWidth object) (baseFor object order) len) (sectionCheck object) (placementCheck object order)
+    (externalCheck object order) (placingCheck object (addressesFor object order) (baseFor object order) len) (relocationCheck object order (addressesFor object order)) refl h
   where
     by : (m q : ℕ) → 0 < m → refused (says m q) ≡ refused answer → 0 < answer .number
     by m q l e = let same : says m q ≡ answer = cc in omega (arith, ap (λ x. x .number) same)
 
-    go : (a b : Bool) (c : ObjectCheck) (d e f : Fault) (g : RelocationCheck) → relocationCheck object order (addresses order) ≡ g
-        → cond a (cond b (afterObject c (afterFault 6 d (afterFault 7 e (afterFault 8 f (afterRelocations g (plan (planOf object order))))))) (refused (says 3 0))) (refused (says 2 0)) ≡ refused answer
+    go : (t a b : Bool) (c : SectionCheck) (d e f : Fault) (g : RelocationCheck) → relocationCheck object order (addressesFor object order) ≡ g
+        → afterTest 4 t (afterTest 2 a (afterTest 3 b (afterSections c (afterFault 6 d (afterFault 7 e (afterFault 8 f (afterRelocations g (plan (planOf object order))))))))) ≡ refused answer
         → 0 < answer .number
-    go false b c d e f g q h = by 2 0 (omega arith) h
-    go true false c d e f g q h = by 3 0 (omega arith) h
-    go true true BadHeader d e f g q h = by 4 0 (omega arith) h
-    go true true (BadSection i) d e f g q h = by 5 i (omega arith) h
-    go true true Passed (At i) e f g q h = by 6 i (omega arith) h
-    go true true Passed Nowhere (At i) f g q h = by 7 i (omega arith) h
-    go true true Passed Nowhere Nowhere (At i) g q h = by 8 i (omega arith) h
-    go true true Passed Nowhere Nowhere Nowhere (Broken x k) q h =
-        let some : number x ≡ 0 → ⊥ = eqb-false (number x) 0 (some-number x (broken-is object order (addresses order) x k q)) in
+    go false a b c d e f g q h = by 4 0 (omega arith) h
+    go true false b c d e f g q h = by 2 0 (omega arith) h
+    go true true false c d e f g q h = by 3 0 (omega arith) h
+    go true true true (BrokenSection i) d e f g q h = by 5 i (omega arith) h
+    go true true true AllSound (At i) e f g q h = by 6 i (omega arith) h
+    go true true true AllSound Nowhere (At i) f g q h = by 7 i (omega arith) h
+    go true true true AllSound Nowhere Nowhere (At i) g q h = by 8 i (omega arith) h
+    go true true true AllSound Nowhere Nowhere Nowhere (Broken x k) q h =
+        let some : number x ≡ 0 → ⊥ = eqb-false (number x) 0 (some-number x (broken-is object order (addressesFor object order) x k q)) in
         by (number x) k (omega arith) h
-    go true true Passed Nowhere Nowhere Nowhere AllKept q h =
+    go true true true AllSound Nowhere Nowhere Nowhere AllKept q h =
         let z : _≡_ {A = ℕ} 0 1 = cc in
         absurd (omega arith)
 

@@ -15,7 +15,7 @@ use Rattle.elf_read.specs.Headers.{addressWidth, sectionCount}
 use Rattle.elf_read.specs.Sections.{sectionAt, countingRela}
 use Rattle.elf_read.specs.Entries.{bytesOf}
 use Rattle.order_format.specs.declared.OrderHeader.{OrderHeader}
-use Rattle.order_lookup.specs.Addresses.{addresses}
+use Rattle.order_lookup.specs.Addresses.{addresses, addressesFor}
 use Rattle.plan_pieces.specs.Plans.{overwritten}
 use Rattle.placing_check.specs.Placing.{hasBytes}
 use Rattle.relocations_types.specs.declared.Operand.the-variants.{Absolute}
@@ -76,7 +76,7 @@ nothing-read object order addresses x final j none = go (decisionAt object x j) 
 
 module _ (object order : List ℕ) (counts : OrderHeader) (image : List ℕ) (fit : Fitting object order counts (length image)) where
   abbrev a : List ℕ
-  a = addresses order
+  a = addressesFor object order
 
   abbrev final : List ℕ
   final = overwritten image (planOf object order)

@@ -14,9 +14,8 @@ use Rattle.numbers_definitions.proofs.Laws.Bytes.{Bytes}
 use Rattle.elf_read.specs.Headers.{addressWidth, sectionCount}
 use Rattle.elf_read.specs.Sections.{sectionAt}
 use Rattle.elf_read.specs.Entries.{bytesOf}
-use Rattle.order_format.specs.Orders.{base}
 use Rattle.order_format.specs.Windows.{lengthAllowed}
-use Rattle.order_lookup.specs.Addresses.{addresses}
+use Rattle.order_lookup.specs.Addresses.{addressesFor, baseFor}
 use Rattle.plan_pieces.specs.declared.Span.{Span}
 use Rattle.journal_format.specs.Journals.{oldAt, blank, entryBytes, count, held, sound, noRoom}
 use Rattle.plan_pieces.specs.Plans.{Piece, piece, Verdict, refused, plan, overwritten, spanOf}
@@ -119,16 +118,16 @@ bytes-relocated object order a t b = go (ltb (relaOf object t) (sectionCount obj
     go true = bytes-after object order a (siteAt object a (relaOf object t)) b (countOf object (siteAt object a (relaOf object t)))
     go false = bytes-own object t b
 
-bytes-pieces : (object order : List ℕ) → Bytes object → (n : ℕ) → AllBytes (pieces (relocated object order (addresses order)) object (addresses order) (base order) n)
+bytes-pieces : (object order : List ℕ) → Bytes object → (n : ℕ) → AllBytes (pieces (relocated object order (addressesFor object order)) object (addressesFor object order) (baseFor object order) n)
 unfolding pieces
 bytes-pieces object order b zero = tt
 bytes-pieces object order b (suc t) = go (hasBytes (sectionAt object t)) (bytes-pieces object order b t)
   where
     below : List Piece
-    below = pieces (relocated object order (addresses order)) object (addresses order) (base order) t
+    below = pieces (relocated object order (addressesFor object order)) object (addressesFor object order) (baseFor object order) t
 
-    go : (c : Bool) → AllBytes below → AllBytes (cond c (below ++ piece (getD (addresses order) t 0 - base order) (relocated object order (addresses order) t) ∷ []) below)
-    go true i = all-snoc below (getD (addresses order) t 0 - base order) (relocated object order (addresses order) t) i (bytes-relocated object order (addresses order) t b)
+    go : (c : Bool) → AllBytes below → AllBytes (cond c (below ++ piece (getD (addressesFor object order) t 0 - baseFor object order) (relocated object order (addressesFor object order) t) ∷ []) below)
+    go true i = all-snoc below (getD (addressesFor object order) t 0 - baseFor object order) (relocated object order (addressesFor object order) t) i (bytes-relocated object order (addressesFor object order) t b)
     go false i = i
 
 bytes-plan : (object order : List ℕ) → Bytes object → AllBytes (planOf object order)

@@ -1,5 +1,5 @@
 -- Each test of the judgement is equivalent to the rule that it is named after.
-use mathlib.Core.Logic.{_⊎_, inl, inr}
+use mathlib.Core.Logic.{_⊎_, ⊎-elim, inl, inr}
 use mathlib.Core.Path.{_≡_, refl, sym, ap, _∙_}
 use mathlib.Core.Bool.{Bool, true, false, not, cond, _&&_, _||_}
 use mathlib.Core.List.{List}
@@ -8,9 +8,12 @@ use native.Mathlib.Omega.{arith}
 use lib.ListN.{length, getD}
 use lib.Dec.{leb, ltb, eqb}
 use borrow.Author.Tests.{leb-true, ltb-true, ltb-false, eqb-true, eqb-false, le-leb, eq-eqb, ne-eqb, lt-ltb, le-ltb, not-true}
+use Rattle.numbers_definitions.specs.Bytes.{leAt}
 use Rattle.numbers_definitions.specs.First.{first}
-use Rattle.numbers_definitions.proofs.Laws.Tests.{and-left, and-right, neither-left, neither-right, clash, both, given, implied, implies, same-tests}
+use Rattle.numbers_definitions.specs.declared.Class.{Class}
+use Rattle.numbers_definitions.proofs.Laws.Tests.{and-left, and-right, one-of-two, or-two, neither-left, neither-right, clash, both, given, implied, implies, same-tests}
 use Rattle.numbers_definitions.proofs.Laws.First.{first-below, first-at, everywhere-at, everywhere-is}
+use Rattle.elf_read.specs.Headers.{classOf}
 use Rattle.elf_read.specs.Sections.{sectionAt, allocated, isAllocated}
 use Rattle.elf_header.specs.Headers.{headerAllowed, tableAllowed}
 use Rattle.order_format.specs.Orders.{placementCount, placement, externalCount, external, ascending, wellFormed}
@@ -54,9 +57,9 @@ ascends-back : (f : ℕ → ℕ) (n : ℕ) → ((i : ℕ) → suc i < n → f i 
 unfolding ascending
 ascends-back f n h = everywhere-is (λ j. ltb (f j) (f (suc j))) (n - 1) (λ j l. lt-ltb _ _ (h j (omega arith)))
 
-pub order-well : (order : List ℕ) → wellFormed order ≡ true → OrderWell order
-order-well order w =
-    let k = wellFormed-sound order w in
+pub order-well : (c : Class) (order : List ℕ) → wellFormed c order ≡ true → OrderWell c order
+order-well c order w =
+    let k = wellFormed-sound c order w in
     record {
       long = k .long;
       one-base = k .one;
@@ -64,13 +67,13 @@ order-well order w =
       placements-inside = k .room;
       few-externals = k .some;
       whole = k .whole;
-      placements-ascend = ascends (λ i. placement order i .index) (placementCount order) (k .placed);
-      externals-ascend = ascends (λ i. external order i .index) (externalCount order) (k .given);
+      placements-ascend = ascends (λ i. placement c order i .index) (placementCount c order) (k .placed);
+      externals-ascend = ascends (λ i. external c order i .index) (externalCount c order) (k .given);
     }
 
-pub well-order : (order : List ℕ) → OrderWell order → wellFormed order ≡ true
-well-order order o =
-    sound-wellFormed order
+pub well-order : (c : Class) (order : List ℕ) → OrderWell c order → wellFormed c order ≡ true
+well-order c order o =
+    sound-wellFormed c order
     (record {
       base-is = refl;
       placements-are = refl;
@@ -81,8 +84,8 @@ well-order order o =
       room = o .placements-inside;
       some = o .few-externals;
       whole = o .whole;
-      placed = ascends-back (λ i. placement order i .index) (placementCount order) (o .placements-ascend);
-      given = ascends-back (λ i. external order i .index) (externalCount order) (o .externals-ascend);
+      placed = ascends-back (λ i. placement c order i .index) (placementCount c order) (o .placements-ascend);
+      given = ascends-back (λ i. external c order i .index) (externalCount c order) (o .externals-ascend);
     })
 
 -- ---- 3
@@ -101,6 +104,13 @@ well-window w start len k = both _ _ (le-leb _ _ (k .short)) (le-leb _ _ (k .end
 
 -- ---- 4 and 5
 
+class-from : (n : ℕ) → (eqb n 1 || eqb n 2) ≡ true → (n ≡ 1) ⊎ (n ≡ 2)
+class-from n e = ⊎-elim (λ a. inl (eqb-true n 1 a)) (λ b. inr (eqb-true n 2 b)) (one-of-two (eqb n 1) (eqb n 2) e)
+
+class-back : (n : ℕ) → (n ≡ 1) ⊎ (n ≡ 2) → (eqb n 1 || eqb n 2) ≡ true
+class-back n (inl a) = or-two (eqb n 1) (eqb n 2) (inl (eq-eqb n 1 a))
+class-back n (inr b) = or-two (eqb n 1) (eqb n 2) (inr (eq-eqb n 2 b))
+
 pub header-well : (s : List ℕ) → headerAllowed s ≡ true → HeaderWell s
 unfolding headerAllowed
 header-well s e =
@@ -108,7 +118,7 @@ header-well s e =
       short = leb-true _ _ (search (and-left, and-right) depth 12);
       long = leb-true _ _ (search (and-left, and-right) depth 12);
       magic = eqb-true _ _ (search (and-left, and-right) depth 12);
-      class-32 = eqb-true _ _ (search (and-left, and-right) depth 12);
+      class-known = class-from (leAt 1 s 4) (search (and-left, and-right) depth 12);
       little-endian = eqb-true _ _ (search (and-left, and-right) depth 12);
       ident-version = eqb-true _ _ (search (and-left, and-right) depth 12);
       relocatable = eqb-true _ _ (search (and-left, and-right) depth 12);
@@ -120,7 +130,7 @@ header-well s e =
 pub well-header : (s : List ℕ) → HeaderWell s → headerAllowed s ≡ true
 unfolding headerAllowed
 well-header s h =
-    rw (le-leb _ _ (h .short), le-leb _ _ (h .long), eq-eqb _ _ (h .magic), eq-eqb _ _ (h .class-32), eq-eqb _ _ (h .little-endian), eq-eqb _ _ (h .ident-version), eq-eqb _ _ (h .relocatable), eq-eqb _ _ (h .risc-v), eq-eqb _ _ (h .version))
+    rw (le-leb _ _ (h .short), le-leb _ _ (h .long), eq-eqb _ _ (h .magic), class-back (leAt 1 s 4) (h .class-known), eq-eqb _ _ (h .little-endian), eq-eqb _ _ (h .ident-version), eq-eqb _ _ (h .relocatable), eq-eqb _ _ (h .risc-v), eq-eqb _ _ (h .version))
     (eq-eqb _ _ (h .own-size))
 
 pub table-well : (s : List ℕ) → tableAllowed s ≡ true → TableWell s
@@ -151,7 +161,7 @@ matches object order i e = same-tests _ _ e
 
 pub no-match : (object order : List ℕ) (i : ℕ) → differs object order i ≡ true → PlacedAsAllocated object order i → ⊥
 unfolding differs
-no-match object order i e m = clash _ (no-difference (isGiven (placedAt order i)) (isAllocated object i) m) e
+no-match object order i e m = clash _ (no-difference (isGiven (placedAt (classOf object) order i)) (isAllocated object i) m) e
 
 -- ---- 7
 
@@ -174,12 +184,12 @@ wrong-left a b e = and-left a (not b) e
 wrong-right : (a b : Bool) → (a && not b) ≡ true → b ≡ false
 wrong-right a b e = not-true b (and-right a (not b) e)
 
-pub valued : (object order : List ℕ) (k : ℕ) → (isGiven (externalValue order k) && not (isUndefined object k)) ≡ false → ValuedIfUndefined object order k
+pub valued : (object order : List ℕ) (k : ℕ) → (isGiven (externalValue (classOf object) order k) && not (isUndefined object k)) ≡ false → ValuedIfUndefined object order k
 valued object order k e g = undefined object k (implies _ _ e g)
 
-pub not-valued : (object order : List ℕ) (k : ℕ) → (isGiven (externalValue order k) && not (isUndefined object k)) ≡ true → ValuedIfUndefined object order k → ⊥
+pub not-valued : (object order : List ℕ) (k : ℕ) → (isGiven (externalValue (classOf object) order k) && not (isUndefined object k)) ≡ true → ValuedIfUndefined object order k → ⊥
 not-valued object order k e v =
-    let g : Bool = isGiven (externalValue order k) in
+    let g : Bool = isGiven (externalValue (classOf object) order k) in
     let u : Bool = isUndefined object k in
     clash u (wrong-right g u e) (undefined-back object k (v (wrong-left g u e)))
 

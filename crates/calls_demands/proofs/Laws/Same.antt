@@ -14,7 +14,7 @@ use Rattle.numbers_definitions.proofs.Laws.Lists.{length-part}
 use Rattle.elf_read.specs.Headers.{addressWidth, sectionCount}
 use Rattle.elf_read.specs.Sections.{sectionAt, countingRela}
 use Rattle.order_format.specs.declared.OrderHeader.{OrderHeader}
-use Rattle.order_lookup.specs.Addresses.{addresses}
+use Rattle.order_lookup.specs.Addresses.{addressesFor}
 use Rattle.placing_check.specs.Placing.{hasBytes}
 use Rattle.relocations_types.specs.declared.Decision.{Decision}
 use Rattle.relocations_types.specs.declared.Decision.the-variants.{Marker, Align, Store, Refused}
@@ -103,7 +103,7 @@ module _ (object order : List ℕ) where
 
         inside : end object x j ≤ sectionAt object t .size
         inside =
-            let kept = kept-rules object order (addresses order) x j (is-checked object order counts before fit i (c .is .there) (c .is .counts) .kept j (c .is .entry)) in
+            let kept = kept-rules object order (addressesFor object order) x j (is-checked object order counts before fit i (c .is .there) (c .is .counts) .kept j (c .is .entry)) in
             let within : end object x j ≤ sectionAt object (sectionAt object i .info) .size = shape-well object x j (kept .shape) .inside in
             omega (arith, within, ap (λ u. sectionAt object u .size) (c .relocates))
 
@@ -117,13 +117,13 @@ module _ (object order : List ℕ) where
         bsh = bytes-part h (start object order t) (sectionAt object t .size) bh
 
         says : (s : List ℕ) → Laid object order before s → (d : Decision) → decisionAt object x j ≡ d
-            → Stored (addressWidth object) d (found object x) (sectionIn object order s t) (offset object x j) (targetAt object order (addresses order) x j) (P object x j)
-            (pairDistance object order (addresses order) x j) (λ v. stackAt object order (addresses order) x (offset object x j) v (count object x))
+            → Stored (addressWidth object) d (found object x) (sectionIn object order s t) (offset object x j) (targetAt object order (addressesFor object order) x j) (P object x j)
+            (pairDistance object order (addressesFor object order) x j) (λ v. stackAt object order (addressesFor object order) x (offset object x j) v (count object x))
         says s l d e =
             subst
-            (λ q. Stored (addressWidth object) q (found object x) (sectionIn object order s t) (offset object x j) (targetAt object order (addresses order) x j) (P object x j)
-            (pairDistance object order (addresses order) x j) (λ v. stackAt object order (addresses order) x (offset object x j) v (count object x)))
-            e (subst (λ u. ReadsBack object order (addresses order) x (sectionIn object order s u) j) (c .relocates) (l .fields i j (c .is)))
+            (λ q. Stored (addressWidth object) q (found object x) (sectionIn object order s t) (offset object x j) (targetAt object order (addressesFor object order) x j) (P object x j)
+            (pairDistance object order (addressesFor object order) x j) (λ v. stackAt object order (addressesFor object order) x (offset object x j) v (count object x)))
+            e (subst (λ u. ReadsBack object order (addressesFor object order) x (sectionIn object order s u) j) (c .relocates) (l .fields i j (c .is)))
 
         go : (d : Decision) → decisionAt object x j ≡ d → getD sg b 0 ≡ getD sh b 0
         go (Store r) e =

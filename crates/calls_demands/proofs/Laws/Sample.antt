@@ -18,10 +18,10 @@ use Rattle.elf_header.specs.Headers.{headerAllowed, tableAllowed}
 use Rattle.elf_check.specs.Rules.{startsNull, insideFile, allocatedWell, symbolTableWell, noCountingRel, relaKept, relaWell, relocationsKept, relocationsWell, sectionWell}
 use Rattle.elf_check.specs.Sound.{SoundSection}
 use Rattle.elf_check.proofs.Laws.Objects.{section-sound}
-use Rattle.order_format.specs.Orders.{base, entryAt, ascending, wellFormed}
+use Rattle.order_format.specs.Orders.{entryAt, ascending, wellFormed}
 use Rattle.order_lookup.specs.Values.{valueIn, externalValue}
 use Rattle.order_format.specs.Windows.{lengthAllowed, windowAllowed}
-use Rattle.order_lookup.specs.Addresses.{placedAt, addresses}
+use Rattle.order_lookup.specs.Addresses.{placedAt, addresses, addressesFor, baseFor}
 use Rattle.journal_format.specs.Journals.{entry, entries, total, isBlank, endsWithin, sound, Sound}
 use Rattle.journal_history.specs.Calls.{Files}
 use Rattle.journal_format.proofs.Laws.Sound.{test-sound}
@@ -67,9 +67,9 @@ pub journal-is : Sound (files .journal) (length (files .image))
 unfolding files sound everywhere first entries tabulate entry total leAt le classOf isBlank endsWithin
 journal-is = test-sound (files .journal) (length (files .image)) refl
 
-order-is : OrderWell order
-unfolding order words bytes wellFormed ascending everywhere first leAt le classOf entryAt
-order-is = order-well order refl
+order-is : OrderWell (classOf object) order
+unfolding object order words bytes wellFormed ascending everywhere first leAt le classOf entryAt
+order-is = order-well (classOf object) order refl
 
 pub header-is : HeaderWell object
 unfolding object words bytes headerAllowed leAt le classOf
@@ -79,9 +79,9 @@ pub table-is : TableWell object
 unfolding object words bytes tableAllowed leAt le classOf
 table-is = table-well object refl
 
-window-is : WindowWell (addressWidth object) (base order) (length (files .image))
+window-is : WindowWell (addressWidth object) (baseFor object order) (length (files .image))
 unfolding order files words bytes windowAllowed lengthAllowed leAt le classOf
-window-is = window-well (addressWidth object) (base order) (length (files .image)) refl
+window-is = window-well (addressWidth object) (baseFor object order) (length (files .image)) refl
 
 -- the section header table has four entries
 count-is : sectionCount object ≡ 4
@@ -113,7 +113,7 @@ externals-are k e = never e
 placed-are : (i : ℕ) → i < 4 → PlacedIfAllocated object order (length (files .image)) i
 unfolding object order files words bytes leAt le classOf readSection sectionAt allocated misplaced aligned unit endsInMemory endOf inWindow hasBytes loaded share apart everywhere first addresses tabulate placedAt valueIn entryAt
 placed-are zero h a = never a
-placed-are (suc zero) h a = placed-well object (addresses order) (base order) (length (files .image)) 1 refl a
+placed-are (suc zero) h a = placed-well object (addressesFor object order) (baseFor object order) (length (files .image)) 1 refl a
 placed-are (suc (suc zero)) h a = never a
 placed-are (suc (suc (suc zero))) h a = never a
 placed-are (suc (suc (suc (suc i)))) h a = absurd (omega arith)

@@ -11,8 +11,7 @@ use Rattle.numbers_definitions.proofs.Laws.Tests.{clash}
 use Rattle.elf_read.specs.Headers.{sectionCount}
 use Rattle.elf_read.specs.Sections.{sectionAt}
 use Rattle.order_format.specs.declared.OrderHeader.{OrderHeader}
-use Rattle.order_format.specs.Orders.{base}
-use Rattle.order_lookup.specs.Addresses.{addresses}
+use Rattle.order_lookup.specs.Addresses.{addressesFor, baseFor}
 use Rattle.plan_pieces.specs.Plans.{Piece, piece, spanOf}
 use Rattle.plan_pieces.proofs.Laws.Span.{Laid, span-is}
 use Rattle.placing_check.specs.Placing.{hasBytes}
@@ -44,7 +43,7 @@ laid-last b (piece a w ∷ ps) at v h l = inr (laid-last b ps at v h l)
 
 module _ (object order : List ℕ) (counts : OrderHeader) (len : ℕ) (fit : Fitting object order counts len) where
   abbrev below : ℕ → List Piece
-  below n = pieces (relocated object order (addresses order)) object (addresses order) (base order) n
+  below n = pieces (relocated object order (addressesFor object order)) object (addressesFor object order) (baseFor object order) n
 
   covered : (n b : ℕ) → n ≤ sectionCount object → Laid b (below n) → (t : ℕ) × Covers object order t b
   unfolding pieces
@@ -52,13 +51,13 @@ module _ (object order : List ℕ) (counts : OrderHeader) (len : ℕ) (fit : Fit
   covered (suc t) b h l = go (hasBytes (sectionAt object t)) refl (covered t b (omega arith)) l
     where
       go : (d : Bool) → hasBytes (sectionAt object t) ≡ d → (Laid b (below t) → (u : ℕ) × Covers object order u b)
-          → Laid b (cond d (below t ++ piece (start object order t) (relocated object order (addresses order) t) ∷ []) (below t))
+          → Laid b (cond d (below t ++ piece (start object order t) (relocated object order (addressesFor object order) t) ∷ []) (below t))
           → (u : ℕ) × Covers object order u b
       go false e before l = before l
       go true e before l =
-          let size : length (relocated object order (addresses order) t) ≡ sectionAt object t .size = sized object order counts len fit t h e in
+          let size : length (relocated object order (addressesFor object order) t) ≡ sectionAt object t .size = sized object order counts len fit t h e in
           ⊎-elim before (λ r. (t, record { there = h; loaded = e; from = r .0; to = omega (arith, r .1) }))
-          (laid-snoc b (below t) (start object order t) (relocated object order (addresses order) t) l)
+          (laid-snoc b (below t) (start object order t) (relocated object order (addressesFor object order) t) l)
 
   covers : (n t b : ℕ) → n ≤ sectionCount object → t < n → Covers object order t b → Laid b (below n)
   unfolding pieces
@@ -66,13 +65,13 @@ module _ (object order : List ℕ) (counts : OrderHeader) (len : ℕ) (fit : Fit
   covers (suc m) t b h l c = go (hasBytes (sectionAt object m)) refl (decLt t m) (λ k. covers m t b (omega arith) k c)
     where
       go : (d : Bool) → hasBytes (sectionAt object m) ≡ d → Dec (t < m) → (t < m → Laid b (below m))
-          → Laid b (cond d (below m ++ piece (start object order m) (relocated object order (addresses order) m) ∷ []) (below m))
-      go true e (yes k) before = laid-before b (below m) (start object order m) (relocated object order (addresses order) m) (before k)
+          → Laid b (cond d (below m ++ piece (start object order m) (relocated object order (addressesFor object order) m) ∷ []) (below m))
+      go true e (yes k) before = laid-before b (below m) (start object order m) (relocated object order (addressesFor object order) m) (before k)
       go true e (no k) before =
           let same : t ≡ m = omega arith in
           let here : Covers object order m b = rw (← same) c in
-          let size : length (relocated object order (addresses order) m) ≡ sectionAt object m .size = sized object order counts len fit m h e in
-          laid-last b (below m) (start object order m) (relocated object order (addresses order) m) (here .from) (omega (arith, here .to))
+          let size : length (relocated object order (addressesFor object order) m) ≡ sectionAt object m .size = sized object order counts len fit m h e in
+          laid-last b (below m) (start object order m) (relocated object order (addressesFor object order) m) (here .from) (omega (arith, here .to))
       go false e (yes k) before = before k
       go false e (no k) before =
           let same : t ≡ m = omega arith in

@@ -11,20 +11,20 @@ use borrow.Author.Tests.{ltb-true, ltb-false, not-true, not-false}
 use Rattle.numbers_definitions.proofs.Laws.Tests.{never, clash}
 use Rattle.numbers_definitions.specs.First.{first}
 use Rattle.numbers_definitions.proofs.Laws.First.{first-below, first-at}
-use Rattle.elf_read.specs.Headers.{addressWidth, sectionCount}
+use Rattle.elf_read.specs.Headers.{classOf, addressWidth, sectionCount}
 use Rattle.elf_read.specs.Entries.{relocationCount}
 use Rattle.elf_header.specs.Headers.{headerAllowed, tableAllowed}
-use Rattle.elf_check.specs.declared.ObjectCheck.{ObjectCheck}
-use Rattle.elf_check.specs.declared.ObjectCheck.the-variants.{Passed, BadHeader, BadSection}
-use Rattle.elf_check.specs.Rules.{sectionWell, objectCheck}
+use Rattle.elf_check.specs.declared.SectionCheck.{SectionCheck}
+use Rattle.elf_check.specs.declared.SectionCheck.the-variants.{Sound as AllSound, Broken as BrokenSection}
+use Rattle.elf_check.specs.Rules.{sectionWell, sectionCheck}
 use Rattle.elf_check.specs.Sound.{SoundSection}
 use Rattle.elf_check.proofs.Laws.Objects.{section-sound, well-section}
 use Rattle.elf_check.proofs.Laws.Tables.{check-table-broken, check-broken, check-sound}
-use Rattle.order_format.specs.Orders.{base, wellFormed}
+use Rattle.order_format.specs.Orders.{wellFormed}
 use Rattle.order_lookup.specs.Values.{isGiven, externalValue}
 use Rattle.order_format.specs.Windows.{windowAllowed}
 use Rattle.order_format.proofs.Laws.Sound.{orderHeaderOf, wellFormed-sound, sound-reading}
-use Rattle.order_lookup.specs.Addresses.{addresses}
+use Rattle.order_lookup.specs.Addresses.{addressesFor, baseFor}
 use Rattle.journal_format.specs.Journals.{count, held, Sound, sound, noRoom}
 use Rattle.plan_pieces.specs.Plans.{Verdict, refused, plan, spanOf}
 use Rattle.plan_pieces.specs.Answers.{Answer, says}
@@ -48,7 +48,7 @@ use Rattle.relocations_values.specs.Values.{valueAt, targetAt}
 use Rattle.relocations_rules.specs.Rules.{symbolWell, formWell, pairWell, distanceWell, boundaryWell}
 use Rattle.relocations_rules.specs.Search.{number, firstBroken, finding, findingOf, isBroken, relocationCheck}
 use Rattle.calls_judgement.specs.Requires.{Readable, Named, Placeable, Fitting}
-use Rattle.calls_judgement.specs.Judgement.{afterObject, afterFault, afterRelocations, planOf, judgement}
+use Rattle.calls_judgement.specs.Judgement.{afterTest, afterSections, afterFault, afterRelocations, planOf, judgement}
 use Rattle.calls_demands.specs.Rules.{OrderWell, WindowWell, HeaderWell, TableWell, PlacedAsAllocated, ValuedIfUndefined, PlacedIfAllocated, site, entryOf, Shape, SymbolResolves, FormIs, OnePair, Reaches, OnBoundary, Room}
 use Rattle.calls_demands.specs.Laid.{IsSpan}
 use Rattle.calls_demands.specs.First.{Line, nil, rule, Checks, none, check, HoldAt, BrokenAt, one, each, table}
@@ -79,7 +79,7 @@ module _ (object order : List ℕ) where
   Means k OutOfReach = BrokenAt line (says 13 k)
   Means k OffBoundary = BrokenAt line (says 14 k)
 
-  means : (k : ℕ) → Means k (findingOf object order (addresses order) k)
+  means : (k : ℕ) → Means k (findingOf object order (addressesFor object order) k)
   unfolding findingOf finding firstBroken
   means k = go (shapeWell object x j) refl (symbolWell object x j v) refl (formWell object x j) refl (pairWell object x j) refl (distanceWell (addressWidth object) d t (P object x j)) refl (boundaryWell d (P object x j) (A object x j)) refl
     where
@@ -90,13 +90,13 @@ module _ (object order : List ℕ) where
       j = entryOf object order k
 
       v : SymbolValue
-      v = valueAt object order (addresses order) x j
+      v = valueAt object order (addressesFor object order) x j
 
       d : Decision
       d = decisionAt object x j
 
       t : ℕ
-      t = targetAt object order (addresses order) x j
+      t = targetAt object order (addressesFor object order) x j
 
       go : (a : Bool) → shapeWell object x j ≡ a → (b : Bool) → symbolWell object x j v ≡ b → (c : Bool) → formWell object x j ≡ c → (p : Bool) → pairWell object x j ≡ p
           → (q : Bool) → distanceWell (addressWidth object) d t (P object x j) ≡ q → (r : Bool) → boundaryWell d (P object x j) (A object x j) ≡ r
@@ -137,16 +137,16 @@ module _ (object order : List ℕ) where
   -- ---- the first broken of them, over all relocations
 
   abbrev broken : ℕ → Bool
-  broken k = isBroken (findingOf object order (addresses order) k)
+  broken k = isBroken (findingOf object order (addressesFor object order) k)
 
   kept-at : (k : ℕ) → broken k ≡ false → HoldAt line k
-  kept-at k e = kept-holds k (findingOf object order (addresses order) k) e (means k)
+  kept-at k e = kept-holds k (findingOf object order (addressesFor object order) k) e (means k)
 
-  broken-here : (k : ℕ) → broken k ≡ true → BrokenAt line (says (number (findingOf object order (addresses order) k)) k)
-  broken-here k e = broken-breaks k (findingOf object order (addresses order) k) e (means k)
+  broken-here : (k : ℕ) → broken k ≡ true → BrokenAt line (says (number (findingOf object order (addressesFor object order) k)) k)
+  broken-here k e = broken-breaks k (findingOf object order (addressesFor object order) k) e (means k)
 
-  relocations : (f : Files) (tail : Checks) (next : Verdict) → (relocationCheck object order (addresses order) ≡ AllKept → Told tail (settle f next .answer))
-      → Told (check (relocationCount object) line tail) (settle f (afterRelocations (relocationCheck object order (addresses order)) next) .answer)
+  relocations : (f : Files) (tail : Checks) (next : Verdict) → (relocationCheck object order (addressesFor object order) ≡ AllKept → Told tail (settle f next .answer))
+      → Told (check (relocationCount object) line tail) (settle f (afterRelocations (relocationCheck object order (addressesFor object order)) next) .answer)
   unfolding relocationCheck settle
   relocations f tail next t = go (ltb (first broken (relocationCount object)) (relocationCount object)) refl
     where
@@ -156,7 +156,7 @@ module _ (object order : List ℕ) where
       k : ℕ
       k = first broken n
 
-      go : (b : Bool) → ltb k n ≡ b → Told (check n line tail) (settle f (afterRelocations (cond b (Broken (findingOf object order (addresses order) k) k) AllKept) next) .answer)
+      go : (b : Bool) → ltb k n ≡ b → Told (check n line tail) (settle f (afterRelocations (cond b (Broken (findingOf object order (addressesFor object order) k) k) AllKept) next) .answer)
       go true e = inr (inl (ltb-true k n e, (λ q l. kept-at q (first-below broken n q l)), broken-here k (first-at broken n (ltb-true k n e))))
       go false e = later n line tail (settle f next .answer) (λ q l. kept-at q (first-below broken n q (omega (arith, ltb-false k n e)))) (t (rw e))
 
@@ -165,7 +165,7 @@ module _ (object order : List ℕ) where
 module _ (f : Files) (tail : Checks) (next : Verdict) where
   -- a check with place 0 alone
   alone : (n : ℕ) (R : Type 0) (b : Bool) → (b ≡ true → Told tail (settle f next .answer)) → (b ≡ true → R) → (b ≡ false → R → ⊥)
-      → Told (one n R tail) (settle f (cond b next (refused (says n 0))) .answer)
+      → Told (one n R tail) (settle f (afterTest n b next) .answer)
   unfolding settle
   alone n R true t holds breaks = later 1 (rule n (λ _. R) nil) tail (settle f next .answer) (at-once n (holds refl)) (t refl)
   alone n R false t holds breaks = broken-once n tail (breaks refl)
@@ -183,7 +183,7 @@ module _ (f : Files) (tail : Checks) (next : Verdict) where
           let l = lowest-found p m k e in
           broken-at m n k tail (l .0) (λ q h. holds q (l .1 q h)) (breaks k (l .2))
 
--- ---- 4 and 5
+-- ---- 5
 
 module _ (object : List ℕ) where
   abbrev wrong : ℕ → Bool
@@ -195,26 +195,23 @@ module _ (object : List ℕ) where
   not-fine : (j : ℕ) → wrong j ≡ true → SoundSection object j → ⊥
   not-fine j e s = clash (sectionWell object j) (not-true (sectionWell object j) e) (well-section object j s)
 
-  module _ (f : Files) (tail : Checks) (next : Verdict) (t : objectCheck object ≡ Passed → Told tail (settle f next .answer)) where
+  module _ (f : Files) (tail : Checks) (next : Verdict) (t : sectionCheck object ≡ AllSound → Told tail (settle f next .answer)) where
     abbrev sections : Checks
     sections = each (sectionCount object) 5 (SoundSection object) tail
 
     abbrev sectionTable : Checks
     sectionTable = one 5 (TableWell object) sections
 
-    past-header : (a : Answer) → headerAllowed object ≡ true → Told sectionTable a → Told (one 4 (HeaderWell object) sectionTable) a
-    past-header a e h = later 1 (rule 4 (λ _. HeaderWell object) nil) sectionTable a (at-once 4 (header-well object e)) h
-
     past-table : (a : Answer) → tableAllowed object ≡ true → Told sections a → Told sectionTable a
     past-table a e h = later 1 (rule 5 (λ _. TableWell object) nil) sections a (at-once 5 (table-well object e)) h
 
-    by : (r : ObjectCheck) → objectCheck object ≡ r → Told (one 4 (HeaderWell object) sectionTable) (settle f (afterObject r next) .answer)
-        → Told (one 4 (HeaderWell object) sectionTable) (settle f (afterObject (objectCheck object) next) .answer)
-    by r e h = subst (λ o. Told (one 4 (HeaderWell object) sectionTable) (settle f (afterObject o next) .answer)) (sym e) h
+    by : (r : SectionCheck) → sectionCheck object ≡ r → Told sectionTable (settle f (afterSections r next) .answer)
+        → Told sectionTable (settle f (afterSections (sectionCheck object) next) .answer)
+    by r e h = subst (λ o. Told sectionTable (settle f (afterSections o next) .answer)) (sym e) h
 
-    object-told : Told (one 4 (HeaderWell object) sectionTable) (settle f (afterObject (objectCheck object) next) .answer)
-    unfolding objectCheck settle
-    object-told = go (headerAllowed object) refl (tableAllowed object) refl (ltb k n) refl
+    sections-told : Told sectionTable (settle f (afterSections (sectionCheck object) next) .answer)
+    unfolding settle
+    sections-told = go (tableAllowed object) refl (ltb k n) refl
       where
         n : ℕ
         n = sectionCount object
@@ -222,25 +219,21 @@ module _ (object : List ℕ) where
         k : ℕ
         k = first wrong n
 
-        go : (a : Bool) → headerAllowed object ≡ a → (b : Bool) → tableAllowed object ≡ b → (c : Bool) → ltb k n ≡ c
-            → Told (one 4 (HeaderWell object) sectionTable) (settle f (afterObject (objectCheck object) next) .answer)
-        go false e₁ b e₂ c e₃ = by BadHeader (rw e₁) (broken-once 4 sectionTable (λ h. clash (headerAllowed object) e₁ (well-header object h)))
-        go true e₁ false e₂ c e₃ =
-            by (BadSection 0) (rw (e₁, check-table-broken object e₂))
-            (past-header (says 5 0) e₁ (broken-once 5 sections (λ h. clash (tableAllowed object) e₂ (well-table object h))))
-        go true e₁ true e₂ true e₃ =
+        go : (b : Bool) → tableAllowed object ≡ b → (c : Bool) → ltb k n ≡ c → Told sectionTable (settle f (afterSections (sectionCheck object) next) .answer)
+        go false e₂ c e₃ =
+            by (BrokenSection 0) (check-table-broken object e₂)
+            (broken-once 5 sections (λ h. clash (tableAllowed object) e₂ (well-table object h)))
+        go true e₂ true e₃ =
             let there : k < n = ltb-true k n e₃ in
             let here : wrong k ≡ true = first-at wrong n there in
-            by (BadSection k) (rw (e₁, check-broken object k e₂ there (first-below wrong n) (not-true (sectionWell object k) here)))
-            (past-header (says 5 k) e₁
-            (past-table (says 5 k) e₂ (broken-at n 5 k tail there (λ j l. fine j (first-below wrong n j l)) (not-fine k here))))
-        go true e₁ true e₂ false e₃ =
+            by (BrokenSection k) (check-broken object k e₂ there (first-below wrong n) (not-true (sectionWell object k) here))
+            (past-table (says 5 k) e₂ (broken-at n 5 k tail there (λ j l. fine j (first-below wrong n j l)) (not-fine k here)))
+        go true e₂ false e₃ =
             let all : (j : ℕ) → j < n → wrong j ≡ false = λ j l. first-below wrong n j (omega (arith, ltb-false k n e₃)) in
-            let passed : objectCheck object ≡ Passed = rw (e₁, check-sound object e₂ all) in
-            by Passed passed
-            (past-header (settle f next .answer) e₁
+            let passed : sectionCheck object ≡ AllSound = check-sound object e₂ all in
+            by AllSound passed
             (past-table (settle f next .answer) e₂
-            (later n (rule 5 (SoundSection object) nil) tail (settle f next .answer) (at-each n 5 (λ j l. fine j (all j l))) (t passed))))
+            (later n (rule 5 (SoundSection object) nil) tail (settle f next .answer) (at-each n 5 (λ j l. fine j (all j l))) (t passed)))
 
 -- ---- all of them
 
@@ -256,13 +249,13 @@ module _ (object order : List ℕ) (f : Files) where
   checks9 = check (relocationCount object) (line object order) checks15
 
   abbrev verdict9 : Verdict
-  verdict9 = afterRelocations (relocationCheck object order (addresses order)) (plan (planOf object order))
+  verdict9 = afterRelocations (relocationCheck object order (addressesFor object order)) (plan (planOf object order))
 
   abbrev checks8 : Checks
   checks8 = each (sectionCount object) 8 (PlacedIfAllocated object order len) checks9
 
   abbrev verdict8 : Verdict
-  verdict8 = afterFault 8 (placingCheck object (addresses order) (base order) len) verdict9
+  verdict8 = afterFault 8 (placingCheck object (addressesFor object order) (baseFor object order) len) verdict9
 
   abbrev checks7 : Checks
   checks7 = each (2 ^ 32) 7 (ValuedIfUndefined object order) checks8
@@ -276,67 +269,82 @@ module _ (object order : List ℕ) (f : Files) where
   abbrev verdict6 : Verdict
   verdict6 = afterFault 6 (placementCheck object order) verdict7
 
-  abbrev checks4 : Checks
-  checks4 = one 4 (HeaderWell object) (one 5 (TableWell object) (each (sectionCount object) 5 (SoundSection object) checks6))
+  abbrev checks5 : Checks
+  checks5 = one 5 (TableWell object) (each (sectionCount object) 5 (SoundSection object) checks6)
 
-  abbrev verdict4 : Verdict
-  verdict4 = afterObject (objectCheck object) verdict6
+  abbrev verdict5 : Verdict
+  verdict5 = afterSections (sectionCheck object) verdict6
 
   abbrev checks3 : Checks
-  checks3 = one 3 (WindowWell (addressWidth object) (base order) len) checks4
+  checks3 = one 3 (WindowWell (addressWidth object) (baseFor object order) len) checks5
 
   abbrev verdict3 : Verdict
-  verdict3 = cond (windowAllowed (addressWidth object) (base order) len) verdict4 (refused (says 3 0))
+  verdict3 = afterTest 3 (windowAllowed (addressWidth object) (baseFor object order) len) verdict5
+
+  abbrev checks2 : Checks
+  checks2 = one 2 (OrderWell (classOf object) order) checks3
+
+  abbrev verdict2 : Verdict
+  verdict2 = afterTest 2 (wellFormed (classOf object) order) verdict3
+
+  abbrev checks4 : Checks
+  checks4 = one 4 (HeaderWell object) checks2
 
   -- each check, given that those before it pass
-  told15 : Fitting object order (orderHeaderOf order) len → Told checks15 (settle f (plan (planOf object order)) .answer)
+  told15 : Fitting object order (orderHeaderOf (classOf object) order) len → Told checks15 (settle f (plan (planOf object order)) .answer)
   unfolding settle
   told15 fit = go (noRoom (count (f .journal)) (held (f .journal)) (spanOf (planOf object order) .size) (length (f .journal))) refl
     where
       is : IsSpan object order (spanOf (planOf object order))
-      is = is-span object order (orderHeaderOf order) len fit
+      is = is-span object order (orderHeaderOf (classOf object) order) len fit
 
       go : (b : Bool) → noRoom (count (f .journal)) (held (f .journal)) (spanOf (planOf object order) .size) (length (f .journal)) ≡ b
           → Told checks15 (cond b (refuse journalFull f) (succeed (installed (planOf object order) f)) .answer)
       go true e = broken-once 15 none (room-left object order (f .journal) (spanOf (planOf object order)) is e)
       go false e = inl (refl, (at-once 15 (has-room object order (f .journal) (spanOf (planOf object order)) is e), tt))
 
-  told9 : Placeable object order (orderHeaderOf order) len → Told checks9 (settle f verdict9 .answer)
+  told9 : Placeable object order (orderHeaderOf (classOf object) order) len → Told checks9 (settle f verdict9 .answer)
   told9 p = relocations object order f checks15 (plan (planOf object order)) (λ r. told15 (record { placeable = p; relocations = r }))
 
-  told8 : Named object order (orderHeaderOf order) len → Told checks8 (settle f verdict8 .answer)
+  told8 : Named object order (orderHeaderOf (classOf object) order) len → Told checks8 (settle f verdict8 .answer)
   unfolding placingCheck
   told8 n =
-      at-lowest f checks9 verdict9 (sectionCount object) 8 (PlacedIfAllocated object order len) (misplaced object (addresses order) (base order) len)
-      (λ p. told9 (record { named = n; placing = p })) (placed-well object (addresses order) (base order) len) (placed-wrong object (addresses order) (base order) len)
+      at-lowest f checks9 verdict9 (sectionCount object) 8 (PlacedIfAllocated object order len) (misplaced object (addressesFor object order) (baseFor object order) len)
+      (λ p. told9 (record { named = n; placing = p })) (placed-well object (addressesFor object order) (baseFor object order) len) (placed-wrong object (addressesFor object order) (baseFor object order) len)
 
-  told7 : Readable object order (orderHeaderOf order) len → placementCheck object order ≡ Nowhere → Told checks7 (settle f verdict7 .answer)
+  told7 : Readable object order (orderHeaderOf (classOf object) order) len → placementCheck object order ≡ Nowhere → Told checks7 (settle f verdict7 .answer)
   unfolding externalCheck
   told7 r p =
-      at-lowest f checks8 verdict8 (2 ^ 32) 7 (ValuedIfUndefined object order) (λ k. isGiven (externalValue order k) && not (isUndefined object k))
+      at-lowest f checks8 verdict8 (2 ^ 32) 7 (ValuedIfUndefined object order) (λ k. isGiven (externalValue (classOf object) order k) && not (isUndefined object k))
       (λ x. told8 (record { readable = r; placements = p; externals = x })) (valued object order) (not-valued object order)
 
-  told6 : Readable object order (orderHeaderOf order) len → Told checks6 (settle f verdict6 .answer)
+  told6 : Readable object order (orderHeaderOf (classOf object) order) len → Told checks6 (settle f verdict6 .answer)
   unfolding placementCheck
   told6 r = at-lowest f checks7 verdict7 (2 ^ 32) 6 (PlacedAsAllocated object order) (differs object order) (told7 r) (matches object order) (no-match object order)
 
-  told3 : wellFormed order ≡ true → Told checks3 (settle f verdict3 .answer)
-  told3 o =
-      alone f checks4 verdict4 3 (WindowWell (addressWidth object) (base order) len) (windowAllowed (addressWidth object) (base order) len)
-      (λ w. object-told object f checks6 verdict6 (λ p. told6 (record { reading-is = sound-reading order (orderHeaderOf order) (wellFormed-sound order o); window = w; object-is = p })))
-      (window-well (addressWidth object) (base order) len) (λ e w. clash (windowAllowed (addressWidth object) (base order) len) e (well-window (addressWidth object) (base order) len w))
+  told3 : headerAllowed object ≡ true → wellFormed (classOf object) order ≡ true → Told checks3 (settle f verdict3 .answer)
+  told3 h o =
+      alone f checks5 verdict5 3 (WindowWell (addressWidth object) (baseFor object order) len) (windowAllowed (addressWidth object) (baseFor object order) len)
+      (λ w. sections-told object f checks6 verdict6
+      (λ p. told6 (record { header = h; reading-is = sound-reading (classOf object) order (orderHeaderOf (classOf object) order) (wellFormed-sound (classOf object) order o); window = w; sections = p })))
+      (window-well (addressWidth object) (baseFor object order) len) (λ e w. clash (windowAllowed (addressWidth object) (baseFor object order) len) e (well-window (addressWidth object) (baseFor object order) len w))
 
-  told2 : Told (one 2 (OrderWell order) checks3) (settle f (judgement object order len) .answer)
+  told2 : headerAllowed object ≡ true → Told checks2 (settle f verdict2 .answer)
+  told2 h =
+      alone f checks3 verdict3 2 (OrderWell (classOf object) order) (wellFormed (classOf object) order) (told3 h) (order-well (classOf object) order)
+      (λ e w. clash (wellFormed (classOf object) order) e (well-order (classOf object) order w))
+
+  told4 : Told checks4 (settle f (judgement object order len) .answer)
   unfolding judgement
-  told2 = alone f checks3 verdict3 2 (OrderWell order) (wellFormed order) told3 (order-well order) (λ e w. clash (wellFormed order) e (well-order order w))
+  told4 = alone f checks2 verdict2 4 (HeaderWell object) (headerAllowed object) told2 (header-well object) (λ e w. clash (headerAllowed object) e (well-header object w))
 
   -- the answer of an install is what the table says
   pub told : Told (table object order f) (install judgement object order f .answer)
   unfolding table install
   told = go (sound (f .journal) len) refl
     where
-      go : (b : Bool) → sound (f .journal) len ≡ b → Told (one 1 (Sound (f .journal) len) (one 2 (OrderWell order) checks3)) (cond (not b) (refuse journalUnsound f) (settle f (judgement object order len)) .answer)
+      go : (b : Bool) → sound (f .journal) len ≡ b → Told (one 1 (Sound (f .journal) len) checks4) (cond (not b) (refuse journalUnsound f) (settle f (judgement object order len)) .answer)
       go true e =
-          later 1 (rule 1 (λ _. Sound (f .journal) len) nil) (one 2 (OrderWell order) checks3) (settle f (judgement object order len) .answer)
-          (at-once 1 (test-sound (f .journal) len e)) told2
-      go false e = broken-once 1 (one 2 (OrderWell order) checks3) (λ s. clash (sound (f .journal) len) e (sound-test (f .journal) len s))
+          later 1 (rule 1 (λ _. Sound (f .journal) len) nil) checks4 (settle f (judgement object order len) .answer)
+          (at-once 1 (test-sound (f .journal) len e)) told4
+      go false e = broken-once 1 checks4 (λ s. clash (sound (f .journal) len) e (sound-test (f .journal) len s))

@@ -38,10 +38,10 @@ use Rattle.elf_header.specs.Headers.{headerAllowed, tableAllowed}
 use Rattle.elf_check.specs.Rules.{startsNull, insideFile, allocatedWell, symbolTableWell, noCountingRel, relaKept, relaWell, relocationsKept, relocationsWell, sectionWell}
 use Rattle.elf_check.specs.Sound.{SoundSection}
 use Rattle.elf_check.proofs.Laws.Objects.{section-sound}
-use Rattle.order_format.specs.Orders.{base, entryAt, ascending, wellFormed}
+use Rattle.order_format.specs.Orders.{entryAt, ascending, wellFormed}
 use Rattle.order_format.specs.Windows.{lengthAllowed, windowAllowed}
 use Rattle.order_lookup.specs.Values.{valueIn, externalValue}
-use Rattle.order_lookup.specs.Addresses.{placedAt, addresses}
+use Rattle.order_lookup.specs.Addresses.{placedAt, addresses, addressesFor, baseFor}
 use Rattle.journal_format.specs.Journals.{count, held, entry, entries, total, isBlank, endsWithin, sound, Sound, noRoom}
 use Rattle.journal_format.proofs.Laws.Sound.{test-sound}
 use Rattle.plan_pieces.specs.declared.Span.{Span}
@@ -167,10 +167,10 @@ externals-are code (suc (suc (suc (suc k)))) =
     valued object (orderWith code) n (rw (ne-eqb 3 n (λ e. omega arith)))
 
 record Fine (code from : ℕ) : Type 0 where
-  order-is : wellFormed (orderWith code) ≡ true
-  window-is : windowAllowed (addressWidth object) (base (orderWith code)) 52 ≡ true
-  placed-are : everywhere (λ i. not (misplaced object (addresses (orderWith code)) (base (orderWith code)) 52 i)) 6 ≡ true
-  relocations-are : relocationCheck object (orderWith code) (addresses (orderWith code)) ≡ Passed
+  order-is : wellFormed (classOf object) (orderWith code) ≡ true
+  window-is : windowAllowed (addressWidth object) (baseFor object (orderWith code)) 52 ≡ true
+  placed-are : everywhere (λ i. not (misplaced object (addressesFor object (orderWith code)) (baseFor object (orderWith code)) 52 i)) 6 ≡ true
+  relocations-are : relocationCheck object (orderWith code) (addressesFor object (orderWith code)) ≡ Passed
   -- what is laid lies in 28 bytes
   only-laid : (t b : ℕ) → Covers object (orderWith code) t b → (from ≤ b) × (b < from + 28)
 
@@ -218,17 +218,17 @@ module _ (code from : ℕ) (fine : Fine code from) where
           omega (arith, lo .0, hi .1)
 
   -- the tests of relocation k
-  tested : (k : ℕ) → k < relocationCount object → Tests object order (addresses order) (site object order k) (entryOf object order k)
+  tested : (k : ℕ) → k < relocationCount object → Tests object order (addressesFor object order) (site object order k) (entryOf object order k)
   unfolding findingOf
-  tested k h = kept-rules object order (addresses order) (site object order k) (entryOf object order k) (passed-kept object order (addresses order) (fine .relocations-are) k h)
+  tested k h = kept-rules object order (addressesFor object order) (site object order k) (entryOf object order k) (passed-kept object order (addressesFor object order) (fine .relocations-are) k h)
 
   keeps : (f : Files) → length (f .image) ≡ 52 → Sound (f .journal) (length (f .image)) → count (f .journal) < 16 → 136 + held (f .journal) + 28 ≤ length (f .journal)
       → Rules object order f
   keeps f len is few room =
       record {
         journal-sound = is;
-        order-well = order-well order (fine .order-is);
-        window-well = subst (WindowWell (addressWidth object) (base order)) (sym len) (window-well (addressWidth object) (base order) 52 (fine .window-is));
+        order-well = order-well (classOf object) order (fine .order-is);
+        window-well = subst (WindowWell (addressWidth object) (baseFor object order)) (sym len) (window-well (addressWidth object) (baseFor object order) 52 (fine .window-is));
         header-well = header-is;
         table-well = table-is;
         sections-well = λ i h. sections-are i (omega (arith, count-is));
@@ -236,8 +236,8 @@ module _ (code from : ℕ) (fine : Fine code from) where
         externals-match = λ k h. externals-are code k;
         placed-well = λ i h.
             subst (λ n. PlacedIfAllocated object order n i) (sym len)
-            (placed-well object (addresses order) (base order) 52 i
-            (not-true _ (everywhere-at (λ j. not (misplaced object (addresses order) (base order) 52 j)) 6 (fine .placed-are) i (omega (arith, count-is)))));
+            (placed-well object (addressesFor object order) (baseFor object order) 52 i
+            (not-true _ (everywhere-at (λ j. not (misplaced object (addressesFor object order) (baseFor object order) 52 j)) 6 (fine .placed-are) i (omega (arith, count-is)))));
         shapes = λ k h. shape-well object (site object order k) (entryOf object order k) (tested k h .shape);
         symbols-resolve = λ k h. symbol-well object (site object order k) (entryOf object order k) (valueOf object order k) (tested k h .symbol);
         forms-are = λ k h. form-well object (site object order k) (entryOf object order k) (tested k h .form);
@@ -363,7 +363,7 @@ says₁ before after l =
     let halves = l .distances-whole 4 1 (record { there = omega arith; counts = refl; entry = omega arith }) low-half refl refl in
     let first : halves .0 ≡ 0 = sym (ap place (halves .2)) in
     record {
-      pair = subst (λ k. AddUp 32 U (bytesAt object order₁ after 4 k 4) I (bytesAt object order₁ after 4 1 4) (distanceAt object order₁ (addresses order₁) (siteOf object order₁ 4) k)) first (halves .3);
+      pair = subst (λ k. AddUp 32 U (bytesAt object order₁ after 4 k 4) I (bytesAt object order₁ after 4 1 4) (distanceAt object order₁ (addressesFor object order₁) (siteOf object order₁ 4) k)) first (halves .3);
       call = l .fields 4 2 (record { there = omega arith; counts = refl; entry = omega arith }) .0;
       branch = l .fields 4 3 (record { there = omega arith; counts = refl; entry = omega arith }) .0;
       stack = l .fields 5 1 (record { there = omega arith; counts = refl; entry = omega arith }) .0;
@@ -375,7 +375,7 @@ says₂ before after l =
     let halves = l .distances-whole 4 1 (record { there = omega arith; counts = refl; entry = omega arith }) low-half refl refl in
     let first : halves .0 ≡ 0 = sym (ap place (halves .2)) in
     record {
-      pair = subst (λ k. AddUp 32 U (bytesAt object order₂ after 4 k 4) I (bytesAt object order₂ after 4 1 4) (distanceAt object order₂ (addresses order₂) (siteOf object order₂ 4) k)) first (halves .3);
+      pair = subst (λ k. AddUp 32 U (bytesAt object order₂ after 4 k 4) I (bytesAt object order₂ after 4 1 4) (distanceAt object order₂ (addressesFor object order₂) (siteOf object order₂ 4) k)) first (halves .3);
       call = l .fields 4 2 (record { there = omega arith; counts = refl; entry = omega arith }) .0;
       branch = l .fields 4 3 (record { there = omega arith; counts = refl; entry = omega arith }) .0;
       stack = l .fields 5 1 (record { there = omega arith; counts = refl; entry = omega arith }) .0;

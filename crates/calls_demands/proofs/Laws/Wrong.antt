@@ -18,10 +18,10 @@ use Rattle.elf_read.proofs.Laws.Headers.{header-there}
 use Rattle.elf_read.specs.Headers.{classOf, addressWidth, sectionCount}
 use Rattle.elf_read.specs.Sections.{readSection, sectionAt, allocated, loaded, isAllocated, countingRela, relocationsIn}
 use Rattle.elf_read.specs.Entries.{readRelocation, bytesOf, relocationAt}
-use Rattle.order_format.specs.Orders.{base, entryAt, ascending, wellFormed}
+use Rattle.order_format.specs.Orders.{entryAt, ascending, wellFormed}
 use Rattle.order_lookup.specs.Values.{valueIn}
 use Rattle.order_format.specs.Windows.{lengthAllowed, windowAllowed}
-use Rattle.order_lookup.specs.Addresses.{placedAt, addresses}
+use Rattle.order_lookup.specs.Addresses.{placedAt, addresses, addressesFor, baseFor}
 use Rattle.journal_format.specs.Journals.{oldAt, count, entry, entries, total, isBlank, endsWithin, sound, Sound}
 use Rattle.journal_format.proofs.Laws.Sound.{test-sound}
 use Rattle.plan_pieces.specs.Plans.{overwritten}
@@ -78,7 +78,7 @@ module _ (installs : InstallCall) (d : Demand2 installs) where
       omega arith
 
   -- one that lays each section as it is in the object: the same sentence
-  pub copies-unpatched : ((o r : List ℕ) (f : Files) → installs o r f .after .image ≡ overwritten (f .image) (pieces (λ t. bytesOf o (sectionAt o t)) o (addresses r) (base r) (sectionCount o))) → ⊥
+  pub copies-unpatched : ((o r : List ℕ) (f : Files) → installs o r f .after .image ≡ overwritten (f .image) (pieces (λ t. bytesOf o (sectionAt o t)) o (addressesFor o r) (baseFor o r) (sectionCount o))) → ⊥
   unfolding object order files words bytes le leAt classOf part readSection sectionAt addresses tabulate placedAt valueIn entryAt first read overwritten pieces bytesOf hasBytes loaded allocated
   copies-unpatched wrong =
       let z : _≡_ {A = ℕ} 0 0x12345678 = read-out _ (wrong object order files) in
@@ -97,11 +97,11 @@ missing =
     inr (
       at-once 1 journal-is,
       inr (
-        at-once 2 (order-well bare refl),
+        at-once 4 header-is,
         inr (
-          at-once 3 (window-well (addressWidth object) (base bare) (length (files .image)) refl),
+          at-once 2 (order-well (classOf object) bare refl),
           inr (
-            at-once 4 header-is,
+            at-once 3 (window-well (addressWidth object) (baseFor object bare) (length (files .image)) refl),
             inr (
               at-once 5 table-is,
               inr (at-each 4 5 sections-are, inl (omega arith, at-each 1 6 (λ i h. first-match i h), inl (refl, λ e. never e))),

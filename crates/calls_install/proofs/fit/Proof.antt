@@ -5,10 +5,9 @@ use mathlib.Core.List.{List}
 use Prim.Native.Nat.{ℕ, _<_}
 use lib.ListN.{length}
 use borrow.Author.Tests.{not-true, not-false}
-use Rattle.order_format.specs.Orders.{base}
-use Rattle.order_lookup.specs.Addresses.{addresses}
+use Rattle.order_lookup.specs.Addresses.{addressesFor, baseFor}
 use Rattle.order_format.proofs.Laws.Sound.{reading-sound}
-use Rattle.elf_read.specs.Headers.{sectionCount}
+use Rattle.elf_read.specs.Headers.{classOf, sectionCount}
 use Rattle.plan_pieces.specs.Plans.{Piece, plan, spanOf as spanOfPieces}
 use Rattle.journal_format.specs.Journals.{count, held, noRoom}
 use Rattle.journal_history.specs.Writes.{saved}
@@ -40,11 +39,11 @@ files c = record { image = c .args .image .now; journal = c .args .journal .now 
 abbrev pieces : tie.Start → List Piece
 pieces c = planOf (S c) (O c)
 
-base-is : (c : tie.Start) → c .args .counts .base .0 ≡ base (O c)
-base-is c = reading-sound (O c) (c .args .counts) (c .pre .0 .placeable .named .readable .reading-is) .base-is
+base-is : (c : tie.Start) → c .args .counts .base .0 ≡ baseFor (S c) (O c)
+base-is c = reading-sound (classOf (S c)) (O c) (c .args .counts) (c .pre .0 .placeable .named .readable .reading-is) .base-is
 
-low : (c : tie.Start) → highest (S c) (addresses (O c)) (c .args .counts .base .0) (sectionCount (S c)) < 4294967296
-low c = subst (λ b. highest (S c) (addresses (O c)) b (sectionCount (S c)) < 4294967296) (sym (base-is c)) (ends-low (S c) (O c) (c .args .counts) (Len c) (c .pre .0))
+low : (c : tie.Start) → highest (S c) (addressesFor (S c) (O c)) (c .args .counts .base .0) (sectionCount (S c)) < 4294967296
+low c = subst (λ b. highest (S c) (addressesFor (S c) (O c)) b (sectionCount (S c)) < 4294967296) (sym (base-is c)) (ends-low (S c) (O c) (c .args .counts) (Len c) (c .pre .0))
 
 plan-is : (c : tie.Start) → judgement (S c) (O c) (Len c) ≡ plan (pieces c)
 plan-is c = gives-plan (S c) (O c) (Len c) (c .args .counts) (c .pre .0)
@@ -57,7 +56,7 @@ st c = c .before .before .before .before .before .before .before
 span-taken : (c : tie.After-span-of) → c .span-of .result ≡ spanOfPieces (pieces (st c))
 span-taken c =
     let s = st c in
-    c .span-of .ensures ∙ ap (λ l. spanOf (S s) l (s .args .counts .base .0)) (s .pre .1 .addresses-are) ∙ ap (spanOf (S s) (addresses (O s))) (base-is s) ∙ span-is (S s) (O s) (s .args .counts) (Len s) (s .pre .0)
+    c .span-of .ensures ∙ ap (λ l. spanOf (S s) l (s .args .counts .base .0)) (s .pre .1 .addresses-are) ∙ ap (spanOf (S s) (addressesFor (S s) (O s))) (base-is s) ∙ span-is (S s) (O s) (s .args .counts) (Len s) (s .pre .0)
 
 -- ---- where the room has been asked for
 

@@ -52,7 +52,7 @@ returns c =
     let d : tie.After-is-done = search in
     let j = judged d in
     let s = st j in
-    refused-by judgement (S s) (O s) (files s) (s .pre .1) _ (sym (j .judge .ensures .verdict-is) ∙ verdict-refused (S s) (O s) (j .judge .result .answer) (sym (d .is-done .ensures) ∙ not-true _ (c .if1 .taken)))
+    refused-by judgement (S s) (O s) (files s) (s .pre .2) _ (sym (j .judge .ensures .verdict-is) ∙ verdict-refused (S s) (O s) (j .judge .result .answer) (sym (d .is-done .ensures) ∙ not-true _ (c .if1 .taken)))
 
 fit-requires : tie.Need-fit-requires
 fit-requires c κs =
@@ -60,7 +60,7 @@ fit-requires c κs =
     let d = passed e in
     let j = judged d in
     let s = st j in
-    (done-fits (S s) (O s) (Len s) _ (plan-is e) (s .pre .0), j .judge .ensures .ready (sym (d .is-done .ensures) ∙ not-false _ (e .if1 .left)), s .pre .1)
+    (done-fits (S s) (O s) (Len s) _ (plan-is e) (s .pre .1), j .judge .ensures .ready (sym (d .is-done .ensures) ∙ not-false _ (e .if1 .left)), s .pre .2)
 
 returns-2 : tie.Need-returns-2
 returns-2 c = let f : tie.After-fit = search in f .fit .ensures

@@ -11,7 +11,7 @@ check-externals-requires : tie.Need-check-externals-requires
 check-externals-requires c κs =
     let s : tie.Start = search in
     let f = s .pre .0 in
-    (sound-object (s .args .object .now) (f .object-is), f .reading-is)
+    (sound-object (s .args .object .now) (f .header) (f .sections), f .reading-is)
 
 judge-placing-requires : tie.Need-judge-placing-requires
 judge-placing-requires c κs =

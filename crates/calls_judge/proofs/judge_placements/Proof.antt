@@ -11,7 +11,7 @@ check-placements-requires : tie.Need-check-placements-requires
 check-placements-requires c κs =
     let s : tie.Start = search in
     let f = s .pre .0 in
-    (sound-object (s .args .object .now) (f .object-is), f .reading-is)
+    (sound-object (s .args .object .now) (f .header) (f .sections), f .reading-is)
 
 judge-externals-requires : tie.Need-judge-externals-requires
 judge-externals-requires c κs =

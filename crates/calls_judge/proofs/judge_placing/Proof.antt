@@ -4,9 +4,12 @@ use mathlib.Core.List.{List}
 use Prim.Native.Nat.{ℕ}
 use borrow.Author.Tests.{leb-true}
 use Rattle.numbers_definitions.proofs.Laws.Tests.{and-left}
-use Rattle.order_format.specs.Orders.{base}
+use Rattle.elf_read.specs.Headers.{classOf}
+use Rattle.elf_read.proofs.Laws.Headers.{header-there}
+use Rattle.elf_header.proofs.Laws.Headers.{header-long}
+use Rattle.order_format.specs.Orders.{reading}
 use Rattle.order_format.specs.Windows.{lengthAllowed, windowAllowed}
-use Rattle.order_lookup.specs.Addresses.{addresses}
+use Rattle.order_lookup.specs.Addresses.{addresses, addressesFor, baseFor}
 use Rattle.order_format.proofs.Laws.Sound.{reading-sound}
 use Rattle.elf_check.proofs.Laws.Objects.{sound-object}
 use Rattle.placing_check.specs.Placing.{placingCheck}
@@ -29,34 +32,48 @@ O c = c .args .order .now
 abbrev filled : tie.After-check-placing → tie.After-fill-addresses
 filled c = c .before
 
-abbrev st : tie.After-check-placing → tie.Start
-st c = filled c .before .before .before .before .before .before
+abbrev classed : tie.After-fill-addresses → tie.After-class-of
+classed c = c .before
 
-found : (c : tie.After-check-placing) → placingCheck (S (st c)) (addresses (O (st c))) (base (O (st c))) (st c .args .len) ≡ c .check-placing .result .fault
+abbrev st : tie.After-check-placing → tie.Start
+st c = classed (filled c) .before .before .before .before .before .before
+
+-- the array is that of the order
+array-is : (c : tie.After-check-placing) → filled c .fill-addresses .result ≡ addressesFor (S (st c)) (O (st c))
+array-is c = filled c .fill-addresses .ensures ∙ ap (λ k. addresses k (O (st c))) (classed (filled c) .class-of .ensures)
+
+found : (c : tie.After-check-placing)
+    → placingCheck (S (st c)) (addressesFor (S (st c)) (O (st c))) (baseFor (S (st c)) (O (st c))) (st c .args .len) ≡ c .check-placing .result .fault
 found c =
     let s = st c in
-    ap (λ b. placingCheck (S s) (addresses (O s)) b (s .args .len)) (sym (reading-sound (O s) (s .args .counts) (s .pre .0 .readable .reading-is) .base-is))
-    ∙ ap (λ l. placingCheck (S s) l (s .args .counts .base .0) (s .args .len)) (sym (filled c .fill-addresses .ensures))
+    ap (λ b. placingCheck (S s) (addressesFor (S s) (O s)) b (s .args .len))
+    (sym (reading-sound (classOf (S s)) (O s) (s .args .counts) (s .pre .0 .readable .reading-is) .base-is))
+    ∙ ap (λ l. placingCheck (S s) l (s .args .counts .base .0) (s .args .len)) (sym (array-is c))
     ∙ sym (c .check-placing .ensures .0)
 
 -- ---- the needs
 
+class-of-requires : tie.Need-class-of-requires
+class-of-requires c κs = let s : tie.Start = search in header-there _ (header-long _ (s .pre .0 .readable .header))
+
 fill-addresses-requires : tie.Need-fill-addresses-requires
-fill-addresses-requires c κs = let s : tie.Start = search in (s .pre .1, s .pre .0 .readable .reading-is)
+fill-addresses-requires c κs =
+    let s : tie.Start = search in
+    (s .pre .1, ap (λ k. reading k (O s)) (c .class-of .ensures) ∙ s .pre .0 .readable .reading-is)
 
 check-placing-requires : tie.Need-check-placing-requires
 unfolding windowAllowed lengthAllowed
 check-placing-requires c κs =
     let s : tie.Start = search in
     let f = s .pre .0 .readable in
-    (sound-object (S s) (f .object-is), leb-true _ _ (and-left (lengthAllowed (s .args .len)) _ (f .window)))
+    (sound-object (S s) (f .header) (f .sections), leb-true _ _ (and-left (lengthAllowed (s .args .len)) _ (f .window)))
 
 judge-relocations-requires : tie.Need-judge-relocations-requires
 judge-relocations-requires c κs =
     let p : tie.After-check-placing = search in
     let told : tie.After-enum-told = search in
     let s = st p in
-    (record { named = s .pre .0; placing = found p ∙ told .enum-told .given .1 }, p .check-placing .ensures .1 ∙ filled p .fill-addresses .ensures, s .pre .2)
+    (record { named = s .pre .0; placing = found p ∙ told .enum-told .given .1 }, p .check-placing .ensures .1 ∙ array-is p, s .pre .2)
 
 returns : tie.Need-returns
 returns c = let j : tie.After-judge-relocations = search in j .judge-relocations .ensures
@@ -72,6 +89,7 @@ pub judge-placing-spec : {M : Type 1} → statement M
 judge-placing-spec =
     tie.close
     (tie.spec
+    class-of-requires
     fill-addresses-requires
     check-placing-requires
     (λ c. search needs)

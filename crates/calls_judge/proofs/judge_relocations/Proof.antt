@@ -3,8 +3,7 @@ use mathlib.Core.Path.{_≡_, refl, sym, ap, _∙_, subst}
 use mathlib.Core.List.{List}
 use Prim.Native.Nat.{ℕ}
 use lib.Dec.{eqb}
-use Rattle.order_format.specs.Orders.{base}
-use Rattle.order_lookup.specs.Addresses.{addresses}
+use Rattle.order_lookup.specs.Addresses.{addressesFor, baseFor}
 use Rattle.elf_check.specs.Requires.{SoundObject}
 use Rattle.elf_check.proofs.Laws.Objects.{sound-object}
 use Rattle.plan_pieces.specs.Plans.{refused}
@@ -25,18 +24,22 @@ S c = c .args .object .now
 abbrev O : tie.Start → List ℕ
 O c = c .args .order .now
 
-is-sound : (c : tie.Start) → SoundObject (S c)
-is-sound c = sound-object (S c) (c .pre .0 .named .readable .object-is)
+-- the addresses by the order
+abbrev L : tie.Start → List ℕ
+L c = addressesFor (S c) (O c)
 
-placed-at : (c : tie.Start) → Placed (S c) (addresses (O c))
-placed-at c = placed (S c) (addresses (O c)) (base (O c)) (c .args .len) (c .pre .0 .placing)
+is-sound : (c : tie.Start) → SoundObject (S c)
+is-sound c = sound-object (S c) (c .pre .0 .named .readable .header) (c .pre .0 .named .readable .sections)
+
+placed-at : (c : tie.Start) → Placed (S c) (L c)
+placed-at c = placed (S c) (L c) (baseFor (S c) (O c)) (c .args .len) (c .pre .0 .placing)
 
 -- ---- where the values have been worked out
 
 abbrev st : tie.After-symbol-values → tie.Start
 st c = c .before .before .before .before .before .before .before .before .before
 
-placed-is : (c : tie.After-symbol-values) → c .symbol-values .result ≡ addresses (O (st c))
+placed-is : (c : tie.After-symbol-values) → c .symbol-values .result ≡ L (st c)
 placed-is c = c .symbol-values .ensures .0 ∙ st c .pre .1
 
 symbols-of-requires : tie.Need-symbols-of-requires
@@ -61,7 +64,7 @@ check-relocations-requires c κs =
 abbrev valued : tie.After-check-relocations → tie.After-symbol-values
 valued c = c .before .before .before .before .before .before .before .before
 
-found : (c : tie.After-check-relocations) → relocationCheck (S (st (valued c))) (O (st (valued c))) (addresses (O (st (valued c)))) ≡ c .check-relocations .result
+found : (c : tie.After-check-relocations) → relocationCheck (S (st (valued c))) (O (st (valued c))) (L (st (valued c))) ≡ c .check-relocations .result
 found c =
     let s = st (valued c) in
     ap (relocationCheck (S s) (O s)) (sym (placed-is (valued c))) ∙ sym (c .check-relocations .ensures .0)
@@ -71,7 +74,7 @@ refusal-requires c κs =
     let r : tie.After-check-relocations = search in
     let b : tie.After-finding = search in
     let s = st (valued r) in
-    broken-is (S s) (O s) (addresses (O s)) _ _ (found r ∙ b .finding .given .1)
+    broken-is (S s) (O s) (L s) _ _ (found r ∙ b .finding .given .1)
 
 returns : tie.Need-returns
 returns c =
@@ -90,7 +93,7 @@ returns-2 c =
     let s = st (valued r) in
     let told = b .finding .given .0 in
     let is = found r ∙ b .finding .given .1 in
-    let broken = broken-is (S s) (O s) (addresses (O s)) (told .0) (told .1 .0) is in
+    let broken = broken-is (S s) (O s) (L s) (told .0) (told .1 .0) is in
     refused-well (S s) (O s) (s .args .len) _ _ _ (ap (λ a. eqb (a .number) 0) (c .refusal .ensures) ∙ some-number (told .0) broken)
     (gives-9-to-14 (S s) (O s) (s .args .len) (s .args .counts) _ _ (s .pre .0) is ∙ ap refused (sym (c .refusal .ensures)))
 

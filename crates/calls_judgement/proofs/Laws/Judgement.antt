@@ -13,15 +13,17 @@ use Rattle.order_format.specs.declared.OrderHeader.{OrderHeader}
 use Rattle.order_format.specs.declared.Reading.the-variants.{Malformed, WellFormed}
 use Rattle.order_format.specs.Orders.{base, wellFormed, reading}
 use Rattle.order_format.specs.Windows.{windowAllowed}
-use Rattle.order_lookup.specs.Addresses.{addresses}
+use Rattle.order_lookup.specs.Addresses.{addresses, addressesFor, baseFor}
 use Rattle.order_format.proofs.Laws.Sound.{Sound, orderHeaderOf, wellFormed-sound, reading-sound, sound-reading, sound-counts, sound-wellFormed}
-use Rattle.elf_check.specs.declared.ObjectCheck.{ObjectCheck}
-use Rattle.elf_check.specs.declared.ObjectCheck.the-variants.{Passed, BadHeader, BadSection}
-use Rattle.elf_check.specs.Rules.{objectCheck}
-use Rattle.elf_read.specs.Headers.{addressWidth}
+use Rattle.numbers_definitions.specs.declared.Class.{Class}
+use Rattle.elf_header.specs.Headers.{headerAllowed}
+use Rattle.elf_check.specs.declared.SectionCheck.{SectionCheck}
+use Rattle.elf_check.specs.declared.SectionCheck.the-variants.{Sound as AllSound, Broken as BrokenAt}
+use Rattle.elf_check.specs.Rules.{sectionCheck}
+use Rattle.elf_read.specs.Headers.{classOf, addressWidth}
 use Rattle.elf_read.specs.Entries.{relocationCount}
 use Rattle.plan_pieces.specs.Answers.{Answer, says}
-use Rattle.plan_pieces.specs.Plans.{Piece, refused, plan}
+use Rattle.plan_pieces.specs.Plans.{Piece, Verdict, refused, plan}
 use Rattle.placing_match.specs.declared.Fault.{Fault}
 use Rattle.placing_match.specs.declared.Fault.the-variants.{Nowhere, At}
 use Rattle.placing_match.specs.Placements.{placementCheck}
@@ -32,25 +34,26 @@ use Rattle.relocations_rules.specs.declared.Finding.the-variants.{Kept, BadShap
 use Rattle.relocations_rules.specs.declared.RelocationCheck.{RelocationCheck}
 use Rattle.relocations_rules.specs.declared.RelocationCheck.the-variants.{Passed as AllKept, Broken}
 use Rattle.relocations_rules.specs.Search.{number, findingOf, isBroken, relocationCheck}
-use Rattle.calls_judgement.specs.Judgement.{afterObject, afterFault, afterRelocations, planOf, judgement}
+use Rattle.calls_judgement.specs.Judgement.{afterTest, afterSections, afterFault, afterRelocations, planOf, judgement}
 use Rattle.calls_judgement.specs.Requires.{Readable, Named, Placeable, Fitting}
 
 -- ---- orders
 
-pub formed : (order : List ℕ) (counts : OrderHeader) → reading order ≡ WellFormed counts → wellFormed order ≡ true
-formed order counts e =
-    let s = reading-sound order counts e in
-    sound-wellFormed order (subst (Sound order) (sound-counts order counts s) s)
+module _ (c : Class) (order : List ℕ) where
+  pub formed : (counts : OrderHeader) → reading c order ≡ WellFormed counts → wellFormed c order ≡ true
+  formed counts e =
+      let s = reading-sound c order counts e in
+      sound-wellFormed c order (subst (Sound c order) (sound-counts c order counts s) s)
 
-not-formed : (order : List ℕ) → reading order ≡ Malformed → wellFormed order ≡ false
-unfolding reading
-not-formed order e = go (wellFormed order) refl e
-  where
-    go : (b : Bool) → wellFormed order ≡ b → cond b (WellFormed (orderHeaderOf order)) Malformed ≡ Malformed → wellFormed order ≡ false
-    go true q r =
-        let z : _≡_ {A = ℕ} 0 1 = cc in
-        absurd (omega arith)
-    go false q r = q
+  not-formed : reading c order ≡ Malformed → wellFormed c order ≡ false
+  unfolding reading
+  not-formed e = go (wellFormed c order) refl e
+    where
+      go : (b : Bool) → wellFormed c order ≡ b → cond b (WellFormed (orderHeaderOf c order)) Malformed ≡ Malformed → wellFormed c order ≡ false
+      go true q r =
+          let z : _≡_ {A = ℕ} 0 1 = cc in
+          absurd (omega arith)
+      go false q r = q
 
 -- ---- relocations
 
@@ -83,52 +86,53 @@ some-number OffBoundary e = refl
 -- ---- the verdict at each check
 
 module _ (object order : List ℕ) (len : ℕ) where
-  pub gives-2 : reading order ≡ Malformed → judgement object order len ≡ refused (says 2 0)
+  pub gives-4 : headerAllowed object ≡ false → judgement object order len ≡ refused (says 4 0)
   unfolding judgement
-  gives-2 e = rw (not-formed order e)
+  gives-4 h = rw h
+
+  pub gives-2 : headerAllowed object ≡ true → reading (classOf object) order ≡ Malformed → judgement object order len ≡ refused (says 2 0)
+  unfolding judgement
+  gives-2 h e = rw (h, not-formed (classOf object) order e)
 
   module _ (counts : OrderHeader) where
-    pub gives-3 : reading order ≡ WellFormed counts → windowAllowed (addressWidth object) (base order) len ≡ false → judgement object order len ≡ refused (says 3 0)
+    pub gives-3 : headerAllowed object ≡ true → reading (classOf object) order ≡ WellFormed counts
+        → windowAllowed (addressWidth object) (baseFor object order) len ≡ false → judgement object order len ≡ refused (says 3 0)
     unfolding judgement
-    gives-3 e w = rw (formed order counts e, w)
+    gives-3 h e w = rw (h, formed (classOf object) order counts e, w)
 
-    pub gives-4 : reading order ≡ WellFormed counts → windowAllowed (addressWidth object) (base order) len ≡ true → objectCheck object ≡ BadHeader → judgement object order len ≡ refused (says 4 0)
+    pub gives-5 : (i : ℕ) → headerAllowed object ≡ true → reading (classOf object) order ≡ WellFormed counts
+        → windowAllowed (addressWidth object) (baseFor object order) len ≡ true → sectionCheck object ≡ BrokenAt i → judgement object order len ≡ refused (says 5 i)
     unfolding judgement
-    gives-4 e w o = rw (formed order counts e, w, o)
+    gives-5 i h e w o = rw (h, formed (classOf object) order counts e, w, o)
 
-    pub gives-5 : (i : ℕ) → reading order ≡ WellFormed counts → windowAllowed (addressWidth object) (base order) len ≡ true → objectCheck object ≡ BadSection i → judgement object order len ≡ refused (says 5 i)
+    -- what the checks after these four say
+    abbrev placed : Verdict
+    placed = afterFault 8 (placingCheck object (addressesFor object order) (baseFor object order) len)
+        (afterRelocations (relocationCheck object order (addressesFor object order)) (plan (planOf object order)))
+
+    read-well : Readable object order counts len → judgement object order len ≡ afterFault 6 (placementCheck object order) (afterFault 7 (externalCheck object order) placed)
     unfolding judgement
-    gives-5 i e w o = rw (formed order counts e, w, o)
+    read-well r = rw (r .header, formed (classOf object) order counts (r .reading-is), r .window, r .sections)
 
     pub gives-6 : (i : ℕ) → Readable object order counts len → placementCheck object order ≡ At i → judgement object order len ≡ refused (says 6 i)
-    unfolding judgement
-    gives-6 i r p = rw (formed order counts (r .reading-is), r .window, r .object-is, p)
+    gives-6 i r p = read-well r ∙ rw p
 
     pub gives-7 : (k : ℕ) → Readable object order counts len → placementCheck object order ≡ Nowhere → externalCheck object order ≡ At k → judgement object order len ≡ refused (says 7 k)
-    unfolding judgement
-    gives-7 k r p x = rw (formed order counts (r .reading-is), r .window, r .object-is, p, x)
+    gives-7 k r p x = read-well r ∙ rw (p, x)
 
-    pub gives-8 : (i : ℕ) → Named object order counts len → placingCheck object (addresses order) (base order) len ≡ At i → judgement object order len ≡ refused (says 8 i)
-    unfolding judgement
-    gives-8 i n p =
-        let r = n .readable in
-        rw (formed order counts (r .reading-is), r .window, r .object-is, n .placements, n .externals, p)
+    named-well : Named object order counts len → judgement object order len ≡ placed
+    named-well n = read-well (n .readable) ∙ rw (n .placements, n .externals)
 
-    pub gives-9-to-14 : (f : Finding) (k : ℕ) → Placeable object order counts len → relocationCheck object order (addresses order) ≡ Broken f k
+    pub gives-8 : (i : ℕ) → Named object order counts len → placingCheck object (addressesFor object order) (baseFor object order) len ≡ At i
+        → judgement object order len ≡ refused (says 8 i)
+    gives-8 i n p = named-well n ∙ rw p
+
+    pub gives-9-to-14 : (f : Finding) (k : ℕ) → Placeable object order counts len → relocationCheck object order (addressesFor object order) ≡ Broken f k
         → judgement object order len ≡ refused (says (number f) k)
-    unfolding judgement
-    gives-9-to-14 f k p e =
-        let n = p .named in
-        let r = n .readable in
-        rw (formed order counts (r .reading-is), r .window, r .object-is, n .placements, n .externals, p .placing, e)
+    gives-9-to-14 f k p e = named-well (p .named) ∙ rw (p .placing, e)
 
     pub gives-plan : Fitting object order counts len → judgement object order len ≡ plan (planOf object order)
-    unfolding judgement
-    gives-plan f =
-        let p = f .placeable in
-        let n = p .named in
-        let r = n .readable in
-        rw (formed order counts (r .reading-is), r .window, r .object-is, n .placements, n .externals, p .placing, f .relocations)
+    gives-plan f = named-well (f .placeable .named) ∙ rw (f .placeable .placing, f .relocations)
 
 -- ---- a plan is given only where every check passes
 
@@ -145,30 +149,33 @@ wrong a ps e =
 pub plan-fits : (object order : List ℕ) (len : ℕ) (ps : List Piece) → judgement object order len ≡ plan ps → Fits object order len ps
 unfolding judgement
 plan-fits object order len ps h =
-    go (wellFormed order) refl (windowAllowed (addressWidth object) (base order) len) refl (objectCheck object) refl (placementCheck object order) refl (externalCheck object order) refl
-    (placingCheck object (addresses order) (base order) len) refl (relocationCheck object order (addresses order)) refl h
+    go (headerAllowed object) refl (wellFormed c order) refl (windowAllowed (addressWidth object) (base c order) len) refl (sectionCheck object) refl (placementCheck object order) refl
+    (externalCheck object order) refl (placingCheck object (addresses c order) (base c order) len) refl (relocationCheck object order (addresses c order)) refl h
   where
-    go : (a : Bool) → wellFormed order ≡ a → (b : Bool) → windowAllowed (addressWidth object) (base order) len ≡ b → (c : ObjectCheck) → objectCheck object ≡ c
-        → (d : Fault) → placementCheck object order ≡ d → (e : Fault) → externalCheck object order ≡ e
-        → (f : Fault) → placingCheck object (addresses order) (base order) len ≡ f → (g : RelocationCheck) → relocationCheck object order (addresses order) ≡ g
-        → cond a (cond b (afterObject c (afterFault 6 d (afterFault 7 e (afterFault 8 f (afterRelocations g (plan (planOf object order))))))) (refused (says 3 0))) (refused (says 2 0)) ≡ plan ps
+    c : Class
+    c = classOf object
+
+    go : (h : Bool) → headerAllowed object ≡ h → (a : Bool) → wellFormed c order ≡ a → (b : Bool) → windowAllowed (addressWidth object) (base c order) len ≡ b
+        → (s : SectionCheck) → sectionCheck object ≡ s → (d : Fault) → placementCheck object order ≡ d → (e : Fault) → externalCheck object order ≡ e
+        → (f : Fault) → placingCheck object (addresses c order) (base c order) len ≡ f → (g : RelocationCheck) → relocationCheck object order (addresses c order) ≡ g
+        → afterTest 4 h (afterTest 2 a (afterTest 3 b (afterSections s (afterFault 6 d (afterFault 7 e (afterFault 8 f (afterRelocations g (plan (planOf object order))))))))) ≡ plan ps
         → Fits object order len ps
-    go false p₁ b p₂ c p₃ d p₄ e p₅ f p₆ g p₇ h = wrong (says 2 0) ps h
-    go true p₁ false p₂ c p₃ d p₄ e p₅ f p₆ g p₇ h = wrong (says 3 0) ps h
-    go true p₁ true p₂ BadHeader p₃ d p₄ e p₅ f p₆ g p₇ h = wrong (says 4 0) ps h
-    go true p₁ true p₂ (BadSection i) p₃ d p₄ e p₅ f p₆ g p₇ h = wrong (says 5 i) ps h
-    go true p₁ true p₂ Passed p₃ (At i) p₄ e p₅ f p₆ g p₇ h = wrong (says 6 i) ps h
-    go true p₁ true p₂ Passed p₃ Nowhere p₄ (At i) p₅ f p₆ g p₇ h = wrong (says 7 i) ps h
-    go true p₁ true p₂ Passed p₃ Nowhere p₄ Nowhere p₅ (At i) p₆ g p₇ h = wrong (says 8 i) ps h
-    go true p₁ true p₂ Passed p₃ Nowhere p₄ Nowhere p₅ Nowhere p₆ (Broken x k) p₇ h = wrong (says (number x) k) ps h
-    go true p₁ true p₂ Passed p₃ Nowhere p₄ Nowhere p₅ Nowhere p₆ AllKept p₇ h =
-        let s = wellFormed-sound order p₁ in
+    go false p₀ a p₁ b p₂ s p₃ d p₄ e p₅ f p₆ g p₇ h = wrong (says 4 0) ps h
+    go true p₀ false p₁ b p₂ s p₃ d p₄ e p₅ f p₆ g p₇ h = wrong (says 2 0) ps h
+    go true p₀ true p₁ false p₂ s p₃ d p₄ e p₅ f p₆ g p₇ h = wrong (says 3 0) ps h
+    go true p₀ true p₁ true p₂ (BrokenAt i) p₃ d p₄ e p₅ f p₆ g p₇ h = wrong (says 5 i) ps h
+    go true p₀ true p₁ true p₂ AllSound p₃ (At i) p₄ e p₅ f p₆ g p₇ h = wrong (says 6 i) ps h
+    go true p₀ true p₁ true p₂ AllSound p₃ Nowhere p₄ (At i) p₅ f p₆ g p₇ h = wrong (says 7 i) ps h
+    go true p₀ true p₁ true p₂ AllSound p₃ Nowhere p₄ Nowhere p₅ (At i) p₆ g p₇ h = wrong (says 8 i) ps h
+    go true p₀ true p₁ true p₂ AllSound p₃ Nowhere p₄ Nowhere p₅ Nowhere p₆ (Broken x k) p₇ h = wrong (says (number x) k) ps h
+    go true p₀ true p₁ true p₂ AllSound p₃ Nowhere p₄ Nowhere p₅ Nowhere p₆ AllKept p₇ h =
+        let s = wellFormed-sound c order p₁ in
         record {
-          counts = orderHeaderOf order;
+          counts = orderHeaderOf c order;
           fitting = record {
             placeable = record {
               named = record {
-                readable = record { reading-is = sound-reading order (orderHeaderOf order) s; window = p₂; object-is = p₃ };
+                readable = record { header = p₀; reading-is = sound-reading c order (orderHeaderOf c order) s; window = p₂; sections = p₃ };
                 placements = p₄;
                 externals = p₅;
               };
@@ -182,14 +189,14 @@ plan-fits object order len ps h =
 -- ---- from a plan back to the checks
 
 module _ (object order : List ℕ) (len : ℕ) where
-  pub done-fits : (counts : OrderHeader) → judgement object order len ≡ plan (planOf object order) → reading order ≡ WellFormed counts → Fitting object order counts len
+  pub done-fits : (counts : OrderHeader) → judgement object order len ≡ plan (planOf object order) → reading (classOf object) order ≡ WellFormed counts → Fitting object order counts len
   done-fits counts e r =
       let f = plan-fits object order len (planOf object order) e in
       let told : WellFormed (f .counts) ≡ WellFormed counts = sym (f .fitting .placeable .named .readable .reading-is) ∙ r in
       let same : f .counts ≡ counts = cc in
       subst (λ n. Fitting object order n len) same (f .fitting)
 
-  pub done-formed : judgement object order len ≡ plan (planOf object order) → reading order ≡ Malformed → ⊥
+  pub done-formed : judgement object order len ≡ plan (planOf object order) → reading (classOf object) order ≡ Malformed → ⊥
   done-formed e r =
       let f = plan-fits object order len (planOf object order) e in
       let told : WellFormed (f .counts) ≡ Malformed = sym (f .fitting .placeable .named .readable .reading-is) ∙ r in

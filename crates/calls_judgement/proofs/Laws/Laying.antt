@@ -13,9 +13,8 @@ use borrow.Author.Tests.{leb-true}
 use Rattle.numbers_definitions.proofs.Laws.Tests.{and-left}
 use Rattle.numbers_definitions.proofs.Laws.Lists.{length-part}
 use Rattle.order_format.specs.declared.OrderHeader.{OrderHeader}
-use Rattle.order_format.specs.Orders.{base}
 use Rattle.order_format.specs.Windows.{maxImage, lengthAllowed, windowAllowed}
-use Rattle.order_lookup.specs.Addresses.{addresses}
+use Rattle.order_lookup.specs.Addresses.{addressesFor, baseFor}
 use Rattle.elf_read.specs.Headers.{sectionCount}
 use Rattle.elf_read.specs.Sections.{sectionAt, loaded}
 use Rattle.elf_read.specs.Entries.{bytesOf}
@@ -44,10 +43,10 @@ use Rattle.calls_judgement.proofs.Laws.Judgement.{plan-fits}
 
 module _ (object order : List ℕ) (counts : OrderHeader) (len : ℕ) (f : Fitting object order counts len) where
   pub is-sound : SoundObject object
-  is-sound = sound-object object (f .placeable .named .readable .object-is)
+  is-sound = let r = f .placeable .named .readable in sound-object object (r .header) (r .sections)
 
-  pub is-placed : Placed object (addresses order)
-  is-placed = placed object (addresses order) (base order) len (f .placeable .placing)
+  pub is-placed : Placed object (addressesFor object order)
+  is-placed = placed object (addressesFor object order) (baseFor object order) len (f .placeable .placing)
 
   pub length-fits : lengthAllowed len ≡ true
   unfolding windowAllowed
@@ -58,8 +57,8 @@ module _ (object order : List ℕ) (counts : OrderHeader) (len : ℕ) (f : Fitti
   length-short = leb-true len maxImage length-fits
 
   pub bytes-inside : (t : ℕ) → t < sectionCount object → hasBytes (sectionAt object t) ≡ true
-      → (base order ≤ getD (addresses order) t 0) × (getD (addresses order) t 0 - base order + sectionAt object t .size ≤ len)
-  bytes-inside t h e = inside-image object (addresses order) (base order) len (f .placeable .placing) t h e
+      → (baseFor object order ≤ getD (addressesFor object order) t 0) × (getD (addressesFor object order) t 0 - baseFor object order + sectionAt object t .size ≤ len)
+  bytes-inside t h e = inside-image object (addressesFor object order) (baseFor object order) len (f .placeable .placing) t h e
 
   pub bytes-loaded : (t : ℕ) → hasBytes (sectionAt object t) ≡ true → loaded (sectionAt object t) ≡ true
   unfolding hasBytes
@@ -71,19 +70,19 @@ module _ (object order : List ℕ) (counts : OrderHeader) (len : ℕ) (f : Fitti
   own-length t h l = length-part object (sectionAt object t .offset .0) (sectionAt object t .size) (loaded-inside object is-sound t h l .inside)
 
   pub relocated-length : (t : ℕ) → t < sectionCount object → loaded (sectionAt object t) ≡ true
-      → length (relocated object order (addresses order) t) ≡ sectionAt object t .size
+      → length (relocated object order (addressesFor object order) t) ≡ sectionAt object t .size
   relocated-length t h l = go (decLt (relaOf object t) (sectionCount object))
     where
-      go : Dec (relaOf object t < sectionCount object) → length (relocated object order (addresses order) t) ≡ sectionAt object t .size
+      go : Dec (relaOf object t < sectionCount object) → length (relocated object order (addressesFor object order) t) ≡ sectionAt object t .size
       go (yes r) =
-          let x = siteAt object (addresses order) (relaOf object t) in
-          ap length (relocated-some object order (addresses order) t r)
-          ∙ length-after object order (addresses order) x (count object x)
-          ∙ ap length (found-target object (addresses order) t r)
+          let x = siteAt object (addressesFor object order) (relaOf object t) in
+          ap length (relocated-some object order (addressesFor object order) t r)
+          ∙ length-after object order (addressesFor object order) x (count object x)
+          ∙ ap length (found-target object (addressesFor object order) t r)
           ∙ own-length t h l
-      go (no r) = ap length (relocated-none object order (addresses order) t (omega arith)) ∙ own-length t h l
+      go (no r) = ap length (relocated-none object order (addressesFor object order) t (omega arith)) ∙ own-length t h l
 
-  pub sized : Sized (relocated object order (addresses order)) object (sectionCount object)
+  pub sized : Sized (relocated object order (addressesFor object order)) object (sectionCount object)
   sized t h e = relocated-length t h (bytes-loaded t e)
 
   -- ---- the pieces lie inside the image
@@ -92,16 +91,16 @@ module _ (object order : List ℕ) (counts : OrderHeader) (len : ℕ) (f : Fitti
   inside-snoc [] at b i h = (h, tt)
   inside-snoc (piece a c ∷ ps) at b i h = (i .0, inside-snoc ps at b (i .1) h)
 
-  pieces-inside : (n : ℕ) → n ≤ sectionCount object → Inside len (pieces (relocated object order (addresses order)) object (addresses order) (base order) n)
+  pieces-inside : (n : ℕ) → n ≤ sectionCount object → Inside len (pieces (relocated object order (addressesFor object order)) object (addressesFor object order) (baseFor object order) n)
   unfolding pieces
   pieces-inside zero h = tt
   pieces-inside (suc t) h = go (hasBytes (sectionAt object t)) refl (pieces-inside t (omega arith))
     where
       before : List Piece
-      before = pieces (relocated object order (addresses order)) object (addresses order) (base order) t
+      before = pieces (relocated object order (addressesFor object order)) object (addressesFor object order) (baseFor object order) t
 
       go : (b : Bool) → hasBytes (sectionAt object t) ≡ b → Inside len before
-          → Inside len (cond b (before ++ piece (getD (addresses order) t 0 - base order) (relocated object order (addresses order) t) ∷ []) before)
+          → Inside len (cond b (before ++ piece (getD (addressesFor object order) t 0 - baseFor object order) (relocated object order (addressesFor object order) t) ∷ []) before)
       go true e i = inside-snoc before _ _ i (omega (arith, bytes-inside t h e .1, sized t h e))
       go false e i = i
 
@@ -110,12 +109,12 @@ module _ (object order : List ℕ) (counts : OrderHeader) (len : ℕ) (f : Fitti
   plan-inside = pieces-inside (sectionCount object) (omega arith)
 
   -- the span that is saved is the plan's
-  pub span-is : spanOf object (addresses order) (base order) ≡ spanOfPieces (planOf object order)
+  pub span-is : spanOf object (addressesFor object order) (baseFor object order) ≡ spanOfPieces (planOf object order)
   unfolding planOf
-  span-is = span-of-pieces (relocated object order (addresses order)) object (addresses order) (base order) sized (from-base object (addresses order) (base order) len (f .placeable .placing))
+  span-is = span-of-pieces (relocated object order (addressesFor object order)) object (addressesFor object order) (baseFor object order) sized (from-base object (addressesFor object order) (baseFor object order) len (f .placeable .placing))
 
-  pub ends-low : highest object (addresses order) (base order) (sectionCount object) < 4294967296
-  ends-low = omega (arith, highest-inside object (addresses order) (base order) len (f .placeable .placing), length-short)
+  pub ends-low : highest object (addressesFor object order) (baseFor object order) (sectionCount object) < 4294967296
+  ends-low = omega (arith, highest-inside object (addressesFor object order) (baseFor object order) len (f .placeable .placing), length-short)
 
 -- the only thing that the history needs from a judgement
 pub lays-inside : LaysInside judgement
@@ -130,7 +129,7 @@ unfolding withSection
 with-none object order image t e = rw e
 
 pub with-some : (object order image : List ℕ) (t : ℕ) → hasBytes (sectionAt object t) ≡ true
-    → withSection object order t image ≡ sets image (getD (addresses order) t 0 - base order) (relocated object order (addresses order) t)
+    → withSection object order t image ≡ sets image (getD (addressesFor object order) t 0 - baseFor object order) (relocated object order (addressesFor object order) t)
 unfolding withSection
 with-some object order image t e = rw e
 
@@ -152,7 +151,7 @@ overwritten-snoc s (piece a c ∷ ps) at b = overwritten-snoc (sets s a c) ps at
 
 -- an image with the sections below n laid into it
 unfoldable pub laidBelow : List ℕ → List ℕ → List ℕ → ℕ → List ℕ
-laidBelow object order image n = overwritten image (pieces (relocated object order (addresses order)) object (addresses order) (base order) n)
+laidBelow object order image n = overwritten image (pieces (relocated object order (addressesFor object order)) object (addressesFor object order) (baseFor object order) n)
 
 pub laid-none : (object order image : List ℕ) → laidBelow object order image 0 ≡ image
 unfolding laidBelow pieces overwritten
@@ -163,13 +162,13 @@ unfolding laidBelow pieces withSection
 laid-more object order image t = go (hasBytes (sectionAt object t))
   where
     before : List Piece
-    before = pieces (relocated object order (addresses order)) object (addresses order) (base order) t
+    before = pieces (relocated object order (addressesFor object order)) object (addressesFor object order) (baseFor object order) t
 
     at : ℕ
-    at = getD (addresses order) t 0 - base order
+    at = getD (addressesFor object order) t 0 - baseFor object order
 
     bytes : List ℕ
-    bytes = relocated object order (addresses order) t
+    bytes = relocated object order (addressesFor object order) t
 
     go : (b : Bool) → overwritten image (cond b (before ++ piece at bytes ∷ []) before) ≡ cond b (sets (overwritten image before) at bytes) (overwritten image before)
     go true = overwritten-snoc image before at bytes

@@ -5,6 +5,7 @@ use Prim.Native.Nat.{ℕ, _-_, _≤_}
 use native.Mathlib.Numerals.{add-one}
 use native.Mathlib.Omega.{arith}
 use lib.ListN.{length}
+use Rattle.order_lookup.specs.Addresses.{addresses}
 use Rattle.elf_read.specs.Headers.{sectionCount}
 use Rattle.calls_judgement.specs.Requires.{Fitting, withSection}
 use Rattle.calls_judgement.proofs.Laws.Laying.{is-sound, laidBelow, laid-none, laid-more, laid-all}

@@ -5,7 +5,7 @@ use Prim.Native.Nat.{ℕ, _+_, _-_, _≤_}
 use native.Mathlib.Omega.{arith}
 use lib.ListN.{length, take, drop}
 use borrow.Rule.Slice.PartMut.{putMid, mid-len}
-use Rattle.order_lookup.specs.Addresses.{addresses}
+use Rattle.order_lookup.specs.Addresses.{addressesFor}
 use Rattle.elf_read.specs.Sections.{sectionAt}
 use Rattle.relocations_rela.specs.Requires.{Placed}
 use Rattle.relocations_rules.specs.Search.{relocationCheck}
@@ -68,7 +68,7 @@ returns c =
     let f = s .pre in
     let at = s .args .at in
     let end = at + r .read-section .result .size in
-    let bytes = relocated (S s) (O s) (addresses (O s)) (s .args .t) in
+    let bytes = relocated (S s) (O s) (addressesFor (S s) (O s)) (s .args .t) in
     let long : length bytes ≡ sectionAt (S s) (s .args .t) .size = relocated-length (S s) (O s) (s .args .counts) (length (Image s)) (f .0) (s .args .t) (f .3) (f .4) in
     ap (λ y. putMid at (end - at) (Image s) y) (laid .lay-section .ensures ∙ ap (λ l. relocated (S s) (O s) l (s .args .t)) (f .1))
     ∙ put-part at end (Image s) bytes (omega arith) (omega (arith, inside r)) (omega (arith, size-is r))

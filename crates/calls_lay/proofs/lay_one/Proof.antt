@@ -7,9 +7,9 @@ use native.Mathlib.Omega.{arith}
 use lib.ListN.{length, getD}
 use lib.Seq.{sets}
 use borrow.Author.Tests.{not-true, not-false}
-use Rattle.order_format.specs.Orders.{base}
-use Rattle.order_lookup.specs.Addresses.{addresses}
+use Rattle.order_lookup.specs.Addresses.{addressesFor, baseFor}
 use Rattle.order_format.proofs.Laws.Sound.{reading-sound}
+use Rattle.elf_read.specs.Headers.{classOf}
 use Rattle.elf_read.specs.Sections.{sectionAt}
 use Rattle.placing_check.specs.Placing.{hasBytes}
 use Rattle.relocations_bytes.specs.Sections.{relocated}
@@ -29,10 +29,10 @@ O c = c .args .order .now
 abbrev Len : tie.Start → ℕ
 Len c = length (c .args .image .now)
 
-base-is : (c : tie.Start) → c .args .counts .base .0 ≡ base (O c)
-base-is c = reading-sound (O c) (c .args .counts) (c .pre .0 .placeable .named .readable .reading-is) .base-is
+base-is : (c : tie.Start) → c .args .counts .base .0 ≡ baseFor (S c) (O c)
+base-is c = reading-sound (classOf (S c)) (O c) (c .args .counts) (c .pre .0 .placeable .named .readable .reading-is) .base-is
 
-address : (c : tie.Start) → getD (c .args .t4) (c .args .t) 0 ≡ getD (addresses (O c)) (c .args .t) 0
+address : (c : tie.Start) → getD (c .args .t4) (c .args .t) 0 ≡ getD (addressesFor (S c) (O c)) (c .args .t) 0
 address c = ap (λ l. getD l (c .args .t) 0) (c .pre .1)
 
 -- ---- where the header has been read, and whether the section has bytes
@@ -57,7 +57,7 @@ T c = st (read c) .args .t
 some : (c : tie.Else1) → hasBytes (sectionAt (S (st (read c))) (T c)) ≡ true
 some c = has-bytes-is (read c) ∙ not-false _ (c .if1 .left)
 
-inside : (c : tie.Else1) → let s = st (read c) in (base (O s) ≤ getD (addresses (O s)) (T c) 0) × (getD (addresses (O s)) (T c) 0 - base (O s) + sectionAt (S s) (T c) .size ≤ Len s)
+inside : (c : tie.Else1) → let s = st (read c) in (baseFor (S s) (O s) ≤ getD (addressesFor (S s) (O s)) (T c) 0) × (getD (addressesFor (S s) (O s)) (T c) 0 - baseFor (S s) (O s) + sectionAt (S s) (T c) .size ≤ Len s)
 inside c = let s = st (read c) in bytes-inside (S s) (O s) (s .args .counts) (Len s) (s .pre .0) (T c) (s .pre .3) (some c)
 
 read-section-requires : tie.Need-read-section-requires
@@ -90,8 +90,8 @@ returns-2 : tie.Need-returns-2
 returns-2 c =
     let s : tie.Start = search in
     let laid : tie.After-lay-at = search in
-    let at : getD (s .args .t4) (s .args .t) 0 - s .args .counts .base .0 ≡ getD (addresses (O s)) (s .args .t) 0 - base (O s) = omega (arith, base-is s, address s) in
-    laid .lay-at .ensures ∙ ap (λ k. sets (s .args .image .now) k (relocated (S s) (O s) (addresses (O s)) (s .args .t))) at ∙ sym (with-some (S s) (O s) (s .args .image .now) (s .args .t) (some (search)))
+    let at : getD (s .args .t4) (s .args .t) 0 - s .args .counts .base .0 ≡ getD (addressesFor (S s) (O s)) (s .args .t) 0 - baseFor (S s) (O s) = omega (arith, base-is s, address s) in
+    laid .lay-at .ensures ∙ ap (λ k. sets (s .args .image .now) k (relocated (S s) (O s) (addressesFor (S s) (O s)) (s .args .t))) at ∙ sym (with-some (S s) (O s) (s .args .image .now) (s .args .t) (some (search)))
 
 pub lay-one-spec : {M : Type 1} → statement M
 lay-one-spec =

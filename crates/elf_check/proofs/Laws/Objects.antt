@@ -17,9 +17,8 @@ use Rattle.elf_read.specs.Sections.{NULL, SYMTAB, RELA, NOBITS, REL, sectionAt,
 use Rattle.elf_read.specs.Entries.{symbolEntries}
 use Rattle.elf_check.specs.declared.SectionCheck.{SectionCheck}
 use Rattle.elf_check.specs.declared.SectionCheck.the-variants.{Sound, Broken}
-use Rattle.elf_check.specs.declared.ObjectCheck.the-variants.{Passed, BadHeader}
 use Rattle.elf_header.specs.Headers.{headerAllowed, tableAllowed}
-use Rattle.elf_check.specs.Rules.{maxSymbols, startsNull, insideFile, allocatedWell, symbolTableWell, noCountingRel, relaKept, relocationsKept, relaWell, relocationsWell, sectionWell, sectionCheck, afterHeader, objectCheck}
+use Rattle.elf_check.specs.Rules.{maxSymbols, startsNull, insideFile, allocatedWell, symbolTableWell, noCountingRel, relaKept, relocationsKept, relaWell, relocationsWell, sectionWell, sectionCheck}
 use Rattle.elf_check.specs.Sound.{SoundSymbols, SoundRela, SoundSection}
 use Rattle.elf_check.specs.Requires.{SoundObject}
 use Rattle.elf_header.proofs.Laws.Headers.{header-long, table-inside, table-entries, table-some, allowed-table}
@@ -237,20 +236,9 @@ check-wells s e i h =
 
 -- ---- checks 4 and 5 pass exactly for sound objects
 
-passed-header : (t : Bool) (x : SectionCheck) → cond t (afterHeader x) BadHeader ≡ Passed → t ≡ true
-passed-header true x e = refl
-passed-header false x e = cc
-
-passed-sections : (x : SectionCheck) → afterHeader x ≡ Passed → x ≡ Sound
-passed-sections Sound e = refl
-passed-sections (Broken i) e = cc
-
 -- the one record from which later crates take every bound
-pub sound-object : (s : List ℕ) → objectCheck s ≡ Passed → SoundObject s
-unfolding objectCheck
-sound-object s e =
-    let header : headerAllowed s ≡ true = passed-header (headerAllowed s) (sectionCheck s) e in
-    let sections : sectionCheck s ≡ Sound = passed-sections (sectionCheck s) (rw header at e) in
+pub sound-object : (s : List ℕ) → headerAllowed s ≡ true → sectionCheck s ≡ Sound → SoundObject s
+sound-object s header sections =
     let table : tableAllowed s ≡ true = check-table s sections in
     record {
       header = header;
@@ -260,9 +248,6 @@ sound-object s e =
       sections = λ i h. section-sound s i (check-wells s sections i h);
     }
 
--- a sound object passes checks 4 and 5
-pub object-sound : (s : List ℕ) → SoundObject s → objectCheck s ≡ Passed
-unfolding objectCheck
-object-sound s f =
-    let sections : sectionCheck s ≡ Sound = check-sound s (allowed-table s (f .entries) (f .some) (f .table)) (λ i h. ap not (well-section s i (f .sections i h))) in
-    rw (f .header, sections)
+-- the sections of a sound object pass check 5; its header is one of its fields
+pub object-sound : (s : List ℕ) → SoundObject s → sectionCheck s ≡ Sound
+object-sound s f = check-sound s (allowed-table s (f .entries) (f .some) (f .table)) (λ i h. ap not (well-section s i (f .sections i h)))

@@ -10,7 +10,7 @@ use borrow.Author.Tests.{ltb-true, ltb-false, lt-ltb}
 use Rattle.numbers_definitions.specs.First.{first}
 use Rattle.numbers_definitions.proofs.Laws.Tests.{and-left, and-right, or-true}
 use Rattle.numbers_definitions.proofs.Laws.First.{first-le, first-at, first-below}
-use Rattle.elf_read.specs.Headers.{sectionCount, maxSections}
+use Rattle.elf_read.specs.Headers.{classOf, sectionCount, maxSections}
 use Rattle.elf_read.specs.Sections.{isAllocated}
 use Rattle.elf_read.proofs.Laws.Sections.{not-there}
 use Rattle.order_format.specs.declared.Entry.{Entry}
@@ -23,10 +23,10 @@ use Rattle.placing_match.proofs.Laws.Lowest.{lowest-at, lowest-nowhere,
 
 -- placed and not allocated; allocated and not placed
 abbrev pub extra : List ℕ → List ℕ → ℕ → Bool
-extra object order k = isGiven (placedAt order k) && not (isAllocated object k)
+extra object order k = isGiven (placedAt (classOf object) order k) && not (isAllocated object k)
 
 abbrev pub missing : List ℕ → List ℕ → ℕ → Bool
-missing object order k = isAllocated object k && not (isGiven (placedAt order k))
+missing object order k = isAllocated object k && not (isGiven (placedAt (classOf object) order k))
 
 module _ (object order : List ℕ) where
   -- ---- what check 6 finds
@@ -83,26 +83,26 @@ module _ (object order : List ℕ) where
   -- ---- the placements of no allocated section
 
   abbrev pub firstExtra : ℕ
-  firstExtra = first (λ j. not (isAllocated object (placement order j .index))) (placementCount order)
+  firstExtra = first (λ j. not (isAllocated object (placement (classOf object) order j .index))) (placementCount (classOf object) order)
 
-  module _ (up : ascending (λ i. entryAt order placementsStart i .index) (placementCount order) ≡ true) where
-    pub extra-below : firstExtra < placementCount order → (k : ℕ) → k < placement order firstExtra .index → extra object order k ≡ false
+  module _ (up : ascending (λ i. entryAt (classOf object) order (placementsStart (classOf object)) i .index) (placementCount (classOf object) order) ≡ true) where
+    pub extra-below : firstExtra < placementCount (classOf object) order → (k : ℕ) → k < placement (classOf object) order firstExtra .index → extra object order k ≡ false
     unfolding placedAt
     extra-below h k l =
-        named-below order placementsStart (placementCount order) up (λ x. not (isAllocated object x)) firstExtra h
-        (λ i m. first-below (λ j. not (isAllocated object (placement order j .index))) (placementCount order) i m) k l
+        named-below (classOf object) order (placementsStart (classOf object)) (placementCount (classOf object) order) up (λ x. not (isAllocated object x)) firstExtra h
+        (λ i m. first-below (λ j. not (isAllocated object (placement (classOf object) order j .index))) (placementCount (classOf object) order) i m) k l
 
-    pub extra-at : firstExtra < placementCount order → extra object order (placement order firstExtra .index) ≡ true
+    pub extra-at : firstExtra < placementCount (classOf object) order → extra object order (placement (classOf object) order firstExtra .index) ≡ true
     unfolding placedAt
     extra-at h =
-        rw (named-given order placementsStart (placementCount order) firstExtra h)
-        (first-at (λ j. not (isAllocated object (placement order j .index))) (placementCount order) h)
+        rw (named-given (classOf object) order (placementsStart (classOf object)) (placementCount (classOf object) order) firstExtra h)
+        (first-at (λ j. not (isAllocated object (placement (classOf object) order j .index))) (placementCount (classOf object) order) h)
 
-    pub extra-none : placementCount order ≤ firstExtra → (k : ℕ) → extra object order k ≡ false
+    pub extra-none : placementCount (classOf object) order ≤ firstExtra → (k : ℕ) → extra object order k ≡ false
     unfolding placedAt
     extra-none h k =
-        named-none order placementsStart (placementCount order) up (λ x. not (isAllocated object x))
-        (λ i l. first-below (λ j. not (isAllocated object (placement order j .index))) (placementCount order) i (omega arith)) k
+        named-none (classOf object) order (placementsStart (classOf object)) (placementCount (classOf object) order) up (λ x. not (isAllocated object x))
+        (λ i l. first-below (λ j. not (isAllocated object (placement (classOf object) order j .index))) (placementCount (classOf object) order) i (omega arith)) k
 
 -- ---- what check 6 answers, by what was found on the way
 
@@ -112,25 +112,25 @@ pub record Found (object order : List ℕ) (u x n p : ℕ) : Type 0 where
   pub lowest : u ≡ unplaced object order
   pub first-one : x ≡ firstExtra object order
   pub sections : n ≡ sectionCount object
-  pub placements : p ≡ placementCount order
-  pub up : ascending (λ i. entryAt order placementsStart i .index) p ≡ true
+  pub placements : p ≡ placementCount (classOf object) order
+  pub up : ascending (λ i. entryAt (classOf object) order (placementsStart (classOf object)) i .index) p ≡ true
   pub few : n ≤ maxSections
 
 module _ (object order : List ℕ) (u x n p : ℕ) (f : Found object order u x n p) where
   pub lowest-small : u ≤ maxSections
   lowest-small = omega (arith, f .lowest, f .sections, f .few, unplaced-le object order)
 
-  ascends : ascending (λ i. entryAt order placementsStart i .index) (placementCount order) ≡ true
-  ascends = ap (ascending (λ i. entryAt order placementsStart i .index)) (sym (f .placements)) ∙ f .up
+  ascends : ascending (λ i. entryAt (classOf object) order (placementsStart (classOf object)) i .index) (placementCount (classOf object) order) ≡ true
+  ascends = ap (ascending (λ i. entryAt (classOf object) order (placementsStart (classOf object)) i .index)) (sym (f .placements)) ∙ f .up
 
-  first-index : (e : Entry) → e ≡ entryAt order placementsStart x → e .index ≡ placement order (firstExtra object order) .index
-  first-index e read = ap (λ (e : Entry). e .index) (read ∙ ap (placement order) (f .first-one))
+  first-index : (e : Entry) → e ≡ entryAt (classOf object) order (placementsStart (classOf object)) x → e .index ≡ placement (classOf object) order (firstExtra object order) .index
+  first-index e read = ap (λ (e : Entry). e .index) (read ∙ ap (placement (classOf object) order) (f .first-one))
 
   -- section u is there, and lies below the number that placement x names
-  pub found-lower : (e : Entry) → e ≡ entryAt order placementsStart x → x < p → (ltb u n && ltb u (e .index)) ≡ true → At u ≡ placementCheck object order
+  pub found-lower : (e : Entry) → e ≡ entryAt (classOf object) order (placementsStart (classOf object)) x → x < p → (ltb u n && ltb u (e .index)) ≡ true → At u ≡ placementCheck object order
   found-lower e read h flag =
       let index = first-index e read in
-      let there : firstExtra object order < placementCount order = omega (arith, f .first-one, f .placements) in
+      let there : firstExtra object order < placementCount (classOf object) order = omega (arith, f .first-one, f .placements) in
       let low = ltb-true u n (and-left (ltb u n) (ltb u (e .index)) flag) in
       let lower = ltb-true u (e .index) (and-right (ltb u n) (ltb u (e .index)) flag) in
       let in-table : unplaced object order < sectionCount object = omega (arith, f .lowest, f .sections) in
@@ -141,22 +141,22 @@ module _ (object order : List ℕ) (u x n p : ℕ) (f : Found object order u x n
       (missing-below object order) (missing-at object order in-table))
 
   -- section u is not there, or does not lie below that number
-  pub found-extra : (e : Entry) → e ≡ entryAt order placementsStart x → x < p → e .index < 2 ^ 32 → (ltb u n && ltb u (e .index)) ≡ false
+  pub found-extra : (e : Entry) → e ≡ entryAt (classOf object) order (placementsStart (classOf object)) x → x < p → e .index < 2 ^ 32 → (ltb u n && ltb u (e .index)) ≡ false
       → At (e .index) ≡ placementCheck object order
   found-extra e read h small flag =
       let index = first-index e read in
-      let there : firstExtra object order < placementCount order = omega (arith, f .first-one, f .placements) in
-      let none : (ltb (unplaced object order) (sectionCount object) && ltb (unplaced object order) (placement order (firstExtra object order) .index)) ≡ false =
+      let there : firstExtra object order < placementCount (classOf object) order = omega (arith, f .first-one, f .placements) in
+      let none : (ltb (unplaced object order) (sectionCount object) && ltb (unplaced object order) (placement (classOf object) order (firstExtra object order) .index)) ≡ false =
       rw (← (f .lowest), ← (f .sections), ← index) flag in
       ap At index
       ∙ sym
-      (differ-extra object order (placement order (firstExtra object order) .index) (omega arith) (extra-below object order ascends there)
-      (not-missing-below object order (placement order (firstExtra object order) .index) none) (extra-at object order ascends there))
+      (differ-extra object order (placement (classOf object) order (firstExtra object order) .index) (omega arith) (extra-below object order ascends there)
+      (not-missing-below object order (placement (classOf object) order (firstExtra object order) .index) none) (extra-at object order ascends there))
 
   -- every placement names an allocated section
   pub found-missing : p ≤ x → ltb u n ≡ true → At u ≡ placementCheck object order
   found-missing h flag =
-      let none : placementCount order ≤ firstExtra object order = omega (arith, f .first-one, f .placements) in
+      let none : placementCount (classOf object) order ≤ firstExtra object order = omega (arith, f .first-one, f .placements) in
       let there : unplaced object order < sectionCount object = omega (arith, ltb-true u n flag, f .lowest, f .sections) in
       ap At (f .lowest)
       ∙ sym
@@ -165,6 +165,6 @@ module _ (object order : List ℕ) (u x n p : ℕ) (f : Found object order u x n
 
   pub found-nothing : p ≤ x → ltb u n ≡ false → Nowhere ≡ placementCheck object order
   found-nothing h flag =
-      let none : placementCount order ≤ firstExtra object order = omega (arith, f .first-one, f .placements) in
+      let none : placementCount (classOf object) order ≤ firstExtra object order = omega (arith, f .first-one, f .placements) in
       let out : sectionCount object ≤ unplaced object order = omega (arith, ltb-false u n flag, f .lowest, f .sections) in
       sym (differ-nowhere object order (extra-none object order ascends none) (missing-none object order out))

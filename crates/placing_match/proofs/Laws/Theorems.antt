@@ -9,7 +9,7 @@ use borrow.Author.Tests.{ltb-false, lt-ltb}
 use Rattle.numbers_definitions.proofs.Laws.Tests.{same-tests}
 use Rattle.numbers_definitions.specs.First.{first}
 use Rattle.numbers_definitions.proofs.Laws.First.{first-below}
-use Rattle.elf_read.specs.Headers.{sectionCount}
+use Rattle.elf_read.specs.Headers.{classOf, sectionCount}
 use Rattle.elf_read.specs.Sections.{sectionAt, allocated, isAllocated}
 use Rattle.order_format.specs.Orders.{placementsStart, placementCount}
 use Rattle.order_lookup.specs.Values.{isGiven, valueIn}
@@ -32,12 +32,12 @@ nowhere-holds p n e k h = first-below p n k (go (ltb (first p n) n) refl e)
 -- ---- check 6
 
 -- an order gives a section an address exactly when the section is allocated
-pub placed-allocated : (object order : List ℕ) → placementCheck object order ≡ Nowhere → (i : ℕ) → i < 2 ^ 32 → isGiven (placedAt order i) ≡ isAllocated object i
+pub placed-allocated : (object order : List ℕ) → placementCheck object order ≡ Nowhere → (i : ℕ) → i < 2 ^ 32 → isGiven (placedAt (classOf object) order i) ≡ isAllocated object i
 unfolding placementCheck differs
 placed-allocated object order e i h = same-tests _ _ (nowhere-holds (differs object order) (2 ^ 32) e i h)
 
 -- an order without placements passes only for an object with no allocated section
-pub nothing-to-place : (object order : List ℕ) → placementCheck object order ≡ Nowhere → placementCount order ≡ 0 → sectionCount object ≤ 2 ^ 32
+pub nothing-to-place : (object order : List ℕ) → placementCheck object order ≡ Nowhere → placementCount (classOf object) order ≡ 0 → sectionCount object ≤ 2 ^ 32
     → (i : ℕ) → i < sectionCount object → allocated (sectionAt object i) ≡ false
 unfolding isAllocated placedAt
 nothing-to-place object order e none few i h = go (allocated (sectionAt object i)) refl
@@ -45,7 +45,7 @@ nothing-to-place object order e none few i h = go (allocated (sectionAt object i
     go : (b : Bool) → allocated (sectionAt object i) ≡ b → allocated (sectionAt object i) ≡ false
     go false q = q
     go true q =
-        let given : isGiven (valueIn order placementsStart (placementCount order) i) ≡ true =
+        let given : isGiven (valueIn (classOf object) order (placementsStart (classOf object)) (placementCount (classOf object) order) i) ≡ true =
         placed-allocated object order e i (omega arith) ∙ rw (lt-ltb i (sectionCount object) h, q) in
-        let entry = given-named order placementsStart (placementCount order) i given in
+        let entry = given-named (classOf object) order (placementsStart (classOf object)) (placementCount (classOf object) order) i given in
         absurd (omega (arith, entry .1))

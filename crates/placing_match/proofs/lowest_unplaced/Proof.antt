@@ -14,10 +14,10 @@ use Rattle.placing_match.proofs.lowest_unplaced.Statement.{statement}
 use Rattle.placing_match.proofs.lowest_unplaced.Tie as tie
 
 abbrev Inv-loop : tie.InvT-loop
-Inv-loop object order counts n i₀ i = (i ≤ n) × ((j : ℕ) → j < i → (isAllocated object j && not (isGiven (placedAt order j))) ≡ false)
+Inv-loop class object order counts n i₀ i = (i ≤ n) × ((j : ℕ) → j < i → (isAllocated object j && not (isGiven (placedAt class order j))) ≡ false)
 
 abbrev μ-loop : tie.MeasureT-loop
-μ-loop object order counts n i₀ i = n - i
+μ-loop class object order counts n i₀ i = n - i
 
 loop-holds : tie.Need-loop-holds Inv-loop μ-loop
 loop-holds c = (omega arith, λ j h. absurd (omega arith))
@@ -26,8 +26,9 @@ returns : tie.Need-returns Inv-loop μ-loop
 returns c =
     let s = c .before .before .before .before .before .before .before .before .before .args .object .now in
     let o = c .before .before .before .before .before .before .before .before .before .args .order .now in
+    let start : tie.Start Inv-loop μ-loop = search in
     let i = c .before .before .before .before .before .loop .i in
-    let found : (isAllocated s i && not (isGiven (placedAt o i))) ≡ true = rw (← (c .before .before .before .is-allocated-section .ensures), ← (c .before .before .placed-at .ensures), ← (c .before .is-given .ensures)) (c .if1 .taken) in
+    let found : (isAllocated s i && not (isGiven (placedAt (start .args .class) o i))) ≡ true = rw (← (c .before .before .before .is-allocated-section .ensures), ← (c .before .before .placed-at .ensures), ← (c .before .is-given .ensures)) (c .if1 .taken) in
     let count : c .before .before .before .before .before .before .section-count .result ≡ sectionCount s = c .before .before .before .before .before .before .section-count .ensures in
     sym (first-is _ (sectionCount s) i (omega arith) (c .before .before .before .before .before .loop .inv .1) (λ _. found))
 
@@ -35,8 +36,9 @@ loop-again : tie.Need-loop-again Inv-loop μ-loop
 loop-again c =
     let s = c .before .before .before .before .before .before .before .before .before .args .object .now in
     let o = c .before .before .before .before .before .before .before .before .before .args .order .now in
+    let start : tie.Start Inv-loop μ-loop = search in
     let i = c .before .before .before .before .before .loop .i in
-    let other : (isAllocated s i && not (isGiven (placedAt o i))) ≡ false = rw (← (c .before .before .before .is-allocated-section .ensures), ← (c .before .before .placed-at .ensures), ← (c .before .is-given .ensures)) (c .if1 .left) in
+    let other : (isAllocated s i && not (isGiven (placedAt (start .args .class) o i))) ≡ false = rw (← (c .before .before .before .is-allocated-section .ensures), ← (c .before .before .placed-at .ensures), ← (c .before .is-given .ensures)) (c .if1 .left) in
     (search needs, below-more _ _ (c .before .before .before .before .before .loop .inv .1) other)
 
 returns-2 : tie.Need-returns-2 Inv-loop μ-loop

@@ -5,6 +5,7 @@ use Prim.Native.Nat.{ℕ, _≤_, _<_}
 use native.Mathlib.Omega.{arith}
 use lib.ListN.{getD}
 use borrow.Author.Tests.{lt-ltb, le-ltb, ne-eqb}
+use Rattle.elf_read.specs.Headers.{classOf}
 use Rattle.elf_read.specs.declared.Symbol.{Symbol}
 use Rattle.elf_read.specs.Sections.{sectionAt, symbolTable}
 use Rattle.elf_read.specs.Entries.{symbolAt, symbolCount}
@@ -15,7 +16,7 @@ use Rattle.placing_symbols.specs.Values.{ofEntry, symbolValue}
 module _ (object order addresses : List ℕ) (k : ℕ) (some : 0 < k) where
   -- a symbol of the table that was read
   pub value-read : k < symbolCount object → (y : Symbol) → y ≡ symbolAt object (sectionAt object (symbolTable object)) k
-      → (start : ℕ) → start ≡ getD addresses (y .section) 0 → ofEntry object (externalValue order k) start y ≡ symbolValue object order addresses k
+      → (start : ℕ) → start ≡ getD addresses (y .section) 0 → ofEntry object (externalValue (classOf object) order k) start y ≡ symbolValue object order addresses k
   unfolding symbolValue
   value-read there y read start at = rw (at, read, ne-eqb k 0 (λ z. omega arith), lt-ltb k (symbolCount object) there)
 

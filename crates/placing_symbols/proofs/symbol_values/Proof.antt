@@ -8,7 +8,11 @@ use Rattle.elf_read.specs.Sections.{sectionAt, symbolTable}
 use Rattle.elf_read.specs.Entries.{symbolAt, symbolCount}
 use Rattle.elf_check.specs.Rules.{maxSymbols}
 use Rattle.elf_check.proofs.Laws.Bounds.{symbol-inside, symbols-few}
+use Rattle.elf_read.proofs.Laws.Headers.{header-there}
+use Rattle.order_format.specs.declared.Reading.the-variants.{WellFormed}
+use Rattle.order_format.specs.Orders.{reading}
 use Rattle.order_lookup.specs.Requires.{Reached}
+use Rattle.order_lookup.specs.Values.{externalValue}
 use Rattle.placing_symbols.specs.Values.{ofEntry, symbolValue}
 use Rattle.placing_symbols.proofs.Laws.Values.{value-read}
 use Rattle.placing_symbols.proofs.Laws.Arrays.{ValuedBelow, below-one, below-next, below-all}
@@ -17,33 +21,49 @@ use Rattle.placing_symbols.proofs.symbol_values.Statement.{statement}
 use Rattle.placing_symbols.proofs.symbol_values.Tie as tie
 
 abbrev Inv-loop : tie.InvT-loop
-Inv-loop object order counts values₀ states₀ addresses table count next₀ k₀ values states next k =
-    (0 < k) × ValuedBelow object order addresses values states k × Reached order next k
+Inv-loop object order counts values₀ states₀ addresses table count class next₀ k₀ values states next k =
+    (0 < k) × ValuedBelow object order addresses values states k × Reached class order next k
 
 abbrev μ-loop : tie.MeasureT-loop
-μ-loop object order counts values₀ states₀ addresses table count next₀ k₀ values states next k = count - k
+μ-loop object order counts values₀ states₀ addresses table count class next₀ k₀ values states next k = count - k
+
+-- ---- the places on the way: an inserted line moves one of them
+
+abbrev joined : tie.Joined1 Inv-loop μ-loop → tie.At-loop Inv-loop μ-loop
+joined c = c .before .before .before .before
+
+abbrev classed : tie.At-loop Inv-loop μ-loop → tie.After-class-of Inv-loop μ-loop
+classed c = c .before .before
+
+abbrev entered : tie.After-class-of Inv-loop μ-loop → tie.Start Inv-loop μ-loop
+entered c = c .before .before .before .before .before .before
+
+-- the order was read by the class that the code has
+reads : (c : tie.After-class-of Inv-loop μ-loop) → reading (c .class-of .result) (entered c .args .order .now) ≡ WellFormed (entered c .args .counts)
+reads c = ap (λ k. reading k (entered c .args .order .now)) (c .class-of .ensures) ∙ entered c .pre .1
 
 -- ---- in a turn
 
 -- the symbol is one of the table
-in-table : (c : tie.In-loop Inv-loop μ-loop) → let s = c .before .before .before .before .before .before .before .before .args .object .now in
+in-table : (c : tie.In-loop Inv-loop μ-loop) → let s = entered (classed (c .before)) .args .object .now in
     (c .before .loop .k < symbolCount s) × (symbolCount s ≤ maxSymbols)
 in-table c =
-    let start : tie.Start Inv-loop μ-loop = search in
+    let start = entered (classed (c .before)) in
     (omega (arith, start .pre .2 .count), symbols-few (start .args .object .now) (start .pre .0))
 
 -- ---- the needs
 
 take-external-requires : tie.Need-take-external-requires Inv-loop μ-loop
 take-external-requires c κs =
-    let start : tie.Start Inv-loop μ-loop = search in
-    (start .pre .1, record { below = λ j h. absurd (omega arith); above = λ j h l. omega arith })
+    (reads c, record { below = λ j h. absurd (omega arith); above = λ j h l. omega arith })
 
 take-external-requires-2 : tie.Need-take-external-requires-2 Inv-loop μ-loop
 take-external-requires-2 c κs =
-    let start : tie.Start Inv-loop μ-loop = search in
     let head : tie.At-loop Inv-loop μ-loop = search in
-    (start .pre .1, head .loop .inv .2)
+    (reads (classed head), head .loop .inv .2)
+
+class-of-requires : tie.Need-class-of-requires Inv-loop μ-loop
+class-of-requires c κs = let start : tie.Start Inv-loop μ-loop = search in header-there (start .args .object .now) (start .pre .0 .table .header)
 
 slice-write-states : tie.Need-slice-write-states Inv-loop μ-loop
 slice-write-states c =
@@ -61,24 +81,16 @@ read-symbol-requires c κs =
     let start : tie.Start Inv-loop μ-loop = search in
     rw (start .pre .2 .table (omega arith)) (symbol-inside (start .args .object .now) (start .pre .0) (c .before .loop .k) (in-table c .0))
 
--- ---- the places on the way: an inserted line moves one of them
-
-abbrev joined : tie.Joined1 Inv-loop μ-loop → tie.At-loop Inv-loop μ-loop
-joined c = c .before .before .before .before
-
-abbrev entered : tie.At-loop Inv-loop μ-loop → tie.Start Inv-loop μ-loop
-entered c = c .before .before .before .before .before .before .before
-
 -- the address that is given to `entry_value`
-start-is : (c : tie.Joined1 Inv-loop μ-loop) → c .if1 .start ≡ getD (entered (joined c) .args .t5) (c .before .before .read-symbol .result .section) 0
+start-is : (c : tie.Joined1 Inv-loop μ-loop) → c .if1 .start ≡ getD (entered (classed (joined c)) .args .t5) (c .before .before .read-symbol .result .section) 0
 start-is c =
-    let start : tie.Start Inv-loop μ-loop = search in
+    let start = entered (classed (joined c)) in
     ⊎-elim (λ w. w .1) (λ w. w .1 ∙ sym (List·getD-eq-default (start .args .t5) 0 (omega arith))) (c .if1 .came)
 
 loop-again : tie.Need-loop-again Inv-loop μ-loop
 loop-again c =
-    let start : tie.Start Inv-loop μ-loop = search in
     let head : tie.At-loop Inv-loop μ-loop = search in
+    let start = entered (classed head) in
     let turn : tie.In-loop Inv-loop μ-loop = search in
     let read : tie.After-read-symbol Inv-loop μ-loop = search in
     let valued : tie.After-entry-value Inv-loop μ-loop = search in
@@ -89,7 +101,9 @@ loop-again c =
     let symbol : read .read-symbol .result ≡ symbolAt s (sectionAt s (symbolTable s)) k =
     read .read-symbol .ensures ∙ ap (λ h. symbolAt s h k) (start .pre .2 .table (omega arith)) in
     let is : valued .entry-value .result ≡ symbolValue s (start .args .order .now) (start .args .t5) k =
-    valued .entry-value .ensures ∙ ap (λ g. ofEntry s g (chosen .if1 .start) (read .read-symbol .result)) (taken .take-external2 .ensures .0) ∙ value-read s (start .args .order .now) (start .args .t5) k (head .loop .inv .0) (in-table turn .0) _ symbol _ (start-is chosen) in (
+    valued .entry-value .ensures
+    ∙ ap (λ g. ofEntry s g (chosen .if1 .start) (read .read-symbol .result)) (taken .take-external2 .ensures .0 ∙ ap (λ n. externalValue n (start .args .order .now) k) (classed head .class-of .ensures))
+    ∙ value-read s (start .args .order .now) (start .args .t5) k (head .loop .inv .0) (in-table turn .0) _ symbol _ (start-is chosen) in (
       search needs,
       rw (c .before .number-of .ensures, c .state-of .ensures)
           (below-next _ _ _ _ _ _ (head .loop .inv .1) (omega (arith, in-table turn)) (valued .entry-value .result) is),
@@ -121,6 +135,7 @@ symbol-values-spec =
     Inv-loop
     μ-loop
     slice-write-states
+    class-of-requires
     take-external-requires
     loop-holds
     read-symbol-requires
