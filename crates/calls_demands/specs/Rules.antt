@@ -7,7 +7,9 @@ use Prim.Native.Nat.{ℕ, suc, _+_, _*_, _/_, _%_, _^_, _≤_, _<_}
 use lib.ListN.{length, getD}
 use lib.IntN.{ℤ, pos, negsuc, natAbs}
 use Rattle.numbers_definitions.specs.Bytes.{leAt}
-use Rattle.numbers_definitions.specs.Whole.{minus}
+use Rattle.numbers_definitions.specs.declared.Class.{Class}
+use Rattle.numbers_definitions.specs.declared.Class.the-variants.{Elf32, Elf64}
+use Rattle.numbers_definitions.specs.Whole.{signed, minus}
 use Rattle.numbers_definitions.specs.Powers.{ceilPower}
 use Rattle.instructions_fields.specs.declared.Field.{Field}
 use Rattle.instructions_riscv.specs.Forms.{hasForm}
@@ -15,12 +17,13 @@ use Rattle.instructions_riscv.specs.declared.ranges.Range.{Range}
 use Rattle.instructions_riscv.specs.Ranges.{distance, rangeOf}
 use Rattle.relocations_types.specs.declared.Calculation.{Calculation}
 use Rattle.relocations_types.specs.declared.Calculation.the-variants.{Of, Add, Sub, Set}
+use Rattle.relocations_types.specs.declared.Operand.{Operand}
+use Rattle.relocations_types.specs.declared.Operand.the-variants.{Absolute, PcRelative, Paired}
 use Rattle.relocations_types.specs.declared.Part.{Part}
 use Rattle.relocations_types.specs.declared.Part.the-variants.{Whole, Distance, High, Low, BothHalves}
 use Rattle.relocations_types.specs.declared.Rule.{Rule}
 use Rattle.relocations_types.specs.declared.Decision.the-variants.{Align, Store}
-use Rattle.numbers_definitions.specs.declared.Class.{Class}
-use Rattle.numbers_definitions.specs.Classes.{by, addressBytes}
+use Rattle.numbers_definitions.specs.Classes.{by, bits, addressBytes}
 use Rattle.elf_read.specs.Headers.{classOf, addressWidth, headerSize, sectionSize, sectionTable, sectionCount, maxSections}
 use Rattle.elf_read.specs.Sections.{sectionAt, allocated, isAllocated, symbolTable}
 use Rattle.elf_read.specs.Entries.{symbolAt, symbolCount, relocationCount, locationOf}
@@ -180,7 +183,7 @@ pub record SymbolWell (object : List ℕ) (x : Site) (j : ℕ) (value : SymbolVa
 abbrev pub FormWell : List ℕ → Site → ℕ → Type 0
 FormWell object x j =
     (r : Rule) → decisionAt object x j ≡ Store r → isData (r .form) ≡ false
-    → (P object x j % 2 ≡ 0) × (hasForm (r .form) (leAt (r .size) (found object x) (offset object x j)) (leAt (r .size) (found object x) (offset object x j) / 2 ^ 32) ≡ true)
+    → (P object x j % 2 ≡ 0) × (hasForm (classOf object) (r .form) (leAt (r .size) (found object x) (offset object x j)) (leAt (r .size) (found object x) (offset object x j) / 2 ^ 32) ≡ true)
 
 -- ---- 12 "not exactly one partner": "There must be exactly one PCREL_HI20 record whose offset equals that value, among the same RELA row's
 -- records."
@@ -188,29 +191,41 @@ FormWell object x j =
 abbrev pub PairWell : List ℕ → Site → ℕ → Type 0
 PairWell object x j = needsPair (decisionAt object x j) ≡ true → howMany (isPair object x (symbol object x j .value)) (count object x) ≡ 1
 
--- ---- 13 "distance odd or too far", for addresses of w bits, t, which is T, and p, which is P
+-- ---- 13 "distance odd or too far", in class c, for t, which is T, and p, which is P
 
 -- 16, 17, 44, 45: "the distance is the whole number T - P", "even", and in the field's range
 pub record InReach (r : Range) (z : ℤ) : Type 0 where
   pub is-even : Even z
   pub in-range : Within (r .back) (r .ahead) z
 
--- 18, 19: "T - P modulo 2^32, which is even". No other type has such a rule.
-abbrev pub PartReachable : ℕ → Part → Field → ℕ → ℕ → Type 0
-PartReachable w Whole f t p = Unit {0}
-PartReachable w Distance f t p = InReach (rangeOf f) (distance t p)
-PartReachable w High f t p = Unit {0}
-PartReachable w Low f t p = Unit {0}
-PartReachable w BothHalves f t p = Even (pos (minus w t p))
+-- document 02, in class 2: "for 18, 19, 23 and 26 the distance or address, read as a signed 64-bit number, lies in
+-- -2,147,485,696..2,147,481,599"
+abbrev pub InHalvesReach : Class → ℕ → Type 0
+InHalvesReach Elf32 v = Unit {0}
+InHalvesReach Elf64 v = Within 2147485696 2147481599 (signed 64 v)
 
-abbrev pub Reachable : ℕ → Calculation → Field → ℕ → ℕ → Type 0
-Reachable w (Of part operand) f t p = PartReachable w part f t p
-Reachable w Add f t p = Unit {0}
-Reachable w Sub f t p = Unit {0}
-Reachable w Set f t p = Unit {0}
+-- 26: the address T; 18, 19, 23: the distance T - P modulo 2^w; 24 and 25 "have no range of their own"
+abbrev pub OperandReachable : Class → Operand → ℕ → ℕ → Type 0
+OperandReachable c Absolute t p = InHalvesReach c t
+OperandReachable c PcRelative t p = InHalvesReach c (minus (bits c) t p)
+OperandReachable c Paired t p = Unit {0}
+
+-- 18, 19: "T - P modulo 2^32, which is even": modulo 2^w, where addresses have w bits
+abbrev pub PartReachable : Class → Part → Operand → Field → ℕ → ℕ → Type 0
+PartReachable c Whole o f t p = Unit {0}
+PartReachable c Distance o f t p = InReach (rangeOf f) (distance t p)
+PartReachable c High o f t p = OperandReachable c o t p
+PartReachable c Low o f t p = Unit {0}
+PartReachable c BothHalves o f t p = Even (pos (minus (bits c) t p)) × OperandReachable c o t p
+
+abbrev pub Reachable : Class → Calculation → Field → ℕ → ℕ → Type 0
+Reachable c (Of part operand) f t p = PartReachable c part operand f t p
+Reachable c Add f t p = Unit {0}
+Reachable c Sub f t p = Unit {0}
+Reachable c Set f t p = Unit {0}
 
 abbrev pub ReachWell : List ℕ → Site → ℕ → ℕ → Type 0
-ReachWell object x j t = (r : Rule) → decisionAt object x j ≡ Store r → Reachable (addressWidth object) (r .calculation) (r .field) t (P object x j)
+ReachWell object x j t = (r : Rule) → decisionAt object x j ≡ Store r → Reachable (classOf object) (r .calculation) (r .field) t (P object x j)
 
 -- ---- 14 "padding not on its boundary": "P + A a multiple of the smallest power of two at least A + 2"
 

@@ -2,6 +2,8 @@
 use Prim.Native.Nat.{ℕ, _/_, _%_}
 use mathlib.Core.Bool.{Bool, true, not, _&&_, _||_}
 use lib.Dec.{eqb}
+use Rattle.numbers_definitions.specs.declared.Class.{Class}
+use Rattle.numbers_definitions.specs.Classes.{isElf64}
 use Rattle.instructions_riscv.specs.declared.forms.Form.{Form}
 use Rattle.instructions_riscv.specs.declared.forms.Form.the-variants.{Any, Lui, Auipc, Jal, Branch, LowI, LowS, CallPair, CBranch, CJump}
 
@@ -29,17 +31,20 @@ cfunct3 w = w / 8192 % 8
 abbrev pub isJalr : ℕ → ℕ → Bool
 isJalr w register = eqb (opcode w) 0x67 && eqb (funct3 w) 0 && eqb (rs1 w) register
 
--- the word w has the form; `next` is the word after it, which only CallPair looks at
-unfoldable pub hasForm : Form → ℕ → ℕ → Bool
-hasForm Any w next = true
-hasForm Lui w next = eqb (opcode w) 0x37
-hasForm Auipc w next = eqb (opcode w) 0x17
-hasForm Jal w next = eqb (opcode w) 0x6F
-hasForm Branch w next = eqb (opcode w) 0x63
-hasForm LowI w next =
-    eqb (opcode w) 0x03 || eqb (opcode w) 0x07 || ((eqb (opcode w) 0x13 || eqb (opcode w) 0x67) && eqb (funct3 w) 0)
-hasForm LowS w next = eqb (opcode w) 0x23 || eqb (opcode w) 0x27
-hasForm CallPair w next =
+-- In a file of class c the word w has the form; `next` is the word after it, which only CallPair looks at. Document 02: "In class 2, opcode
+-- 0x1B with funct3 0 joins the _I forms, RVC_JUMP funct3 1 gives 11": ADDIW takes a low half too, and RV64 has no C.JAL.
+unfoldable pub hasForm : Class → Form → ℕ → ℕ → Bool
+hasForm c Any w next = true
+hasForm c Lui w next = eqb (opcode w) 0x37
+hasForm c Auipc w next = eqb (opcode w) 0x17
+hasForm c Jal w next = eqb (opcode w) 0x6F
+hasForm c Branch w next = eqb (opcode w) 0x63
+hasForm c LowI w next =
+    eqb (opcode w) 0x03
+    || eqb (opcode w) 0x07
+    || ((eqb (opcode w) 0x13 || eqb (opcode w) 0x67 || (isElf64 c && eqb (opcode w) 0x1B)) && eqb (funct3 w) 0)
+hasForm c LowS w next = eqb (opcode w) 0x23 || eqb (opcode w) 0x27
+hasForm c CallPair w next =
     eqb (opcode w) 0x17 && not (eqb (rd w) 0) && isJalr next (rd w)
-hasForm CBranch w next = eqb (quadrant w) 1 && (eqb (cfunct3 w) 6 || eqb (cfunct3 w) 7)
-hasForm CJump w next = eqb (quadrant w) 1 && (eqb (cfunct3 w) 1 || eqb (cfunct3 w) 5)
+hasForm c CBranch w next = eqb (quadrant w) 1 && (eqb (cfunct3 w) 6 || eqb (cfunct3 w) 7)
+hasForm c CJump w next = eqb (quadrant w) 1 && (eqb (cfunct3 w) 5 || (not (isElf64 c) && eqb (cfunct3 w) 1))

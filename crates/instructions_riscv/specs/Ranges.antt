@@ -1,11 +1,13 @@
 -- How far jumps and branches reach.
 use Prim.Native.Nat.{ℕ}
-use mathlib.Core.Bool.{Bool, _&&_}
+use mathlib.Core.Bool.{Bool, true, _&&_}
 use lib.IntN.{ℤ, pos, _-ℤ_}
+use Rattle.numbers_definitions.specs.declared.Class.{Class}
+use Rattle.numbers_definitions.specs.declared.Class.the-variants.{Elf32, Elf64}
 use Rattle.instructions_fields.specs.declared.Field.{Field}
 use Rattle.instructions_fields.specs.declared.Field.the-variants.{U, I, S, B, J, Cb, Cj, Call, Data}
 use Rattle.instructions_riscv.specs.declared.ranges.Range.{Range}
-use Rattle.numbers_definitions.specs.Whole.{within, even}
+use Rattle.numbers_definitions.specs.Whole.{signed, within, even}
 
 -- "For jumps and branches the distance is the whole number T - P"
 abbrev pub distance : ℕ → ℕ → ℤ
@@ -25,9 +27,9 @@ rvcBranch = record { back = 256; ahead = 254 }
 abbrev pub rvcJump : Range
 rvcJump = record { back = 2048; ahead = 2046 }
 
--- No rule asks for the range of any other field. Here it is all distances between two addresses.
+-- No rule asks for the range of any other field. Here it is all distances between two addresses, which have up to 64 bits.
 abbrev pub anywhere : Range
-anywhere = record { back = 0xFFFFFFFF; ahead = 0xFFFFFFFF }
+anywhere = record { back = 0xFFFFFFFFFFFFFFFF; ahead = 0xFFFFFFFFFFFFFFFF }
 
 -- the range of a field
 abbrev pub rangeOf : Field → Range
@@ -44,3 +46,14 @@ rangeOf (Data width) = anywhere
 -- a distance is even and within a range
 unfoldable pub reaches : Range → ℤ → Bool
 reaches r z = even z && within (r .back) (r .ahead) z
+
+-- "-2,147,485,696..2,147,481,599": what two halves make up. LUI and AUIPC give the multiples of 4,096 from -2^31 to 2^31 - 4,096, and the low
+-- half adds a number from -2,048 to 2,047.
+abbrev pub bothHalves : Range
+bothHalves = record { back = 2147485696; ahead = 2147481599 }
+
+-- In class 2, "the distance or address, read as a signed 64-bit number, lies in -2,147,485,696..2,147,481,599". In class 1 two halves make up
+-- every address.
+abbrev pub halvesReach : Class → ℕ → Bool
+halvesReach Elf32 v = true
+halvesReach Elf64 v = within (bothHalves .back) (bothHalves .ahead) (signed 64 v)

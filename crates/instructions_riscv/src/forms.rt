@@ -1,6 +1,8 @@
 // Instruction forms: which words a relocation asks for.
 ghost use mathlib.Core.Path.{_≡_};
+ghost use Rattle.numbers_definitions.specs.Classes.{isElf64};
 ghost use Rattle.instructions_riscv.specs.Forms.{hasForm, isJalr};
+use numbers_definitions::Class;
 
 // What a relocation asks of the words at its place. Any is for data, which may be anything. LowI and LowS are for an
 // instruction that takes a low half, in format I or S. CallPair is AUIPC followed by JALR.
@@ -17,9 +19,10 @@ pub enum Form {
     CJump,
 }
 
-// Whether a word has the form. `next` is the word after it, which only CallPair looks at.
-pub fn has_form(form: Form, word: u64, next: u64) -> bool
-    ensures { λ r. ⌜ r ≡ hasForm form word next ⌝ }
+// Whether a word has the form in a file of the class. `next` is the word after it, which only CallPair looks at. ADDIW takes
+// a low half too, and RV64 has no C.JAL.
+pub fn has_form(class: Class, form: Form, word: u64, next: u64) -> bool
+    ensures { λ r. ⌜ r ≡ hasForm class form word next ⌝ }
 {
     let opcode = word % 128;
     let rd = word / 128 % 32;
@@ -35,12 +38,23 @@ pub fn has_form(form: Form, word: u64, next: u64) -> bool
         Form::LowI => {
             (opcode == 0x03)
                 | (opcode == 0x07)
-                | (((opcode == 0x13) | (opcode == 0x67)) & (funct3 == 0))
+                | (((opcode == 0x13) | (opcode == 0x67) | (is_elf64(class) & (opcode == 0x1b)))
+                    & (funct3 == 0))
         }
         Form::LowS => (opcode == 0x23) | (opcode == 0x27),
         Form::CallPair => (opcode == 0x17) & (rd != 0) & jalr_of(next, rd),
         Form::CBranch => (quadrant == 1) & ((cfunct3 == 6) | (cfunct3 == 7)),
-        Form::CJump => (quadrant == 1) & ((cfunct3 == 1) | (cfunct3 == 5)),
+        Form::CJump => (quadrant == 1) & ((cfunct3 == 5) | (!is_elf64(class) & (cfunct3 == 1))),
+    }
+}
+
+// Whether a file is of class 2.
+fn is_elf64(class: Class) -> bool
+    ensures { λ r. ⌜ r ≡ isElf64 class ⌝ }
+{
+    match class {
+        Class::Elf32 => false,
+        Class::Elf64 => true,
     }
 }
 

@@ -1,8 +1,9 @@
 // How far jumps and branches reach.
 ghost use mathlib.Core.Path.{_≡_};
-ghost use Rattle.instructions_riscv.specs.Ranges.{distance, anywhere, rangeOf, reaches};
+ghost use Rattle.instructions_riscv.specs.Ranges.{distance, anywhere, rangeOf, reaches, halvesReach};
 use instructions_fields::Field;
 use numbers_definitions::Address;
+use numbers_definitions::Class;
 
 // Distances from -back to ahead.
 pub struct Range {
@@ -44,8 +45,8 @@ fn every_distance() -> Range
     ensures { λ r. ⌜ r ≡ anywhere ⌝ }
 {
     Range {
-        back: 0xffff_ffff,
-        ahead: 0xffff_ffff,
+        back: 0xffff_ffff_ffff_ffff,
+        ahead: 0xffff_ffff_ffff_ffff,
     }
 }
 
@@ -59,5 +60,16 @@ pub fn in_reach(range: Range, t: Address, p: Address) -> bool
     } else {
         let d = p.0 - t.0;
         (d % 2 == 0) & (d <= range.back)
+    }
+}
+
+// Whether two halves make up an address or a distance. In class 1 they always do. In class 2 it is from -2,147,485,696 to
+// 2,147,481,599, which is one comparison after 2,147,485,696 is added modulo 2^64.
+pub fn in_halves_reach(class: Class, v: u64) -> bool
+    ensures { λ r. ⌜ r ≡ halvesReach class v ⌝ }
+{
+    match class {
+        Class::Elf32 => true,
+        Class::Elf64 => numbers_arithmetic::add64(v, 2147485696) <= 4294967295,
     }
 }

@@ -28,7 +28,7 @@ operandOf w Paired t p d = d
 
 -- a part of an operand v, as its field takes it. The field takes as many low bits as it has.
 abbrev pub partOf : ℕ → Part → ℕ → ℕ
--- 1: "T"; 57: "T - P modulo 2^32"
+-- 1, 2: "T"; 57: "T - P modulo 2^32"
 partOf w Whole v = v
 -- 16, 17, 44, 45: "the whole number T - P", which the field holds in two's complement
 partOf w Distance v = v

@@ -55,7 +55,7 @@ extended w u = residue w (signed 32 u)
 
 -- a part of the operand v
 abbrev pub SaidPart : ℕ → Part → Field → ℕ → ℕ → ℕ → ℕ → Type 0
--- 1, 57: the low 32 bits of T and of T - P, which are as many as the field has
+-- 1, 57: the low 32 bits of T and of T - P; 2, in class 2: the 64 bits of T. They are as many as the field has.
 SaidPart w Whole f b v t p = read (layout f) b ≡ v % 2 ^ valueBits f
 -- 16, 17, 44, 45: the field, as a signed number, is the whole distance T - P
 SaidPart w Distance f b v t p = signed (valueBits f) (read (layout f) b) ≡ distance t p

@@ -75,6 +75,7 @@ fn check_site(
         × (length (now (words .exit)) ≡ length (now (words .entry))) × (length (now (sizes .exit)) ≡ length (now (sizes .entry)))
         × (length (now (highs .exit)) ≡ length (now (highs .entry))) ⌝ }
 {
+    let class = elf_read::class_of(object);
     let n = elf_read::relocation_entries(object, site.rela);
     let mut trail = no_trail();
     let mut last: u64 = 0;
@@ -82,7 +83,7 @@ fn check_site(
     let mut j: usize = 0;
     while j < n {
         let here = elf_read::read_relocation(object, site.rela, j);
-        let decision = decide(here.kind);
+        let decision = decide(class, here.kind);
         let step = check_one(
             object,
             symbols,

@@ -7,10 +7,12 @@ use Rattle.instructions_fields.specs.declared.Field.the-variants.{U, I, S, B, J
 use Rattle.instructions_riscv.specs.declared.forms.Form.{Form}
 use Rattle.instructions_riscv.specs.declared.forms.Form.the-variants.{Any, Lui, Auipc, Jal, Branch, LowI, LowS, CallPair, CBranch, CJump}
 use Rattle.relocations_types.specs.declared.Operand.{Operand}
+use Rattle.relocations_types.specs.declared.Operand.the-variants.{PcRelative}
 use Rattle.relocations_types.specs.declared.Part.{Part}
 use Rattle.relocations_types.specs.declared.Part.the-variants.{Whole, Distance, High, Low, BothHalves}
 use Rattle.relocations_types.specs.declared.Calculation.{Calculation}
 use Rattle.relocations_types.specs.declared.Calculation.the-variants.{Of, Add, Sub, Set}
+use Rattle.relocations_decisions.specs.Decisions.{takesPair}
 use Rattle.relocations_bytes.specs.Patches.{operandOf}
 
 -- LUI or AUIPC
@@ -46,14 +48,14 @@ fills Sub = true
 fills Set = true
 
 abbrev pub Regular : Calculation → Field → Form → Type 0
-Regular c U form = OfPart High c × (isUpper form ≡ true)
+Regular c U form = OfPart High c × (takesPair c ≡ false) × (isUpper form ≡ true)
 Regular c I form = OfPart Low c × (form ≡ LowI)
 Regular c S form = OfPart Low c × (form ≡ LowS)
 Regular c B form = OfPart Distance c × (form ≡ Branch)
 Regular c J form = OfPart Distance c × (form ≡ Jal)
 Regular c Cb form = OfPart Distance c × (form ≡ CBranch)
 Regular c Cj form = OfPart Distance c × (form ≡ CJump)
-Regular c Call form = OfPart BothHalves c × (form ≡ CallPair)
+Regular c Call form = (c ≡ Of BothHalves PcRelative) × (form ≡ CallPair)
 Regular c (Data width) form = (fills c ≡ true) × (form ≡ Any)
 
 -- the operand of a calculation; ADD, SUB and SET have none

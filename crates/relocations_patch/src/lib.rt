@@ -30,6 +30,7 @@ use instructions_riscv::forms::Form;
 use instructions_riscv::forms::has_form;
 use instructions_riscv::halves::hi20;
 use instructions_riscv::halves::lo12;
+use instructions_riscv::ranges::in_halves_reach;
 use instructions_riscv::ranges::in_reach;
 use instructions_riscv::ranges::range_of;
 use numbers_arithmetic::difference;
@@ -101,7 +102,7 @@ fn data_word(calculation: Calculation, width: Width, w: u64, x: u64, v: u64) -> 
 // The opcode of LUI or AUIPC. `requires` excludes every other form; those arms only complete the match.
 fn upper_opcode(form: Form) -> u64
     requires { ⌜ isUpper form ≡ true ⌝ }
-    ensures { λ r. ⌜ ((word next : ℕ) → eqb (word % 128) r ≡ hasForm form word next) ⌝ }
+    ensures { λ r. ⌜ ((k : Class) (word next : ℕ) → eqb (word % 128) r ≡ hasForm k form word next) ⌝ }
 {
     match form {
         Form::Lui => 0x37,
@@ -140,8 +141,8 @@ pub fn apply_rule(
     p: Address,
     d: u64,
 ) -> Applied
-    requires { ⌜ Regular calculation field form ⌝ }
-    ensures { λ r. ⌜ (r .stands ≡ standsWell form (p .0) found) × (r .reaches ≡ reachesWell (bits class) calculation field (t .0) (p .0)) × (r .word ≡ patched (bits class) calculation field w (signed 64 x) (p .0) d) ⌝ }
+    requires { ⌜ Regular calculation field form × (t .0 ≡ residue (bits class) (signed 64 x)) ⌝ }
+    ensures { λ r. ⌜ (r .stands ≡ standsWell class form (p .0) found) × (r .reaches ≡ reachesWell class calculation field (t .0) (p .0)) × (r .word ≡ patched (bits class) calculation field w (signed 64 x) (p .0) d) ⌝ }
 {
     let even = p.0 % 2 == 0;
     let next = found / 0x1_0000_0000;
@@ -149,42 +150,42 @@ pub fn apply_rule(
     match field {
         Field::U => Applied {
             stands: even & (found % 128 == upper_opcode(form)),
-            reaches: true,
+            reaches: in_halves_reach(class, v),
             word: put_u(w, high_part(class, v)),
         },
         Field::I => Applied {
-            stands: even & has_form(Form::LowI, found, next),
+            stands: even & has_form(class, Form::LowI, found, next),
             reaches: true,
             word: put_i(w, low_part(v)),
         },
         Field::S => Applied {
-            stands: even & has_form(Form::LowS, found, next),
+            stands: even & has_form(class, Form::LowS, found, next),
             reaches: true,
             word: put_s(w, low_part(v)),
         },
         Field::B => Applied {
-            stands: even & has_form(Form::Branch, found, next),
+            stands: even & has_form(class, Form::Branch, found, next),
             reaches: in_reach(range_of(Field::B), t, p),
             word: put_b(w, v),
         },
         Field::J => Applied {
-            stands: even & has_form(Form::Jal, found, next),
+            stands: even & has_form(class, Form::Jal, found, next),
             reaches: in_reach(range_of(Field::J), t, p),
             word: put_j(w, v),
         },
         Field::Cb => Applied {
-            stands: even & has_form(Form::CBranch, found, next),
+            stands: even & has_form(class, Form::CBranch, found, next),
             reaches: in_reach(range_of(Field::Cb), t, p),
             word: put_cb(w, v),
         },
         Field::Cj => Applied {
-            stands: even & has_form(Form::CJump, found, next),
+            stands: even & has_form(class, Form::CJump, found, next),
             reaches: in_reach(range_of(Field::Cj), t, p),
             word: put_cj(w, v),
         },
         Field::Call => Applied {
-            stands: even & has_form(Form::CallPair, found, next),
-            reaches: difference(class, t.0, p.0) % 2 == 0,
+            stands: even & has_form(class, Form::CallPair, found, next),
+            reaches: (v % 2 == 0) & in_halves_reach(class, v),
             word: put_field(Field::Call, w, both_halves(class, v)),
         },
         Field::Data(width) => Applied {

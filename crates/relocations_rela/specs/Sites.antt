@@ -30,7 +30,7 @@ abbrev pub offset : List ℕ → Site → ℕ → ℕ
 offset object x j = entry object x j .offset .0
 
 abbrev pub decisionAt : List ℕ → Site → ℕ → Decision
-decisionAt object x j = decision (entry object x j .kind)
+decisionAt object x j = decision (classOf object) (entry object x j .kind)
 
 -- A, a signed number. In the file it is the third number of the entry, in two's complement; the entry that is read keeps it modulo 2^64
 -- (`Addends.addend-is`).

@@ -4,10 +4,13 @@ use mathlib.Core.Bool.{Bool, true, false, not, _&&_, _||_}
 use mathlib.Core.List.{List}
 use lib.Dec.{ltb, eqb}
 use lib.IntN.{ℤ, pos, natAbs}
+use Rattle.numbers_definitions.specs.declared.Class.{Class}
+use Rattle.numbers_definitions.specs.Classes.{bits}
 use Rattle.numbers_definitions.specs.Bytes.{leAt}
 use Rattle.numbers_definitions.specs.Whole.{even, minus}
 use Rattle.numbers_definitions.specs.Powers.{ceilPower}
 use Rattle.elf_read.specs.declared.Symbol.{Symbol}
+use Rattle.elf_read.specs.Headers.{classOf}
 use Rattle.elf_read.specs.Sections.{sectionAt, symbolTable}
 use Rattle.elf_read.specs.Entries.{symbolAt}
 use Rattle.placing_symbols.specs.declared.SymbolValue.{SymbolValue}
@@ -17,12 +20,14 @@ use Rattle.instructions_riscv.specs.declared.forms.Form.{Form}
 use Rattle.instructions_riscv.specs.declared.forms.Form.the-variants.{Any, Lui, Auipc, Jal, Branch, LowI, LowS, CallPair, CBranch, CJump}
 use Rattle.relocations_types.specs.declared.Calculation.{Calculation}
 use Rattle.relocations_types.specs.declared.Calculation.the-variants.{Of, Add, Sub, Set}
+use Rattle.relocations_types.specs.declared.Operand.{Operand}
+use Rattle.relocations_types.specs.declared.Operand.the-variants.{Absolute, PcRelative, Paired}
 use Rattle.relocations_types.specs.declared.Part.{Part}
 use Rattle.relocations_types.specs.declared.Part.the-variants.{Whole, Distance, High, Low, BothHalves}
 use Rattle.relocations_types.specs.declared.Decision.{Decision}
 use Rattle.relocations_types.specs.declared.Decision.the-variants.{Marker, Align, Store, Refused}
 use Rattle.instructions_riscv.specs.Forms.{hasForm}
-use Rattle.instructions_riscv.specs.Ranges.{distance, rangeOf, reaches}
+use Rattle.instructions_riscv.specs.Ranges.{distance, rangeOf, reaches, halvesReach}
 use Rattle.relocations_rela.specs.declared.sites.Site.{Site}
 use Rattle.relocations_values.specs.declared.pairs.Pair.{Pair}
 use Rattle.relocations_values.specs.declared.pairs.Pair.the-variants.{At, NotOne}
@@ -65,19 +70,19 @@ isData CallPair = false
 isData CBranch = false
 isData CJump = false
 
--- "Instruction at an even address". p is the address, and w is the touched bytes as one number.
-unfoldable pub standsWell : Form → ℕ → ℕ → Bool
-standsWell form p w = isData form || (eqb (p % 2) 0 && hasForm form w (w / 2 ^ 32))
+-- "Instruction at an even address". c is the object's class, p is the address, and w is the touched bytes as one number.
+unfoldable pub standsWell : Class → Form → ℕ → ℕ → Bool
+standsWell c form p w = isData form || (eqb (p % 2) 0 && hasForm c form w (w / 2 ^ 32))
 
-abbrev pub asksWell : Decision → ℕ → List ℕ → ℕ → Bool
-asksWell (Store r) p s at = standsWell (r .form) p (leAt (r .size) s at)
-asksWell Marker p s at = true
-asksWell Align p s at = true
-asksWell Refused p s at = true
+abbrev pub asksWell : Class → Decision → ℕ → List ℕ → ℕ → Bool
+asksWell c (Store r) p s at = standsWell c (r .form) p (leAt (r .size) s at)
+asksWell c Marker p s at = true
+asksWell c Align p s at = true
+asksWell c Refused p s at = true
 
 -- "as found in the object"
 unfoldable pub formWell : List ℕ → Site → ℕ → Bool
-formWell object x j = asksWell (decisionAt object x j) (P object x j) (found object x) (offset object x j)
+formWell object x j = asksWell (classOf object) (decisionAt object x j) (P object x j) (found object x) (offset object x j)
 
 -- ---- check 12
 
@@ -88,28 +93,35 @@ isOne NotOne = false
 unfoldable pub pairWell : List ℕ → Site → ℕ → Bool
 pairWell object x j = not (needsPair (decisionAt object x j)) || isOne (pairOf object x (symbol object x j .value))
 
--- ---- check 13, for addresses of w bits, t, which is T, and p, which is P
+-- ---- check 13, in class c, for t, which is T, and p, which is P
+
+-- Document 02, in class 2: "for 18, 19, 23 and 26 the distance or address, read as a signed 64-bit number, lies in
+-- -2,147,485,696..2,147,481,599". 26: the address T; 18, 19, 23: the distance T - P modulo 2^w. 24 and 25 "have no range of their own".
+abbrev pub operandReaches : Class → Operand → ℕ → ℕ → Bool
+operandReaches c Absolute t p = halvesReach c t
+operandReaches c PcRelative t p = halvesReach c (minus (bits c) t p)
+operandReaches c Paired t p = true
 
 -- of a part: 16, 17, 44, 45: "the distance is the whole number T - P", "even", and in the field's range; 18, 19: "T - P modulo 2^32, which is
--- even"
-abbrev pub partReaches : ℕ → Part → Field → ℕ → ℕ → Bool
-partReaches w Whole f t p = true
-partReaches w Distance f t p = reaches (rangeOf f) (distance t p)
-partReaches w High f t p = true
-partReaches w Low f t p = true
-partReaches w BothHalves f t p = even (pos (minus w t p))
+-- even", and 2^w in class c; 18, 19, 23, 26: within reach of two halves
+abbrev pub partReaches : Class → Part → Operand → Field → ℕ → ℕ → Bool
+partReaches c Whole o f t p = true
+partReaches c Distance o f t p = reaches (rangeOf f) (distance t p)
+partReaches c High o f t p = operandReaches c o t p
+partReaches c Low o f t p = true
+partReaches c BothHalves o f t p = even (pos (minus (bits c) t p)) && operandReaches c o t p
 
-abbrev pub reachesWell : ℕ → Calculation → Field → ℕ → ℕ → Bool
-reachesWell w (Of part operand) f t p = partReaches w part f t p
-reachesWell w Add f t p = true
-reachesWell w Sub f t p = true
-reachesWell w Set f t p = true
+abbrev pub reachesWell : Class → Calculation → Field → ℕ → ℕ → Bool
+reachesWell c (Of part operand) f t p = partReaches c part operand f t p
+reachesWell c Add f t p = true
+reachesWell c Sub f t p = true
+reachesWell c Set f t p = true
 
-abbrev pub distanceWell : ℕ → Decision → ℕ → ℕ → Bool
-distanceWell w (Store r) t p = reachesWell w (r .calculation) (r .field) t p
-distanceWell w Marker t p = true
-distanceWell w Align t p = true
-distanceWell w Refused t p = true
+abbrev pub distanceWell : Class → Decision → ℕ → ℕ → Bool
+distanceWell c (Store r) t p = reachesWell c (r .calculation) (r .field) t p
+distanceWell c Marker t p = true
+distanceWell c Align t p = true
+distanceWell c Refused t p = true
 
 -- ---- check 14: "P + A a multiple of the smallest power of two at least A + 2"
 

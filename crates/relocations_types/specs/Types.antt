@@ -1,8 +1,10 @@
--- "Every type number from 0 to 255 has a line in one decision": document 01's table of relocation types.
+-- "Every type number from 0 to 255 has a line in one decision": document 01's table of relocation types, and document 02's line for class 2.
 use Prim.Native.Nat.{ℕ}
 use mathlib.Core.Bool.{Bool, false, cond, _||_}
 use mathlib.Core.List.{List, [], _∷_}
 use lib.Dec.{eqb}
+use Rattle.numbers_definitions.specs.declared.Class.{Class}
+use Rattle.numbers_definitions.specs.declared.Class.the-variants.{Elf32, Elf64}
 use Rattle.instructions_fields.specs.declared.Width.the-variants.{W6, W8, W16, W32, W64}
 use Rattle.instructions_fields.specs.declared.Field.the-variants.{U, I, S, B, J, Cb, Cj, Call, Data}
 use Rattle.instructions_riscv.specs.declared.forms.Form.the-variants.{Any, Lui, Auipc, Jal, Branch, LowI, LowS, CallPair, CBranch, CJump}
@@ -34,6 +36,10 @@ of part operand f form n = Store (record { calculation = Of part operand; field 
 -- a data word
 abbrev pub word : Operand → Decision
 word operand = of Whole operand (Data W32) Any 4
+
+-- a data word of 64 bits
+abbrev pub word64 : Decision
+word64 = of Whole Absolute (Data W64) Any 8
 
 -- a distance
 abbrev pub jump : Field → Form → ℕ → Decision
@@ -96,6 +102,11 @@ table =
     ∷ line (56 ∷ []) (stacking Set W32 4)
     ∷ []
 
+-- "Type 2 (word64, T) is added for class 2 only"
+abbrev pub linesOf : Class → List Line
+linesOf Elf32 = table
+linesOf Elf64 = line (2 ∷ []) word64 ∷ table
+
 -- whether a number is in a list
 unfoldable pub among : ℕ → List ℕ → Bool
 among t [] = false
@@ -106,5 +117,5 @@ unfoldable pub lookup : ℕ → List Line → Decision
 lookup t [] = Refused
 lookup t (l ∷ ls) = cond (among t (l .types)) (l .decisionAt) (lookup t ls)
 
-unfoldable pub decision : ℕ → Decision
-decision t = lookup t table
+unfoldable pub decision : Class → ℕ → Decision
+decision c t = lookup t (linesOf c)

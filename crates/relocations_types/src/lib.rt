@@ -5,6 +5,7 @@ ghost use Rattle.relocations_types.specs.Types.{of as «of-operand», wo
 use instructions_fields::Field;
 use instructions_fields::Width;
 use instructions_riscv::forms::Form;
+use numbers_definitions::Class;
 
 // What is calculated with. T is the symbol's value with the addend, and P is the place's address.
 pub enum Operand {
@@ -85,6 +86,22 @@ fn word(operand: Operand) -> Decision
     of(Part::Whole, operand, Field::Data(Width::W32), Form::Any, 4)
 }
 
+// A data word of 64 bits, which only class 2 has.
+fn word64(class: Class) -> Decision
+    ensures { λ r. ⌜ r ≡ decision class 2 ⌝ }
+{
+    match class {
+        Class::Elf32 => Decision::Refused,
+        Class::Elf64 => of(
+            Part::Whole,
+            Operand::Absolute,
+            Field::Data(Width::W64),
+            Form::Any,
+            8,
+        ),
+    }
+}
+
 // A distance.
 fn jump(field: Field, form: Form, size: u8) -> Decision
     ensures { λ r. ⌜ r ≡ «the-jump» field form size ⌝ }
@@ -128,13 +145,14 @@ pub fn is_pairing(number: u32) -> bool
     number == PCREL_HI20
 }
 
-pub fn decide(number: u32) -> Decision
-    ensures { λ r. ⌜ r ≡ decision number ⌝ }
+pub fn decide(class: Class, number: u32) -> Decision
+    ensures { λ r. ⌜ r ≡ decision class number ⌝ }
 {
     match number {
         0 | 51 => Decision::Marker,
         43 => Decision::Align,
         1 => word(Operand::Absolute),
+        2 => word64(class),
         57 => word(Operand::PcRelative),
         16 => jump(Field::B, Form::Branch, 4),
         17 => jump(Field::J, Form::Jal, 4),
@@ -166,6 +184,6 @@ pub fn decide(number: u32) -> Decision
         54 => stacking(Calculation::Set, Width::W8, 1),
         55 => stacking(Calculation::Set, Width::W16, 2),
         56 => stacking(Calculation::Set, Width::W32, 4),
-        2..=15 | 20..=22 | 29..=32 | 41..=42 | 46..=50 | 58..=0xffff_ffff => Decision::Refused,
+        3..=15 | 20..=22 | 29..=32 | 41..=42 | 46..=50 | 58..=0xffff_ffff => Decision::Refused,
     }
 }

@@ -2,6 +2,7 @@
 ghost use mathlib.Core.Path.{_≡_};
 ghost use Prim.Native.Nat.{_^_, _≤_, _<_};
 ghost use lib.ListN.{length};
+ghost use Rattle.numbers_definitions.specs.declared.Class.{Class};
 ghost use Rattle.relocations_types.specs.Types.{decision};
 ghost use Rattle.relocations_decisions.specs.Decisions.{givesPair};
 ghost use Rattle.relocations_rela.specs.Sites.{count};
@@ -18,9 +19,9 @@ struct Gathered {
     falls: bool,
 }
 
-// Whether a relocation type is that of a high half.
+// Whether a relocation type is that of a high half. It is the same in both classes.
 fn is_high(kind: u32) -> bool
-    ensures { λ r. ⌜ r ≡ givesPair (decision kind) ⌝ }
+    ensures { λ r. ⌜ ((c : Class) → r ≡ givesPair (decision c kind)) ⌝ }
 {
     is_pairing(kind)
 }

@@ -56,7 +56,7 @@ pub fn half(x: u32) {
 // t: a type, and then 0 for a marker, 1 for ALIGN, 3 for a refusal, or 2 with its rule.
 pub fn decision(number: u8) {
     first(b't', number as u64);
-    match relocations_types::decide(number as u32) {
+    match relocations_types::decide(Class::Elf32, number as u32) {
         Decision::Marker => then(0),
         Decision::Align => then(1),
         Decision::Store(asked) => rule(asked),
@@ -118,16 +118,16 @@ pub fn reach(number: u64, place: u64) {
 pub fn forms(word: u64, next: u64) {
     first(b'i', word);
     then(next);
-    flag(instructions_riscv::forms::has_form(Form::Any, word, next));
-    flag(instructions_riscv::forms::has_form(Form::Lui, word, next));
-    flag(instructions_riscv::forms::has_form(Form::Auipc, word, next));
-    flag(instructions_riscv::forms::has_form(Form::Jal, word, next));
-    flag(instructions_riscv::forms::has_form(Form::Branch, word, next));
-    flag(instructions_riscv::forms::has_form(Form::LowI, word, next));
-    flag(instructions_riscv::forms::has_form(Form::LowS, word, next));
-    flag(instructions_riscv::forms::has_form(Form::CallPair, word, next));
-    flag(instructions_riscv::forms::has_form(Form::CBranch, word, next));
-    flag(instructions_riscv::forms::has_form(Form::CJump, word, next));
+    flag(instructions_riscv::forms::has_form(Class::Elf32, Form::Any, word, next));
+    flag(instructions_riscv::forms::has_form(Class::Elf32, Form::Lui, word, next));
+    flag(instructions_riscv::forms::has_form(Class::Elf32, Form::Auipc, word, next));
+    flag(instructions_riscv::forms::has_form(Class::Elf32, Form::Jal, word, next));
+    flag(instructions_riscv::forms::has_form(Class::Elf32, Form::Branch, word, next));
+    flag(instructions_riscv::forms::has_form(Class::Elf32, Form::LowI, word, next));
+    flag(instructions_riscv::forms::has_form(Class::Elf32, Form::LowS, word, next));
+    flag(instructions_riscv::forms::has_form(Class::Elf32, Form::CallPair, word, next));
+    flag(instructions_riscv::forms::has_form(Class::Elf32, Form::CBranch, word, next));
+    flag(instructions_riscv::forms::has_form(Class::Elf32, Form::CJump, word, next));
     end();
 }
 

@@ -9,22 +9,27 @@ use lib.Dec.{leb, ltb, eqb}
 use lib.IntN.{ℤ, pos, negsuc, natAbs}
 use borrow.Author.Tests.{leb-true, ltb-true, eqb-true, le-leb, lt-ltb, eq-eqb, not-true}
 use Rattle.numbers_definitions.specs.Bytes.{leAt}
-use Rattle.numbers_definitions.specs.Whole.{within, even, minus}
+use Rattle.numbers_definitions.specs.declared.Class.{Class}
+use Rattle.numbers_definitions.specs.declared.Class.the-variants.{Elf32, Elf64}
+use Rattle.numbers_definitions.specs.Classes.{bits}
+use Rattle.numbers_definitions.specs.Whole.{signed, within, even, minus}
 use Rattle.numbers_definitions.specs.Powers.{ceilPower}
 use Rattle.numbers_definitions.proofs.Laws.Tests.{and-left, and-right, never, both, one-of-two, or-two, given, implied}
 use Rattle.instructions_fields.specs.declared.Field.{Field}
 use Rattle.instructions_riscv.specs.declared.forms.Form.{Form}
 use Rattle.instructions_riscv.specs.Forms.{hasForm}
-use Rattle.instructions_riscv.specs.Ranges.{distance, rangeOf, reaches}
+use Rattle.instructions_riscv.specs.Ranges.{distance, rangeOf, reaches, halvesReach}
 use Rattle.relocations_types.specs.declared.Calculation.{Calculation}
 use Rattle.relocations_types.specs.declared.Calculation.the-variants.{Of, Add, Sub, Set}
+use Rattle.relocations_types.specs.declared.Operand.{Operand}
+use Rattle.relocations_types.specs.declared.Operand.the-variants.{Absolute, PcRelative, Paired}
 use Rattle.relocations_types.specs.declared.Part.{Part}
 use Rattle.relocations_types.specs.declared.Part.the-variants.{Whole, Distance, High, Low, BothHalves}
 use Rattle.relocations_types.specs.declared.Rule.{Rule}
 use Rattle.relocations_types.specs.declared.Decision.{Decision}
 use Rattle.relocations_types.specs.declared.Decision.the-variants.{Marker, Align, Store, Refused}
 use Rattle.placing_symbols.specs.declared.SymbolValue.{SymbolValue}
-use Rattle.elf_read.specs.Headers.{addressWidth}
+use Rattle.elf_read.specs.Headers.{classOf}
 use Rattle.relocations_rela.specs.declared.sites.Site.{Site}
 use Rattle.relocations_rela.specs.declared.shape.Previous.{Previous}
 use Rattle.relocations_rela.specs.declared.shape.Previous.the-variants.{Nothing, Entry}
@@ -33,8 +38,8 @@ use Rattle.relocations_decisions.specs.Decisions.{isStore, isRefused, takesPair
 use Rattle.relocations_rela.specs.Shape.{neverFalls, end, staysInside, previous, sharesPlace, clears, noOverlap, addendWell, shapeWell}
 use Rattle.relocations_values.specs.Pairs.{pairOf}
 use Rattle.relocations_values.specs.declared.pairs.Pair.the-variants.{At, NotOne}
-use Rattle.relocations_rules.specs.Rules.{isResolved, symbol, inTarget, symbolWell, isData, standsWell, asksWell, formWell, isOne, pairWell, partReaches, reachesWell, distanceWell, boundaryWell}
-use Rattle.calls_demands.specs.Rules.{Within, Even, SharePlace, PaddingWell, ShapeWell, SymbolWell, FormWell, PairWell, PartReachable, Reachable, ReachWell, BoundaryWell}
+use Rattle.relocations_rules.specs.Rules.{isResolved, symbol, inTarget, symbolWell, isData, standsWell, asksWell, formWell, isOne, pairWell, operandReaches, partReaches, reachesWell, distanceWell, boundaryWell}
+use Rattle.calls_demands.specs.Rules.{Within, Even, SharePlace, PaddingWell, ShapeWell, SymbolWell, FormWell, PairWell, InHalvesReach, OperandReachable, PartReachable, Reachable, ReachWell, BoundaryWell}
 
 -- 24 and 25 are not markers
 needs-store : (d : Decision) → needsPair d ≡ true → isStore d ≡ true
@@ -183,9 +188,9 @@ module _ (object : List ℕ) (x : Site) where
   form-well j e r is code =
       let form : Form = r .form in
       let w : ℕ = leAt (r .size) (found object x) (offset object x j) in
-      let stands : standsWell form (P object x j) w ≡ true = ap (λ d. asksWell d (P object x j) (found object x) (offset object x j)) (sym is) ∙ e in
-      let kept : (eqb (P object x j % 2) 0 && hasForm form w (w / 2 ^ 32)) ≡ true = rw code at stands in
-      (eqb-true _ _ (and-left (eqb (P object x j % 2) 0) (hasForm form w (w / 2 ^ 32)) kept), and-right (eqb (P object x j % 2) 0) (hasForm form w (w / 2 ^ 32)) kept)
+      let stands : standsWell (classOf object) form (P object x j) w ≡ true = ap (λ d. asksWell (classOf object) d (P object x j) (found object x) (offset object x j)) (sym is) ∙ e in
+      let kept : (eqb (P object x j % 2) 0 && hasForm (classOf object) form w (w / 2 ^ 32)) ≡ true = rw code at stands in
+      (eqb-true _ _ (and-left (eqb (P object x j % 2) 0) (hasForm (classOf object) form w (w / 2 ^ 32)) kept), and-right (eqb (P object x j % 2) 0) (hasForm (classOf object) form w (w / 2 ^ 32)) kept)
 
   pub well-form : (j : ℕ) → FormWell object x j → formWell object x j ≡ true
   unfolding formWell standsWell
@@ -193,11 +198,11 @@ module _ (object : List ℕ) (x : Site) where
     where
       go : (d : Decision)
           → ((r : Rule) → d ≡ Store r → isData (r .form) ≡ false
-          → (P object x j % 2 ≡ 0) × (hasForm (r .form) (leAt (r .size) (found object x) (offset object x j)) (leAt (r .size) (found object x) (offset object x j) / 2 ^ 32) ≡ true))
-          → asksWell d (P object x j) (found object x) (offset object x j) ≡ true
+          → (P object x j % 2 ≡ 0) × (hasForm (classOf object) (r .form) (leAt (r .size) (found object x) (offset object x j)) (leAt (r .size) (found object x) (offset object x j) / 2 ^ 32) ≡ true))
+          → asksWell (classOf object) d (P object x j) (found object x) (offset object x j) ≡ true
       go (Store r) h = split (isData (r .form)) refl
         where
-          split : (b : Bool) → isData (r .form) ≡ b → standsWell (r .form) (P object x j) (leAt (r .size) (found object x) (offset object x j)) ≡ true
+          split : (b : Bool) → isData (r .form) ≡ b → standsWell (classOf object) (r .form) (P object x j) (leAt (r .size) (found object x) (offset object x j)) ≡ true
           split true e = rw e
           split false e = let k = h r refl e in rw (e, eq-eqb (P object x j % 2) 0 (k .0)) (k .1)
       go Marker h = refl
@@ -220,49 +225,70 @@ module _ (object : List ℕ) (x : Site) where
 
   -- ---- 13
 
-  part-reached : (w : ℕ) (part : Part) (f : Field) (t p : ℕ) → partReaches w part f t p ≡ true → PartReachable w part f t p
+  in-halves : (c : Class) (v : ℕ) → halvesReach c v ≡ true → InHalvesReach c v
+  in-halves Elf32 v e = tt
+  in-halves Elf64 v e = within-is 2147485696 2147481599 (signed 64 v) e
+
+  operand-reached : (c : Class) (o : Operand) (t p : ℕ) → operandReaches c o t p ≡ true → OperandReachable c o t p
+  operand-reached c Absolute t p e = in-halves c t e
+  operand-reached c PcRelative t p e = in-halves c (minus (bits c) t p) e
+  operand-reached c Paired t p e = tt
+
+  part-reached : (c : Class) (part : Part) (o : Operand) (f : Field) (t p : ℕ) → partReaches c part o f t p ≡ true → PartReachable c part o f t p
   unfolding reaches
-  part-reached w Whole f t p e = tt
-  part-reached w Distance f t p e =
+  part-reached c Whole o f t p e = tt
+  part-reached c Distance o f t p e =
       let z : ℤ = distance t p in
       record {
         is-even = even-is z (and-left (even z) (within (rangeOf f .back) (rangeOf f .ahead) z) e);
         in-range = within-is (rangeOf f .back) (rangeOf f .ahead) z (and-right (even z) (within (rangeOf f .back) (rangeOf f .ahead) z) e);
       }
-  part-reached w High f t p e = tt
-  part-reached w Low f t p e = tt
-  part-reached w BothHalves f t p e = even-is (pos (minus w t p)) e
+  part-reached c High o f t p e = operand-reached c o t p e
+  part-reached c Low o f t p e = tt
+  part-reached c BothHalves o f t p e =
+      let d : ℤ = pos (minus (bits c) t p) in
+      (even-is d (and-left (even d) (operandReaches c o t p) e), operand-reached c o t p (and-right (even d) (operandReaches c o t p) e))
 
-  reached : (w : ℕ) (c : Calculation) (f : Field) (t p : ℕ) → reachesWell w c f t p ≡ true → Reachable w c f t p
-  reached w (Of part operand) f t p e = part-reached w part f t p e
-  reached w Add f t p e = tt
-  reached w Sub f t p e = tt
-  reached w Set f t p e = tt
+  reached : (k : Class) (c : Calculation) (f : Field) (t p : ℕ) → reachesWell k c f t p ≡ true → Reachable k c f t p
+  reached k (Of part operand) f t p e = part-reached k part operand f t p e
+  reached k Add f t p e = tt
+  reached k Sub f t p e = tt
+  reached k Set f t p e = tt
 
-  part-back : (w : ℕ) (part : Part) (f : Field) (t p : ℕ) → PartReachable w part f t p → partReaches w part f t p ≡ true
+  halves-back : (c : Class) (v : ℕ) → InHalvesReach c v → halvesReach c v ≡ true
+  halves-back Elf32 v r = refl
+  halves-back Elf64 v r = is-within 2147485696 2147481599 (signed 64 v) r
+
+  operand-back : (c : Class) (o : Operand) (t p : ℕ) → OperandReachable c o t p → operandReaches c o t p ≡ true
+  operand-back c Absolute t p r = halves-back c t r
+  operand-back c PcRelative t p r = halves-back c (minus (bits c) t p) r
+  operand-back c Paired t p r = refl
+
+  part-back : (c : Class) (part : Part) (o : Operand) (f : Field) (t p : ℕ) → PartReachable c part o f t p → partReaches c part o f t p ≡ true
   unfolding reaches
-  part-back w Whole f t p r = refl
-  part-back w Distance f t p r =
+  part-back c Whole o f t p r = refl
+  part-back c Distance o f t p r =
       both _ _ (is-even (distance t p) (r .is-even)) (is-within (rangeOf f .back) (rangeOf f .ahead) (distance t p) (r .in-range))
-  part-back w High f t p r = refl
-  part-back w Low f t p r = refl
-  part-back w BothHalves f t p r = is-even (pos (minus w t p)) r
+  part-back c High o f t p r = operand-back c o t p r
+  part-back c Low o f t p r = refl
+  part-back c BothHalves o f t p r =
+      both (even (pos (minus (bits c) t p))) (operandReaches c o t p) (is-even (pos (minus (bits c) t p)) (r .0)) (operand-back c o t p (r .1))
 
-  reaches-back : (w : ℕ) (c : Calculation) (f : Field) (t p : ℕ) → Reachable w c f t p → reachesWell w c f t p ≡ true
-  reaches-back w (Of part operand) f t p r = part-back w part f t p r
-  reaches-back w Add f t p r = refl
-  reaches-back w Sub f t p r = refl
-  reaches-back w Set f t p r = refl
+  reaches-back : (k : Class) (c : Calculation) (f : Field) (t p : ℕ) → Reachable k c f t p → reachesWell k c f t p ≡ true
+  reaches-back k (Of part operand) f t p r = part-back k part operand f t p r
+  reaches-back k Add f t p r = refl
+  reaches-back k Sub f t p r = refl
+  reaches-back k Set f t p r = refl
 
-  pub reach-well : (j t : ℕ) → distanceWell (addressWidth object) (decisionAt object x j) t (P object x j) ≡ true → ReachWell object x j t
-  reach-well j t e r is = reached (addressWidth object) (r .calculation) (r .field) t (P object x j) (ap (λ d. distanceWell (addressWidth object) d t (P object x j)) (sym is) ∙ e)
+  pub reach-well : (j t : ℕ) → distanceWell (classOf object) (decisionAt object x j) t (P object x j) ≡ true → ReachWell object x j t
+  reach-well j t e r is = reached (classOf object) (r .calculation) (r .field) t (P object x j) (ap (λ d. distanceWell (classOf object) d t (P object x j)) (sym is) ∙ e)
 
-  pub well-reach : (j t : ℕ) → ReachWell object x j t → distanceWell (addressWidth object) (decisionAt object x j) t (P object x j) ≡ true
+  pub well-reach : (j t : ℕ) → ReachWell object x j t → distanceWell (classOf object) (decisionAt object x j) t (P object x j) ≡ true
   well-reach j t h = go (decisionAt object x j) h
     where
-      go : (d : Decision) → ((r : Rule) → d ≡ Store r → Reachable (addressWidth object) (r .calculation) (r .field) t (P object x j))
-          → distanceWell (addressWidth object) d t (P object x j) ≡ true
-      go (Store r) h = reaches-back (addressWidth object) (r .calculation) (r .field) t (P object x j) (h r refl)
+      go : (d : Decision) → ((r : Rule) → d ≡ Store r → Reachable (classOf object) (r .calculation) (r .field) t (P object x j))
+          → distanceWell (classOf object) d t (P object x j) ≡ true
+      go (Store r) h = reaches-back (classOf object) (r .calculation) (r .field) t (P object x j) (h r refl)
       go Marker h = refl
       go Align h = refl
       go Refused h = refl

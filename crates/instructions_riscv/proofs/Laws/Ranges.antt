@@ -1,13 +1,15 @@
 -- Laws of the ranges of distances.
-use mathlib.Core.Path.{_≡_, refl}
+use mathlib.Core.Path.{_≡_, refl, sym, ap, _∙_}
 use Prim.Native.Nat.{ℕ, suc, _-_, _+_, _*_, _%_, _^_, _≤_, _<_}
-use mathlib.Core.Bool.{Bool, true, false}
-use lib.Dec.{ltb}
+use mathlib.Core.Bool.{Bool, true, false, cond}
+use lib.Dec.{ltb, leb}
 use borrow.Author.Tests.{ltb-true, ltb-false, le-leb}
+use native.Mathlib.Decide.{decLt}
+use native.Mathlib.Nat.{mod-eq-of-lt}
 use native.Mathlib.Omega.{arith}
-use lib.IntN.{ℤ, pos, negℤ}
-use Rattle.numbers_definitions.specs.Whole.{residue, signed, within, even}
-use Rattle.numbers_definitions.proofs.Laws.Tests.{and-left, and-right, and-true}
+use lib.IntN.{ℤ, pos, negℤ, _-ℤ_}
+use Rattle.numbers_definitions.specs.Whole.{residue, signed, within, even, plus}
+use Rattle.numbers_definitions.proofs.Laws.Tests.{and-left, and-right, and-true, same-test}
 use Rattle.numbers_definitions.proofs.Laws.Whole.{even-residue, within-spelt, sub-ahead, sub-back}
 use Rattle.instructions_fields.specs.declared.Field.{Field}
 use Rattle.instructions_fields.specs.declared.Field.the-variants.{B, J, Cb, Cj}
@@ -43,14 +45,14 @@ pub rvc-jump-ends : Ends rvcJump 2048 2046
 unfolding reaches within even
 rvc-jump-ends = record { ahead-in = refl; ahead-odd = refl; ahead-out = refl; back-in = refl; back-odd = refl; back-out = refl }
 
--- every distance between two addresses of 32 bits is within the range of the other fields
-pub anywhere-reaches : (t p : ℕ) → t < 2 ^ 32 → p < 2 ^ 32 → reaches anywhere (distance t p) ≡ even (distance t p)
+-- every distance between two addresses is within the range of the other fields
+pub anywhere-reaches : (t p : ℕ) → t < 2 ^ 64 → p < 2 ^ 64 → reaches anywhere (distance t p) ≡ even (distance t p)
 unfolding reaches within
 anywhere-reaches t p ht hp = go (ltb t p) refl
   where
     go : (b : Bool) → ltb t p ≡ b → reaches anywhere (distance t p) ≡ even (distance t p)
-    go true e = rw (sub-back t p (ltb-true t p e), le-leb (suc (p - suc t)) 0xFFFFFFFF (omega arith)) (and-true _)
-    go false e = rw (sub-ahead t p (ltb-false t p e), le-leb (t - p) 0xFFFFFFFF (omega arith)) (and-true _)
+    go true e = rw (sub-back t p (ltb-true t p e), le-leb (suc (p - suc t)) 0xFFFFFFFFFFFFFFFF (omega arith)) (and-true _)
+    go false e = rw (sub-ahead t p (ltb-false t p e), le-leb (t - p) 0xFFFFFFFFFFFFFFFF (omega arith)) (and-true _)
 
 -- a distance that is reached, and put into its field modulo 2^w, is read back whole
 reached-reads-back : (f : Field) (r : Range) (w b : ℕ) (z : ℤ) → valueBits f ≤ w → 1 ≤ w → unit f ≡ 2 → 2 * r .back ≤ 2 ^ valueBits f → 2 * r .ahead < 2 ^ valueBits f
@@ -74,3 +76,21 @@ rvc-branch-reads-back w b z h e = reached-reads-back Cb rvcBranch w b z (omega a
 
 pub rvc-jump-reads-back : (w b : ℕ) (z : ℤ) → 32 ≤ w → reaches rvcJump z ≡ true → signed 12 (read (layout Cj) (put (layout Cj) b (residue w z))) ≡ z
 rvc-jump-reads-back w b z h e = reached-reads-back Cj rvcJump w b z (omega arith) (omega arith) refl (omega arith) (omega arith) e
+
+-- ---- the range of two halves, as one comparison
+
+halves-ahead : (v : ℕ) → 2 * v < 2 ^ 64 → leb ((v + 2147485696) % 2 ^ 64) 4294967295 ≡ leb v 2147481599
+halves-ahead v h =
+    let whole : (v + 2147485696) % 2 ^ 64 ≡ v + 2147485696 = mod-eq-of-lt (omega arith) in
+    same-test ((v + 2147485696) % 2 ^ 64) 4294967295 v 2147481599 (λ l. omega arith) (λ l. omega arith)
+
+halves-back : (v : ℕ) → v < 2 ^ 64 → 2 ^ 64 ≤ 2 * v → leb ((v + 2147485696) % 2 ^ 64) 4294967295 ≡ leb (suc (2 ^ 64 - suc v)) 2147485696
+halves-back v h far = same-test ((v + 2147485696) % 2 ^ 64) 4294967295 (suc (2 ^ 64 - suc v)) 2147485696 (λ l. omega arith) (λ l. omega arith)
+
+pub halves-compared : (v : ℕ) → v < 2 ^ 64 → leb (plus 64 v 2147485696) 4294967295 ≡ within 2147485696 2147481599 (signed 64 v)
+unfolding plus within signed
+halves-compared v h = go (ltb (2 * v) (2 ^ 64)) refl
+  where
+    go : (b : Bool) → ltb (2 * v) (2 ^ 64) ≡ b → leb ((v + 2147485696) % 2 ^ 64) 4294967295 ≡ within 2147485696 2147481599 (cond b (pos v) (pos v -ℤ pos (2 ^ 64)))
+    go true e = halves-ahead v (ltb-true _ _ e)
+    go false e = halves-back v h (ltb-false _ _ e) ∙ sym (ap (within 2147485696 2147481599) (sub-back v (2 ^ 64) h))

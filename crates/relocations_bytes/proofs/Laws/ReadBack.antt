@@ -11,6 +11,7 @@ use lib.ListN.{length}
 use lib.Dec.{eqb}
 use lib.IntN.{ℤ, pos}
 use borrow.Author.Tests.{eq-eqb, ne-eqb}
+use Rattle.numbers_definitions.specs.declared.Class.{Class}
 use Rattle.numbers_definitions.proofs.Laws.Tests.{never, given}
 use Rattle.numbers_definitions.specs.Bytes.{leAt, bytes}
 use Rattle.numbers_definitions.specs.Whole.{residue}
@@ -27,7 +28,6 @@ use Rattle.relocations_types.specs.declared.Rule.{Rule}
 use Rattle.relocations_types.specs.declared.Decision.{Decision}
 use Rattle.relocations_types.specs.declared.Decision.the-variants.{Marker, Align, Store, Refused}
 use Rattle.elf_read.specs.Headers.{classOf, addressWidth}
-use Rattle.elf_read.proofs.Laws.Headers.{address-wide}
 use Rattle.relocations_rela.specs.declared.sites.Site.{Site}
 use Rattle.relocations_rela.specs.Sites.{count, decisionAt, offset, P, found}
 use Rattle.relocations_values.specs.Values.{targetAt}
@@ -46,7 +46,7 @@ use Rattle.relocations_bytes.specs.Requires.{Checked}
 use Rattle.relocations_bytes.proofs.Laws.Sections.{applied-store, applied-marker}
 use Rattle.relocations_bytes.proofs.Laws.Overlap.{Shares, apart, same-stack}
 use Rattle.relocations_bytes.proofs.Laws.After.{length-after, applied-other}
-use Rattle.relocations_bytes.proofs.Laws.Said.{Near, near-32, store-suits, said}
+use Rattle.relocations_bytes.proofs.Laws.Said.{store-suits, said}
 use Rattle.relocations_bytes.proofs.Laws.Stacks.{field-lt, stacked}
 
 -- ---- what is stored fits its bytes
@@ -95,8 +95,8 @@ data-some Cj e = never e
 data-some Call e = never e
 
 -- what two facts about a decision say about its parts
-reaches-of : (w : ℕ) (d : Decision) (r : Rule) (t p : ℕ) → d ≡ Store r → distanceWell w d t p ≡ true → reachesWell w (r .calculation) (r .field) t p ≡ true
-reaches-of w d r t p e h = sym (ap (λ d. distanceWell w d t p) e) ∙ h
+reaches-of : (k : Class) (d : Decision) (r : Rule) (t p : ℕ) → d ≡ Store r → distanceWell k d t p ≡ true → reachesWell k (r .calculation) (r .field) t p ≡ true
+reaches-of k d r t p e h = sym (ap (λ d. distanceWell k d t p) e) ∙ h
 
 module _ (object order addresses : List ℕ) (x : Site) (k : Checked object order addresses x) (j : ℕ) (h : j < count object x)
     (r : Rule) (e : decisionAt object x j ≡ Store r) where
@@ -122,7 +122,7 @@ module _ (object order addresses : List ℕ) (x : Site) (k : Checked object orde
   now m = after object order addresses x m
 
   some : 0 < n
-  some = width-some n (store-width _ r e)
+  some = width-some n (store-width _ _ r e)
 
   store : isStore (decisionAt object x j) ≡ true
   store = ap isStore e
@@ -182,7 +182,7 @@ module _ (object order addresses : List ℕ) (x : Site) (k : Checked object orde
       ∙ ap (λ g. leAt n (lib.Seq.sets s (offset object x m) (bytes n (patched w b g (leAt n s (offset object x m)) y (P object x m) d))) at) same-field
       ∙ ap (λ i. leAt n (lib.Seq.sets s i (bytes n u)) at) o
       ∙ leAt-sets n s at u (fits m)
-      ∙ mod-eq-of-lt (patched-lt w b f (leAt n s (offset object x m)) y (P object x m) d n (store-bytes _ r e))
+      ∙ mod-eq-of-lt (patched-lt w b f (leAt n s (offset object x m)) y (P object x m) d n (store-bytes _ _ r e))
       ∙ ap (λ a. patched w b f (leAt n s a) y (P object x m) d) o
 
   -- ---- a relocation of no stack is alone
@@ -220,11 +220,6 @@ module _ (object order addresses : List ℕ) (x : Site) (k : Checked object orde
             ∙ stored-here j r e refl refl refl
             ∙ ap (λ b. patched w c f b (sumAt object order addresses x j) (P object x j) (pairDistance object order addresses x j)) (before j (omega arith))
 
-    -- at 32 bits every number is near enough; at 64 bits check 13 has to ask for it (document 02, Ticket 1)
-    near : (t p d : ℕ) → Near w c t p d
-    unfolding classOf
-    near t p d = near-32 c t p d
-
     pub single-back : Stored w (Store r) (found object x) (now (count object x)) at (residue w (sumAt object order addresses x j)) (P object x j)
         (pairDistance object order addresses x j) (λ v. stackAt object order addresses x at v (count object x))
     unfolding sumAt
@@ -235,10 +230,10 @@ module _ (object order addresses : List ℕ) (x : Site) (k : Checked object orde
         let b : ℕ = leAt n (found object x) at in
         let whole : ℤ = stackAt object order addresses x at (read (layout f) b) (count object x) in
         let final : leAt n (now (count object x)) at ≡ laid = then (count object x) h (omega arith) in
-        let reach : reachesWell w c f (residue w y) p ≡ true =
-        reaches-of w (decisionAt object x j) r (residue w y) p e (kept-rules object order addresses x j (k .kept j h) .distance) in (
+        let reach : reachesWell (classOf object) c f (residue w y) p ≡ true =
+        reaches-of (classOf object) (decisionAt object x j) r (residue w y) p e (kept-rules object order addresses x j (k .kept j h) .distance) in (
           subst (λ u. Said w c f u (residue w y) p d whole) (sym final)
-              (said w (address-wide object) c f b y p d whole single (store-suits _ r e) reach (near (residue w y) p d)),
+              (said (classOf object) c f b y p d whole single (store-suits _ _ r e) reach),
           ap (outside (layout f)) final ∙ outside-patched w c f b y p d,
         )
 
@@ -246,7 +241,7 @@ module _ (object order addresses : List ℕ) (x : Site) (k : Checked object orde
 
   module _ (stack : stacks c ≡ true) where
     on-data : isDataField f ≡ true
-    on-data = given (stacks c) (isDataField f) (store-data _ r e) stack
+    on-data = given (stacks c) (isDataField f) (store-data _ _ r e) stack
 
     wide : 0 < stackWidth (decisionAt object x j)
     wide = rw (e, stack) (data-some f on-data)
@@ -294,7 +289,7 @@ module _ (object order addresses : List ℕ) (x : Site) (k : Checked object orde
         go : (d : Decision) → decisionAt object x m ≡ d → isStore d ≡ true → ⊥
         go (Store b) q t =
             let many : touched (decisionAt object x m) ≡ b .size = ap touched q in
-            omega (arith, width-some (b .size) (store-width _ b q))
+            omega (arith, width-some (b .size) (store-width _ _ b q))
         go Marker q t = never t
         go Align q t = never t
         go Refused q t = never t
@@ -325,7 +320,7 @@ module _ (object order addresses : List ℕ) (x : Site) (k : Checked object orde
       where
         go : (d : Decision) → decisionAt object x m ≡ d → isStore d ≡ true → Holds (suc m)
         go (Store a) u t =
-            let same = same-stack _ _ r a e u (q .some) (q .width) in
+            let same = same-stack _ _ _ r a e u (q .some) (q .width) in
             taken m a u (sym (same .2)) (sym (same .3)) (sym (q .place)) (same .1) held
         go Marker u t = never t
         go Align u t = never t

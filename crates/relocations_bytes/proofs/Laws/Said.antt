@@ -5,9 +5,12 @@ use Prim.Native.Nat.{ℕ, _+_, _*_, _/_, _%_, _^_, _≤_, _<_}
 use native.Mathlib.Nat.{mod-eq-of-lt, mod-one, mul-mod-right}
 use native.Mathlib.Omega.{arith}
 use lib.Dec.{eqb}
-use lib.IntN.{ℤ, _+ℤ_}
+use lib.IntN.{ℤ, pos, _+ℤ_}
 use borrow.Author.Tests.{eqb-true}
-use Rattle.numbers_definitions.specs.Whole.{residue, signed, minus}
+use Rattle.numbers_definitions.specs.declared.Class.{Class}
+use Rattle.numbers_definitions.specs.declared.Class.the-variants.{Elf32, Elf64}
+use Rattle.numbers_definitions.specs.Classes.{bits}
+use Rattle.numbers_definitions.specs.Whole.{residue, signed, even, minus}
 use Rattle.numbers_definitions.proofs.Laws.Tests.{and-left, and-right, never}
 use Rattle.numbers_definitions.proofs.Laws.Whole.{residue-lt, signed-residue}
 use Rattle.instructions_fields.specs.declared.Field.{Field}
@@ -27,8 +30,8 @@ use Rattle.relocations_types.specs.declared.Decision.{Decision}
 use Rattle.relocations_types.specs.declared.Decision.the-variants.{Marker, Align, Store, Refused}
 use Rattle.relocations_types.specs.Types.{table, decision}
 use Rattle.instructions_riscv.specs.Halves.{high, low}
-use Rattle.instructions_riscv.specs.Ranges.{distance, rangeOf, reaches}
-use Rattle.instructions_riscv.proofs.Laws.Halves.{HighSpelt, high-spelt-32, high-extended, low-half-spelt, halves-whole}
+use Rattle.instructions_riscv.specs.Ranges.{distance, rangeOf, reaches, halvesReach}
+use Rattle.instructions_riscv.proofs.Laws.Halves.{HighSpelt, high-spelt-32, near-spelt, high-extended, low-half-spelt, halves-whole}
 use Rattle.instructions_riscv.proofs.Laws.Ranges.{branch-reads-back, jal-reads-back, rvc-branch-reads-back, rvc-jump-reads-back}
 use Rattle.relocations_decisions.specs.Decisions.{stacks}
 use Rattle.relocations_rules.specs.Rules.{partReaches, reachesWell}
@@ -66,13 +69,18 @@ abbrev hasBits : ℕ → ℕ → Field → Bool
 hasBits u n f = eqb (unit f) u && eqb (valueBits f) n
 
 abbrev pub suitsPart : Part → Field → Bool
-suitsPart Whole f = hasBits 1 32 f
+suitsPart Whole f = eqb (unit f) 1
 suitsPart Distance f = isJump f
 suitsPart High f = hasBits 4096 32 f
 suitsPart Low f = hasBits 1 12 f
 suitsPart BothHalves f = isCall f
 
--- distances, and both halves, are those of T - P
+-- high halves are those of T or T - P, distances and both halves those of T - P
+abbrev isOwn : Operand → Bool
+isOwn Absolute = true
+isOwn PcRelative = true
+isOwn Paired = false
+
 abbrev isPcRelative : Operand → Bool
 isPcRelative Absolute = false
 isPcRelative PcRelative = true
@@ -81,7 +89,7 @@ isPcRelative Paired = false
 abbrev hasPart : Part → Operand → Bool
 hasPart Whole operand = true
 hasPart Distance operand = isPcRelative operand
-hasPart High operand = true
+hasPart High operand = isOwn operand
 hasPart Low operand = true
 hasPart BothHalves operand = isPcRelative operand
 
@@ -97,9 +105,9 @@ suited Marker = true
 suited Align = true
 suited Refused = true
 
-pub store-suits : (t : ℕ) (r : Rule) → decision t ≡ Store r → suits (r .calculation) (r .field) ≡ true
+pub store-suits : (k : Class) (t : ℕ) (r : Rule) → decision k t ≡ Store r → suits (r .calculation) (r .field) ≡ true
 unfolding holds table
-store-suits t r e = sym (ap suited e) ∙ decided suited refl t
+store-suits k t r e = sym (ap suited e) ∙ decided suited refl k t
 
 pub suits-part : (part : Part) (operand : Operand) (f : Field) → suits (Of part operand) f ≡ true → suitsPart part f ≡ true
 suits-part part operand f e = and-left (suitsPart part f) (hasPart part operand) e
@@ -107,34 +115,15 @@ suits-part part operand f e = and-left (suitsPart part f) (hasPart part operand)
 suits-operand : (part : Part) (operand : Operand) (f : Field) → suits (Of part operand) f ≡ true → hasPart part operand ≡ true
 suits-operand part operand f e = and-right (suitsPart part f) (hasPart part operand) e
 
--- ---- numbers that are near enough: their high half is a signed number of 32 bits, as LUI and AUIPC leave it
+-- ---- numbers that check 13 lets pass: their high half is a signed number of 32 bits, as LUI and AUIPC leave it
 
-abbrev NearPart : ℕ → Part → ℕ → Type 0
-NearPart w Whole v = Unit {0}
-NearPart w Distance v = Unit {0}
-NearPart w High v = HighSpelt w v
-NearPart w Low v = Unit {0}
-NearPart w BothHalves v = HighSpelt w v
+reach-spelt : (k : Class) (v : ℕ) → v < 2 ^ bits k → halvesReach k v ≡ true → HighSpelt (bits k) v
+reach-spelt Elf32 v h e = high-spelt-32 v
+reach-spelt Elf64 v h e = near-spelt 64 v (omega arith) h e
 
-abbrev pub Near : ℕ → Calculation → ℕ → ℕ → ℕ → Type 0
-Near w (Of part operand) t p d = NearPart w part (operandOf w operand t p d)
-Near w Add t p d = Unit {0}
-Near w Sub t p d = Unit {0}
-Near w Set t p d = Unit {0}
-
--- at 32 bits every number is near enough, so no rule asks for it
-near-part : (part : Part) (v : ℕ) → NearPart 32 part v
-near-part Whole v = tt
-near-part Distance v = tt
-near-part High v = high-spelt-32 v
-near-part Low v = tt
-near-part BothHalves v = high-spelt-32 v
-
-pub near-32 : (c : Calculation) (t p d : ℕ) → Near 32 c t p d
-near-32 (Of part operand) t p d = near-part part (operandOf 32 operand t p d)
-near-32 Add t p d = tt
-near-32 Sub t p d = tt
-near-32 Set t p d = tt
+wide : (k : Class) → 32 ≤ bits k
+wide Elf32 = omega arith
+wide Elf64 = omega arith
 
 -- ---- values that are read back
 
@@ -148,10 +137,8 @@ module _ (f : Field) (b : ℕ) where
       reads-back f b v whole ∙ ap (λ k. v % 2 ^ k) bits-are
 
   -- any value, if the field's unit is 1
-  plain-back : (n v : ℕ) → hasBits 1 n f ≡ true → read (layout f) (put (layout f) b v) ≡ v % 2 ^ valueBits f
-  plain-back n v e =
-      let unit-is : unit f ≡ 1 = eqb-true _ _ (and-left (eqb (unit f) 1) (eqb (valueBits f) n) e) in
-      reads-back f b v (ap (λ k. v % k) unit-is ∙ mod-one v)
+  plain-back : (v : ℕ) → eqb (unit f) 1 ≡ true → read (layout f) (put (layout f) b v) ≡ v % 2 ^ valueBits f
+  plain-back v e = reads-back f b v (ap (λ k. v % k) (eqb-true _ _ e) ∙ mod-one v)
 
   high-back : (w x : ℕ) → 32 ≤ w → HighSpelt w x → hasBits 4096 32 f ≡ true → extended w (read (layout f) (put (layout f) b (highPart w x))) ≡ highPart w x
   high-back w x h near e = ap (extended w) (back 4096 32 (highPart w x) e (mul-mod-right 4096 (high w x))) ∙ high-extended w x h near
@@ -248,27 +235,36 @@ both-back w (Data width) b d h e near small = never e
 
 -- ---- every part of every operand
 
-module _ (w : ℕ) (h : 32 ≤ w) (f : Field) (b t p d : ℕ) where
+module _ (k : Class) (f : Field) (b t p d : ℕ) (small : t < 2 ^ bits k) where
+  abbrev w : ℕ
+  w = bits k
+
   abbrev Back : Part → Operand → Type 0
   Back part o = SaidPart w part f (put (layout f) b (partOf w part (operandOf w o t p d))) (operandOf w o t p d) t p
 
-  back-part : (part : Part) (o : Operand) → suitsPart part f ≡ true → hasPart part o ≡ true → partReaches w part f t p ≡ true → NearPart w part (operandOf w o t p d) → Back part o
+  back-part : (part : Part) (o : Operand) → suitsPart part f ≡ true → hasPart part o ≡ true → partReaches k part o f t p ≡ true → Back part o
   unfolding minus
-  back-part Whole o e g r near = plain-back f b 32 (operandOf w o t p d) e
-  back-part Distance PcRelative e g r near = jump-back f w b (distance t p) h e r
-  back-part Distance Absolute e g r near = never g
-  back-part Distance Paired e g r near = never g
-  back-part High o e g r near = high-back f b w (operandOf w o t p d) h near e
-  back-part Low o e g r near = low-back f b w (operandOf w o t p d) h e
-  back-part BothHalves PcRelative e g r near = both-back w f b (minus w t p) h e near (minus-lt w t p)
-  back-part BothHalves Absolute e g r near = never g
-  back-part BothHalves Paired e g r near = never g
+  back-part Whole o e g r = plain-back f b (operandOf w o t p d) e
+  back-part Distance PcRelative e g r = jump-back f w b (distance t p) (wide k) e r
+  back-part Distance Absolute e g r = never g
+  back-part Distance Paired e g r = never g
+  back-part High Absolute e g r = high-back f b w t (wide k) (reach-spelt k t small r) e
+  back-part High PcRelative e g r = high-back f b w (minus w t p) (wide k) (reach-spelt k (minus w t p) (minus-lt w t p) r) e
+  back-part High Paired e g r = never g
+  back-part Low o e g r = low-back f b w (operandOf w o t p d) (wide k) e
+  back-part BothHalves PcRelative e g r =
+      both-back w f b (minus w t p) (wide k) e
+      (reach-spelt k (minus w t p) (minus-lt w t p) (and-right (even (pos (minus w t p))) (halvesReach k (minus w t p)) r))
+      (minus-lt w t p)
+  back-part BothHalves Absolute e g r = never g
+  back-part BothHalves Paired e g r = never g
 
 -- every calculation but those of stacks
-pub said : (w : ℕ) → 32 ≤ w → (c : Calculation) (f : Field) (b : ℕ) (x : ℤ) (p d : ℕ) (whole : ℤ) → stacks c ≡ false → suits c f ≡ true
-    → reachesWell w c f (residue w x) p ≡ true → Near w c (residue w x) p d → Said w c f (patched w c f b x p d) (residue w x) p d whole
+pub said : (k : Class) (c : Calculation) (f : Field) (b : ℕ) (x : ℤ) (p d : ℕ) (whole : ℤ) → stacks c ≡ false → suits c f ≡ true
+    → reachesWell k c f (residue (bits k) x) p ≡ true → Said (bits k) c f (patched (bits k) c f b x p d) (residue (bits k) x) p d whole
 unfolding patched
-said w h (Of part o) f b x p d whole s e r near = back-part w h f b (residue w x) p d part o (suits-part part o f e) (suits-operand part o f e) r near
-said w h Add f b x p d whole s e r near = never (sym s)
-said w h Sub f b x p d whole s e r near = never (sym s)
-said w h Set f b x p d whole s e r near = never (sym s)
+said k (Of part o) f b x p d whole s e r =
+    back-part k f b (residue (bits k) x) p d (residue-lt (bits k) x) part o (suits-part part o f e) (suits-operand part o f e) r
+said k Add f b x p d whole s e r = never (sym s)
+said k Sub f b x p d whole s e r = never (sym s)
+said k Set f b x p d whole s e r = never (sym s)

@@ -2,22 +2,26 @@
 use mathlib.Core.Path.{_≡_, refl, sym, ap, _∙_, subst}
 use mathlib.Core.Bool.{Bool, true, false, not, cond, _&&_}
 use mathlib.Core.List.{List}
-use Prim.Native.Nat.{ℕ, _+_, _^_, _≤_, _<_}
+use Prim.Native.Nat.{ℕ, _+_, _%_, _^_, _≤_, _<_}
 use lib.IntN.{ℤ, pos, _+ℤ_, _-ℤ_}
 use lib.Dec.{ltb, eqb}
 use native.Mathlib.Nat.{zero-add}
 use native.Mathlib.Omega.{arith}
 use borrow.Author.Tests.{lt-ltb}
+use Rattle.numbers_definitions.specs.declared.Class.{Class}
+use Rattle.numbers_definitions.specs.declared.Class.the-variants.{Elf32, Elf64}
+use Rattle.numbers_definitions.specs.Classes.{bits}
 use Rattle.numbers_definitions.specs.Bytes.{leAt}
 use Rattle.numbers_definitions.specs.Whole.{residue, signed, plus, minus}
 use Rattle.numbers_definitions.proofs.Laws.Whole.{residue-signed, minus-residue}
 use Rattle.numbers_definitions.proofs.Laws.Tests.{never}
+use Rattle.instructions_riscv.proofs.Laws.Halves.{narrowed}
 use Rattle.elf_read.specs.declared.Relocation.{Relocation}
 use Rattle.elf_read.specs.declared.Section.{Section}
 use Rattle.elf_read.specs.declared.Symbol.{Symbol}
 use Rattle.elf_read.specs.Sections.{sectionAt, symbolTable}
 use Rattle.elf_read.specs.Entries.{symbolAt}
-use Rattle.elf_read.specs.Headers.{addressWidth}
+use Rattle.elf_read.specs.Headers.{classOf, addressWidth}
 use Rattle.elf_read.proofs.Laws.Headers.{address-narrow}
 use Rattle.placing_symbols.specs.declared.SymbolValue.{SymbolValue}
 use Rattle.placing_symbols.specs.Values.{symbolValue}
@@ -71,7 +75,7 @@ module _ (v : ℕ → SymbolValue) (object : List ℕ) (x : Site) (j : ℕ) wher
   module _ (r : Rule) (e : decisionAt object x j ≡ Store r) where
     pub store-number : shapeWell object x j ≡ true
         → number (findingBy v object x j)
-        ≡ storeNumber (symbolWell object x j (valueBy v object x j)) (formWell object x j) (pairWell object x j) (reachesWell (addressWidth object) (r .calculation) (r .field) (targetBy v object x j) (P object x j))
+        ≡ storeNumber (symbolWell object x j (valueBy v object x j)) (formWell object x j) (pairWell object x j) (reachesWell (classOf object) (r .calculation) (r .field) (targetBy v object x j) (P object x j))
     unfolding findingBy firstBroken
     store-number s = rw (s, e)
 
@@ -153,6 +157,19 @@ unfolding firstBroken
 first-symbol true forms pairs reaches e = refl
 first-symbol false forms pairs reaches e = absurd (omega arith)
 
+-- ---- T is S + A modulo 2^w, also by S + A modulo 2^64, which is y
+
+narrow : (k : Class) → bits k ≤ 64
+narrow Elf32 = omega arith
+narrow Elf64 = omega arith
+
+pub target-sum : (k : Class) (t y : ℕ) (z : ℤ) → y < 2 ^ 64 → t ≡ residue (bits k) z → y ≡ residue 64 z → t ≡ residue (bits k) (signed 64 y)
+target-sum k t y z h te ye =
+    te
+    ∙ sym (narrowed 64 (bits k) z (narrow k))
+    ∙ ap (λ n. n % 2 ^ bits k) (sym ye ∙ sym (residue-signed 64 y h))
+    ∙ narrowed 64 (bits k) (signed 64 y) (narrow k)
+
 -- ---- by what was read and worked out: y is S + A in two's complement, t is T, p is P, d is the pair's T - P
 
 module _ (v : ℕ → SymbolValue) (object : List ℕ) (x : Site) (j : ℕ) (rule : Rule) (here : Relocation) (f : Storing object x j rule here) (value : SymbolValue)
@@ -167,13 +184,13 @@ module _ (v : ℕ → SymbolValue) (object : List ℕ) (x : Site) (j : ℕ) (rul
   value-read = value-is ∙ ap (λ r. v (r .symbol)) (f .read)
 
   reach-is : (t : ℕ) → t ≡ T w (S value) (signed 64 (here .addend))
-      → reachesWell w (rule .calculation) (rule .field) t p ≡ reachesWell w (rule .calculation) (rule .field) (targetBy v object x j) (P object x j)
+      → reachesWell (classOf object) (rule .calculation) (rule .field) t p ≡ reachesWell (classOf object) (rule .calculation) (rule .field) (targetBy v object x j) (P object x j)
   reach-is t te =
-      reach-read object x j here (Store rule) value (valueBy v object x j) t p (f .there .site) inside (f .read) (sym (f .decided) ∙ ap (λ r. decision (r .kind)) (sym (f .read))) value-read te place
-      ∙ ap (λ d. distanceWell w d (targetBy v object x j) (P object x j)) (f .decided)
+      reach-read object x j here (Store rule) value (valueBy v object x j) t p (f .there .site) inside (f .read) (sym (f .decided) ∙ ap (λ r. decision (classOf object) (r .kind)) (sym (f .read))) value-read te place
+      ∙ ap (λ d. distanceWell (classOf object) d (targetBy v object x j) (P object x j)) (f .decided)
 
   pub number-read : (n t : ℕ) (symbols forms pairs reaches : Bool) → n ≡ storeNumber symbols forms pairs reaches → symbols ≡ symbolWell object x j (valueBy v object x j)
-      → forms ≡ formWell object x j → (symbols ≡ true → pairs ≡ pairWell object x j) → reaches ≡ reachesWell w (rule .calculation) (rule .field) t p → t ≡ T w (S value) (signed 64 (here .addend))
+      → forms ≡ formWell object x j → (symbols ≡ true → pairs ≡ pairWell object x j) → reaches ≡ reachesWell (classOf object) (rule .calculation) (rule .field) t p → t ≡ T w (S value) (signed 64 (here .addend))
       → n ≡ number (findingBy v object x j)
   number-read n t symbols forms pairs reaches e se fe pe re te =
       e

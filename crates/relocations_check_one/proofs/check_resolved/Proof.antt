@@ -5,7 +5,7 @@ use Prim.Native.Nat.{_+_}
 use native.Mathlib.Omega.{arith}
 use Rattle.numbers_definitions.specs.Whole.{signed}
 use Rattle.placing_symbols.specs.Arrays.{listed}
-use Rattle.elf_read.specs.Headers.{addressWidth}
+use Rattle.elf_read.specs.Headers.{classOf, addressWidth}
 use Rattle.elf_read.proofs.Laws.Headers.{header-there}
 use Rattle.elf_read.specs.declared.Relocation.{Relocation}
 use Rattle.relocations_decisions.specs.Decisions.{isStore}
@@ -15,7 +15,7 @@ use Rattle.relocations_rules.proofs.Laws.Rules.{form-read}
 use Rattle.relocations_bytes.specs.Patches.{patched}
 use Rattle.relocations_bytes.proofs.Laws.Sections.{place-read}
 use Rattle.relocations_patch.proofs.Laws.Regular.{rules-regular}
-use Rattle.relocations_check_one.proofs.Laws.Outcomes.{first-symbol, number-read, word-read}
+use Rattle.relocations_check_one.proofs.Laws.Outcomes.{first-symbol, target-sum, number-read, word-read}
 use borrow.Author.Needs.{needs}
 use Rattle.relocations_check_one.proofs.check_resolved.Statement.{statement}
 use Rattle.relocations_check_one.proofs.check_resolved.Tie as tie
@@ -51,8 +51,11 @@ class-of-requires c κs = let high : tie.After-take-partner = search in header-t
 
 apply-rule-requires : tie.Need-apply-rule-requires
 apply-rule-requires c κs =
+    let summed : tie.After-symbol-sum = search in
+    let target : tie.After-target-of = search in
+    let classed : tie.After-class-of = search in
     let found : tie.After-found-bytes = search in
-    rules-regular _ _ (entered (arguments (taken found)) .pre .1 .decided)
+    (rules-regular _ _ _ (entered (arguments (taken found)) .pre .1 .decided), target-sum (classed .class-of .result) _ _ _ (omega arith) (target .target-of .ensures) (summed .symbol-sum .ensures))
 
 returns : tie.Need-returns
 returns c =
@@ -76,7 +79,7 @@ returns c =
     let partner = high .take-partner .ensures in
     let at = place-read s (a .site) (a .j) (a .here) _ (f .read) place (f .there .site) (shape-inside s (a .site) (a .j) (f .shape)) (ap isStore (f .decided)) ∙ sym (ap (λ (r : Relocation). a .site .address .0 + r .offset .0) (f .read)) in
     let forms =
-    e .0 ∙ ap (λ p. standsWell (a .rule .form) p (found .found-bytes .result)) at ∙ ap (standsWell (a .rule .form) (a .site .address .0 + a .here .offset .0)) (found .found-bytes .ensures)
+    e .0 ∙ ap (λ p. standsWell (classOf s) (a .rule .form) p (found .found-bytes .result)) at ∙ ap (standsWell (classOf s) (a .rule .form) (a .site .address .0 + a .here .offset .0)) (found .found-bytes .ensures)
     ∙ form-read s (a .site) (a .j) (a .rule) _ (a .here) (f .decided) refl (f .read) in (
       record {
         number-is =

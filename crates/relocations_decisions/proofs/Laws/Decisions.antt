@@ -6,7 +6,9 @@ use Prim.Native.Nat.{ℕ, zero, suc, _≤_, _<_}
 use native.Mathlib.Omega.{arith}
 use lib.Dec.{eqb}
 use borrow.Author.Tests.{eqb-true}
-use Rattle.numbers_definitions.proofs.Laws.Tests.{and-left, and-right, never}
+use Rattle.numbers_definitions.specs.declared.Class.{Class}
+use Rattle.numbers_definitions.specs.declared.Class.the-variants.{Elf32, Elf64}
+use Rattle.numbers_definitions.proofs.Laws.Tests.{and-left, and-right, never, clash}
 use Rattle.numbers_bytes.specs.Widths.{isWidth}
 use Rattle.instructions_fields.specs.declared.Width.{Width}
 use Rattle.instructions_fields.specs.declared.Width.the-variants.{W6, W8, W16, W32, W64}
@@ -15,7 +17,7 @@ use Rattle.instructions_fields.specs.declared.Field.the-variants.{U, I, S, B, J
 use Rattle.relocations_types.specs.declared.Rule.{Rule}
 use Rattle.relocations_types.specs.declared.Decision.{Decision}
 use Rattle.relocations_types.specs.declared.Decision.the-variants.{Marker, Align, Store, Refused}
-use Rattle.relocations_types.specs.Types.{Line, pairing, pairingType, table, among, lookup, decision}
+use Rattle.relocations_types.specs.Types.{Line, word64, pairing, pairingType, table, linesOf, among, lookup, decision}
 use Rattle.relocations_decisions.specs.Decisions.{touched, givesPair}
 use Rattle.relocations_decisions.specs.Widths.{onData}
 
@@ -33,9 +35,11 @@ looked-up p (l ∷ ls) e t = go (among t (l .types)) (looked-up p ls (and-right 
     go true rest = and-left (p (l .decisionAt)) (holds p ls) e
     go false rest = rest
 
-pub decided : (p : Decision → Bool) → holds p table ≡ true → (t : ℕ) → p (decision t) ≡ true
-unfolding decision
-decided p e t = looked-up p table e t
+-- class 2 has the lines of class 1 too, so the lines of class 2 are enough
+pub decided : (p : Decision → Bool) → holds p (linesOf Elf64) ≡ true → (c : Class) (t : ℕ) → p (decision c t) ≡ true
+unfolding decision holds
+decided p e Elf32 t = looked-up p (linesOf Elf32) (and-right (p word64) (holds p table) e) t
+decided p e Elf64 t = looked-up p (linesOf Elf64) e t
 
 -- ---- how many bytes a field is stored in
 
@@ -64,9 +68,9 @@ wellStored Marker = true
 wellStored Align = true
 wellStored Refused = true
 
-pub stores-well : (t : ℕ) → wellStored (decision t) ≡ true
+pub stores-well : (c : Class) (t : ℕ) → wellStored (decision c t) ≡ true
 unfolding holds table
-stores-well t = decided wellStored refl t
+stores-well c t = decided wellStored refl c t
 
 pub small : (n : ℕ) → isWidth n ≡ true → n ≤ 8
 small n e = go (eqb n 1) refl (eqb n 2) refl (eqb n 4) refl e
@@ -77,9 +81,9 @@ small n e = go (eqb n 1) refl (eqb n 2) refl (eqb n 4) refl e
     go false p false q true r e = omega (arith, eqb-true n 4 r)
     go false p false q false r e = omega (arith, eqb-true n 8 e)
 
-module _ (t : ℕ) (r : Rule) (e : decision t ≡ Store r) where
+module _ (c : Class) (t : ℕ) (r : Rule) (e : decision c t ≡ Store r) where
   facts : isWidth (r .size) && eqb (r .size) (fieldBytes (r .field)) && onData (r .calculation) (r .field) ≡ true
-  facts = sym (ap wellStored e) ∙ stores-well t
+  facts = sym (ap wellStored e) ∙ stores-well c t
 
   both : isWidth (r .size) && eqb (r .size) (fieldBytes (r .field)) ≡ true
   both = and-left (isWidth (r .size) && eqb (r .size) (fieldBytes (r .field))) (onData (r .calculation) (r .field)) facts
@@ -94,11 +98,11 @@ module _ (t : ℕ) (r : Rule) (e : decision t ≡ Store r) where
   store-data = and-right (isWidth (r .size) && eqb (r .size) (fieldBytes (r .field))) (onData (r .calculation) (r .field)) facts
 
 -- no decision touches more than eight bytes
-pub touched-small : (t : ℕ) → touched (decision t) ≤ 8
-touched-small t = go (decision t) refl
+pub touched-small : (c : Class) (t : ℕ) → touched (decision c t) ≤ 8
+touched-small c t = go (decision c t) refl
   where
-    go : (d : Decision) → decision t ≡ d → touched d ≤ 8
-    go (Store r) e = small (r .size) (store-width t r e)
+    go : (d : Decision) → decision c t ≡ d → touched d ≤ 8
+    go (Store r) e = small (r .size) (store-width c t r e)
     go Marker e = omega arith
     go Align e = omega arith
     go Refused e = omega arith
@@ -123,16 +127,17 @@ each Q (l ∷ ls) q t = go (among t (l .types)) (each Q ls (q .1) t)
     go true rest = q .0
     go false rest = rest
 
-pub each-decided : (Q : Decision → Type 0) → Each Q table → (t : ℕ) → Q (decision t)
+pub each-decided : (Q : Decision → Type 0) → Each Q (linesOf Elf64) → (c : Class) (t : ℕ) → Q (decision c t)
 unfolding decision
-each-decided Q q t = each Q table q t
+each-decided Q q Elf32 t = each Q (linesOf Elf32) (q .1) t
+each-decided Q q Elf64 t = each Q (linesOf Elf64) q t
 
 abbrev OnlyPairing : Decision → Type 0
 OnlyPairing d = givesPair d ≡ true → d ≡ pairing
 
-pub pair-is : (t : ℕ) → givesPair (decision t) ≡ true → decision t ≡ pairing
+pub pair-is : (c : Class) (t : ℕ) → givesPair (decision c t) ≡ true → decision c t ≡ pairing
 unfolding table
-pair-is t = each-decided OnlyPairing (never, (never, (never, (never, (never, (never, (never, (never, (never, ((λ e. refl), (never, (never, (never, (never, (never, (never, (never, (never, (never, (never, (never, (never, (never, (never, (never, (never, (never, (never, never)))))))))))))))))))))))))))) t
+pair-is c t = each-decided OnlyPairing (never, (never, (never, (never, (never, (never, (never, (never, (never, (never, ((λ e. refl), (never, (never, (never, (never, (never, (never, (never, (never, (never, (never, (never, (never, (never, (never, (never, (never, (never, (never, never))))))))))))))))))))))))))))) c t
 
 -- a line that gives a pair has the type
 unfoldable givesAt : ℕ → List Line → Bool
@@ -152,11 +157,16 @@ gives-at t (l ∷ ls) e = go (among t (l .types)) (givesPair (l .decisionAt)) re
     go false false p q rest = rest q
 
 -- and the one type that gives a pair
-pub pair-type : (t : ℕ) → givesPair (decision t) ≡ eqb t pairingType
-unfolding decision table lookup among givesAt
-pair-type t = go (eqb t pairingType) refl (givesPair (decision t)) refl
+pair-in : (ls : List Line) → givesPair (lookup pairingType ls) ≡ true → ((t : ℕ) → eqb t pairingType ≡ false → givesAt t ls ≡ false) → (t : ℕ)
+    → givesPair (lookup t ls) ≡ eqb t pairingType
+pair-in ls there only t = go (eqb t pairingType) refl (givesPair (lookup t ls)) refl
   where
-    go : (b : Bool) → eqb t pairingType ≡ b → (g : Bool) → givesPair (decision t) ≡ g → givesPair (decision t) ≡ b
-    go true e g q = rw (eqb-true t pairingType e)
+    go : (b : Bool) → eqb t pairingType ≡ b → (g : Bool) → givesPair (lookup t ls) ≡ g → givesPair (lookup t ls) ≡ b
+    go true e g q = rw (eqb-true t pairingType e) there
     go false e false q = q
-    go false e true q = never (rw e at (gives-at t table q))
+    go false e true q = clash (givesAt t ls) (only t e) (gives-at t ls q)
+
+pub pair-type : (c : Class) (t : ℕ) → givesPair (decision c t) ≡ eqb t pairingType
+unfolding decision table lookup among givesAt
+pair-type Elf32 t = pair-in (linesOf Elf32) refl (λ t e. rw e) t
+pair-type Elf64 t = pair-in (linesOf Elf64) refl (λ t e. rw e) t

@@ -3,8 +3,10 @@ use mathlib.Core.Path.{_≡_, refl, sym, ap, _∙_, subst}
 use mathlib.Core.Bool.{Bool, true, false, _&&_}
 use Prim.Native.Nat.{ℕ, _/_, _%_, _^_}
 use lib.Dec.{eqb}
-use lib.IntN.{ℤ}
-use Rattle.numbers_definitions.specs.Whole.{residue}
+use lib.IntN.{ℤ, pos}
+use Rattle.numbers_definitions.specs.declared.Class.{Class}
+use Rattle.numbers_definitions.specs.Classes.{bits}
+use Rattle.numbers_definitions.specs.Whole.{residue, even, minus}
 use Rattle.numbers_definitions.proofs.Laws.Tests.{never}
 use Rattle.instructions_fields.specs.declared.Width.{Width}
 use Rattle.instructions_fields.specs.declared.Field.{Field}
@@ -14,6 +16,7 @@ use Rattle.instructions_fields.specs.Fields.{layout}
 use Rattle.instructions_riscv.specs.declared.forms.Form.{Form}
 use Rattle.instructions_riscv.specs.declared.forms.Form.the-variants.{Any, Lui, Auipc, Jal, Branch, LowI, LowS, CallPair, CBranch, CJump}
 use Rattle.instructions_riscv.specs.Forms.{hasForm}
+use Rattle.instructions_riscv.specs.Ranges.{halvesReach}
 use Rattle.relocations_types.specs.declared.Operand.{Operand}
 use Rattle.relocations_types.specs.declared.Operand.the-variants.{Absolute, PcRelative, Paired}
 use Rattle.relocations_types.specs.declared.Part.{Part}
@@ -24,9 +27,10 @@ use Rattle.relocations_types.specs.declared.Rule.{Rule}
 use Rattle.relocations_types.specs.declared.Decision.{Decision}
 use Rattle.relocations_types.specs.declared.Decision.the-variants.{Marker, Align, Store, Refused}
 use Rattle.relocations_types.specs.Types.{table, decision}
+use Rattle.relocations_decisions.specs.Decisions.{isPaired, takesPair}
 use Rattle.relocations_decisions.proofs.Laws.Decisions.{each-decided}
-use Rattle.relocations_rules.specs.Rules.{isData, standsWell, partReaches, reachesWell}
-use Rattle.relocations_bytes.specs.Patches.{partOf, patched}
+use Rattle.relocations_rules.specs.Rules.{isData, standsWell, operandReaches, partReaches, reachesWell}
+use Rattle.relocations_bytes.specs.Patches.{operandOf, partOf, patched}
 use Rattle.relocations_patch.specs.Regular.{isUpper, OfPart, fills, Regular, operandBy}
 
 -- ---- every rule of the table
@@ -37,106 +41,22 @@ RegularOf Marker = Unit {0}
 RegularOf Align = Unit {0}
 RegularOf Refused = Unit {0}
 
-regular-each : (t : ℕ) → RegularOf (decision t)
+regular-each : (k : Class) (t : ℕ) → RegularOf (decision k t)
 unfolding table
 regular-each =
-    each-decided RegularOf (
-      tt,
-      (
-        tt,
-        (
-          (refl, refl),
-          (
-            (refl, refl),
-            (
-              (by PcRelative, refl),
-              (
-                (by PcRelative, refl),
-                (
-                  (by PcRelative, refl),
-                  (
-                    (by PcRelative, refl),
-                    (
-                      (by PcRelative, refl),
-                      (
-                        (by PcRelative, refl),
-                        (
-                          (by Absolute, refl),
-                          (
-                            (by Absolute, refl),
-                            (
-                              (by Absolute, refl),
-                              (
-                                (by Paired, refl),
-                                (
-                                  (by Paired, refl),
-                                  (
-                                    (refl, refl),
-                                    (
-                                      (refl, refl),
-                                      (
-                                        (refl, refl),
-                                        (
-                                          (refl, refl),
-                                          (
-                                            (refl, refl),
-                                            (
-                                              (refl, refl),
-                                              (
-                                                (refl, refl),
-                                                (
-                                                  (refl, refl),
-                                                  (
-                                                    (refl, refl),
-                                                    (
-                                                      (refl, refl),
-                                                      (
-                                                        (refl, refl),
-                                                        (
-                                                          (refl, refl),
-                                                          (
-                                                            (refl, refl),
-                                                            tt,
-                                                          ),
-                                                        ),
-                                                      ),
-                                                    ),
-                                                  ),
-                                                ),
-                                              ),
-                                            ),
-                                          ),
-                                        ),
-                                      ),
-                                    ),
-                                  ),
-                                ),
-                              ),
-                            ),
-                          ),
-                        ),
-                      ),
-                    ),
-                  ),
-                ),
-              ),
-            ),
-          ),
-        ),
-      ),
-    )
+    each-decided RegularOf ((refl, refl), (tt, (tt, ((refl, refl), ((refl, refl), ((by PcRelative, refl), ((by PcRelative, refl), ((by PcRelative, refl), ((by PcRelative, refl), ((refl, refl), ((by PcRelative, refl, refl), ((by Absolute, refl, refl), ((by Absolute, refl), ((by Absolute, refl), ((by Paired, refl), ((by Paired, refl), ((refl, refl), ((refl, refl), ((refl, refl), ((refl, refl), ((refl, refl), ((refl, refl), ((refl, refl), ((refl, refl), ((refl, refl), ((refl, refl), ((refl, refl), ((refl, refl), ((refl, refl), tt)))))))))))))))))))))))))))))
   where
     by : {part : Part} (o : Operand) → OfPart part (Of part o)
     by o = record { operand = o; is = refl }
 
-pub rules-regular : (t : ℕ) (r : Rule) → decision t ≡ Store r → Regular (r .calculation) (r .field) (r .form)
-rules-regular t r e = subst RegularOf e (regular-each t)
+pub rules-regular : (k : Class) (t : ℕ) (r : Rule) → decision k t ≡ Store r → Regular (r .calculation) (r .field) (r .form)
+rules-regular k t r e = subst RegularOf e (regular-each k t)
 
 -- ---- check 11: of LUI and AUIPC, and of any other form of an instruction
 
-pub stands-form : (form : Form) (place found : ℕ) → isData form ≡ false → (eqb (place % 2) 0 && hasForm form found (found / 2 ^ 32)) ≡ standsWell form place found
+pub stands-form : (k : Class) (form : Form) (place found : ℕ) → isData form ≡ false → (eqb (place % 2) 0 && hasForm k form found (found / 2 ^ 32)) ≡ standsWell k form place found
 unfolding standsWell
-stands-form form place found e = rw e
+stands-form k form place found e = rw e
 
 pub upper-instruction : (form : Form) → isUpper form ≡ true → isData form ≡ false
 upper-instruction Any e = never e
@@ -153,8 +73,8 @@ upper-instruction CJump e = refl
 -- ---- check 13, and the bytes, of a part
 
 module _ (c : Calculation) (f : Field) (part : Part) (o : OfPart part c) where
-  pub part-reaches : (w t p : ℕ) → partReaches w part f t p ≡ reachesWell w c f t p
-  part-reaches w t p = ap (λ c. reachesWell w c f t p) (sym (o .is))
+  pub part-reaches : (k : Class) (t p : ℕ) → partReaches k part (o .operand) f t p ≡ reachesWell k c f t p
+  part-reaches k t p = ap (λ c. reachesWell k c f t p) (sym (o .is))
 
   pub part-patched : (w b : ℕ) (x : ℤ) (p d v : ℕ) → v ≡ operandBy w c (residue w x) p d → put (layout f) b (partOf w part v) ≡ patched w c f b x p d
   unfolding patched
@@ -162,13 +82,31 @@ module _ (c : Calculation) (f : Field) (part : Part) (o : OfPart part c) where
       ap (λ v. put (layout f) b (partOf w part v)) (e ∙ ap (λ c. operandBy w c (residue w x) p d) (o .is))
       ∙ ap (λ c. patched w c f b x p d) (sym (o .is))
 
+-- ---- check 13 of a high half, and of both halves, by the operand
+
+operand-reaches : (k : Class) (o : Operand) (t p d : ℕ) → isPaired o ≡ false → halvesReach k (operandOf (bits k) o t p d) ≡ operandReaches k o t p
+operand-reaches k Absolute t p d e = refl
+operand-reaches k PcRelative t p d e = refl
+operand-reaches k Paired t p d e = never (sym e)
+
+pub high-reaches : (k : Class) (c : Calculation) (o : OfPart High c) (t p d v : ℕ) → takesPair c ≡ false → v ≡ operandBy (bits k) c t p d
+    → halvesReach k v ≡ operandReaches k (o .operand) t p
+high-reaches k c o t p d v e v-is =
+    ap (halvesReach k) (v-is ∙ ap (λ c. operandBy (bits k) c t p d) (o .is))
+    ∙ operand-reaches k (o .operand) t p d (sym (ap takesPair (o .is)) ∙ e)
+
+pub both-reach : (k : Class) (c : Calculation) (t p d v : ℕ) → c ≡ Of BothHalves PcRelative → v ≡ operandBy (bits k) c t p d
+    → (eqb (v % 2) 0 && halvesReach k v) ≡ (even (pos (minus (bits k) t p)) && operandReaches k PcRelative t p)
+unfolding even
+both-reach k c t p d v is v-is = ap (λ v. eqb (v % 2) 0 && halvesReach k v) (v-is ∙ ap (λ c. operandBy (bits k) c t p d) is)
+
 -- ---- data
 
-pub data-reaches : (c : Calculation) (width : Width) → fills c ≡ true → (w t p : ℕ) → true ≡ reachesWell w c (Data width) t p
+pub data-reaches : (c : Calculation) (width : Width) → fills c ≡ true → (w : Class) (t p : ℕ) → true ≡ reachesWell w c (Data width) t p
 data-reaches (Of Whole o) width e w t p = refl
 data-reaches (Of Distance o) width e w t p = never e
-data-reaches (Of High o) width e w t p = refl
-data-reaches (Of Low o) width e w t p = refl
+data-reaches (Of High o) width e w t p = never e
+data-reaches (Of Low o) width e w t p = never e
 data-reaches (Of BothHalves o) width e w t p = never e
 data-reaches Add width e w t p = refl
 data-reaches Sub width e w t p = refl
@@ -183,9 +121,12 @@ whole-part BothHalves w v e = never e
 
 -- ---- all three, of the field that was matched
 
-module _ (n : ℕ) (c : Calculation) (form : Form) (found w t p d : ℕ) (x : ℤ) where
+module _ (k : Class) (c : Calculation) (form : Form) (found w t p d : ℕ) (x : ℤ) where
+  abbrev n : ℕ
+  n = bits k
+
   abbrev pub Made : Field → Bool → Bool → ℕ → Type 0
-  Made f stands reaches word = (stands ≡ standsWell form p found) × (reaches ≡ reachesWell n c f t p) × (word ≡ patched n c f w x p d)
+  Made f stands reaches word = (stands ≡ standsWell k form p found) × (reaches ≡ reachesWell k c f t p) × (word ≡ patched n c f w x p d)
 
   -- of an instruction, whose form was asked for
   pub instruction-made :
@@ -195,18 +136,18 @@ module _ (n : ℕ) (c : Calculation) (form : Form) (found w t p d : ℕ) (x : �
       (h r : Bool)
       (u v : ℕ)
       → f ≡ g
-      → OfPart part c
+      → (o : OfPart part c)
       → form ≡ asked
       → isData asked ≡ false
-      → h ≡ hasForm asked found (found / 2 ^ 32)
-      → r ≡ partReaches n part g t p
+      → h ≡ hasForm k asked found (found / 2 ^ 32)
+      → r ≡ partReaches k part (o .operand) g t p
       → v ≡ operandBy n c (residue n x) p d
       → u ≡ put (layout g) w (partOf n part v)
       → Made f (eqb (p % 2) 0 && h) r u
   instruction-made f g part asked h r u v told o form-is e h-is r-is v-is u-is =
       subst (λ f. Made f (eqb (p % 2) 0 && h) r u) (sym told) (
-        ap (λ h. eqb (p % 2) 0 && h) h-is ∙ stands-form asked p found e ∙ ap (λ k. standsWell k p found) (sym form-is),
-        r-is ∙ part-reaches c g part o n t p,
+        ap (λ h. eqb (p % 2) 0 && h) h-is ∙ stands-form k asked p found e ∙ ap (λ a. standsWell k a p found) (sym form-is),
+        r-is ∙ part-reaches c g part o k t p,
         u-is ∙ part-patched c g part o n w x p d v v-is,
       )
 
@@ -215,4 +156,4 @@ module _ (n : ℕ) (c : Calculation) (form : Form) (found w t p d : ℕ) (x : �
       (f : Field) (width : Width) (u : ℕ) → f ≡ Data width → fills c ≡ true → form ≡ Any → u ≡ patched n c (Data width) w x p d → Made f true true u
   unfolding standsWell
   data-made f width u told e form-is u-is =
-      subst (λ f. Made f true true u) (sym told) (sym (ap (λ k. standsWell k p found) form-is), data-reaches c width e n t p, u-is)
+      subst (λ f. Made f true true u) (sym told) (sym (ap (λ a. standsWell k a p found) form-is), data-reaches c width e k t p, u-is)

@@ -9,11 +9,11 @@ use Rattle.relocations_patch.proofs.upper_opcode.Tie as tie
 
 returns : tie.Need-returns
 unfolding hasForm
-returns c = λ word next. sym (ap (λ f. hasForm f word next) (c .enum-told .given .1))
+returns c = λ k word next. sym (ap (λ f. hasForm k f word next) (c .enum-told .given .1))
 
 returns-2 : tie.Need-returns-2
 unfolding hasForm
-returns-2 c = λ word next. sym (ap (λ f. hasForm f word next) (c .enum-told2 .given .1))
+returns-2 c = λ k word next. sym (ap (λ f. hasForm k f word next) (c .enum-told2 .given .1))
 
 returns-3 : tie.Need-returns-3
 returns-3 c = let s : tie.Start = search in never (sym (ap isUpper (c .enum-told3 .given .1)) ∙ s .pre)

@@ -12,7 +12,7 @@ use Rattle.numbers_definitions.specs.Whole.{signed, plus}
 use Rattle.numbers_definitions.specs.Powers.{ceilPower}
 use Rattle.numbers_definitions.proofs.Laws.Tests.{and-left, never}
 use Rattle.elf_read.specs.declared.Relocation.{Relocation}
-use Rattle.elf_read.specs.Headers.{addressWidth}
+use Rattle.elf_read.specs.Headers.{classOf, addressWidth}
 use Rattle.elf_read.specs.Entries.{symbolCount}
 use Rattle.placing_symbols.specs.declared.SymbolValue.{SymbolValue}
 use Rattle.placing_symbols.specs.declared.SymbolValue.the-variants.{Unresolved}
@@ -64,12 +64,12 @@ pair-symbol object x j v e n = go (decisionAt object x j) refl (isResolved v) e 
 
 -- for a store, stated for the bytes l and the relocation r that the code has read
 pub form-read : (object : List ℕ) (x : Site) (j : ℕ) (rule : Rule) (l : List ℕ) (r : Relocation) → decisionAt object x j ≡ Store rule → l ≡ found object x → r ≡ entry object x j
-    → standsWell (rule .form) (x .address .0 + r .offset .0) (leAt (rule .size) l (r .offset .0)) ≡ formWell object x j
+    → standsWell (classOf object) (rule .form) (x .address .0 + r .offset .0) (leAt (rule .size) l (r .offset .0)) ≡ formWell object x j
 unfolding formWell
 form-read object x j rule l r e p q =
-    ap (λ l. standsWell (rule .form) (x .address .0 + r .offset .0) (leAt (rule .size) l (r .offset .0))) p
-    ∙ ap (λ r. standsWell (rule .form) (x .address .0 + r .offset .0) (leAt (rule .size) (found object x) (r .offset .0))) q
-    ∙ sym (ap (λ d. asksWell d (P object x j) (found object x) (offset object x j)) e)
+    ap (λ l. standsWell (classOf object) (rule .form) (x .address .0 + r .offset .0) (leAt (rule .size) l (r .offset .0))) p
+    ∙ ap (λ r. standsWell (classOf object) (rule .form) (x .address .0 + r .offset .0) (leAt (rule .size) (found object x) (r .offset .0))) q
+    ∙ sym (ap (λ d. asksWell (classOf object) d (P object x j) (found object x) (offset object x j)) e)
 
 -- ---- check 13
 
@@ -78,32 +78,32 @@ pub place-below : (object : List ℕ) (x : Site) (j : ℕ) → SoundSite object 
 place-below object x j f inside s = go (decisionAt object x j) refl s inside
   where
     go : (d : Decision) → decisionAt object x j ≡ d → isStore d ≡ true → offset object x j + touched d ≤ x .target .size → P object x j < 2 ^ addressWidth object
-    go (Store r) q s i = omega (arith, width-some (r .size) (store-width _ r q), f .placed)
+    go (Store r) q s i = omega (arith, width-some (r .size) (store-width _ _ r q), f .placed)
     go Marker q s i = never s
     go Align q s i = never s
     go Refused q s i = never s
 
 pub in-reach-is : (object : List ℕ) (x : Site) (j t : ℕ) → SoundSite object x → end object x j ≤ x .target .size
-    → distanceWell (addressWidth object) (decisionAt object x j) t (plus (addressWidth object) (x .address .0) (offset object x j))
-    ≡ distanceWell (addressWidth object) (decisionAt object x j) t (P object x j)
+    → distanceWell (classOf object) (decisionAt object x j) t (plus (addressWidth object) (x .address .0) (offset object x j))
+    ≡ distanceWell (classOf object) (decisionAt object x j) t (P object x j)
 unfolding plus
 in-reach-is object x j t f inside = go (decisionAt object x j) refl
   where
-    go : (d : Decision) → decisionAt object x j ≡ d → distanceWell (addressWidth object) d t ((x .address .0 + offset object x j) % 2 ^ addressWidth object) ≡ distanceWell (addressWidth object) d t (P object x j)
-    go (Store r) q = ap (distanceWell (addressWidth object) (Store r) t) (mod-eq-of-lt (place-below object x j f inside (ap isStore q)))
+    go : (d : Decision) → decisionAt object x j ≡ d → distanceWell (classOf object) d t ((x .address .0 + offset object x j) % 2 ^ addressWidth object) ≡ distanceWell (classOf object) d t (P object x j)
+    go (Store r) q = ap (distanceWell (classOf object) (Store r) t) (mod-eq-of-lt (place-below object x j f inside (ap isStore q)))
     go Marker q = refl
     go Align q = refl
     go Refused q = refl
 
 -- stated for the relocation r that the code has read, and for what it has worked out from it
 pub reach-read : (object : List ℕ) (x : Site) (j : ℕ) (r : Relocation) (d : Decision) (v w : SymbolValue) (t p : ℕ) → SoundSite object x → end object x j ≤ x .target .size
-    → r ≡ entry object x j → d ≡ decision (r .kind) → v ≡ w → t ≡ T (addressWidth object) (S v) (signed 64 (r .addend)) → p ≡ plus (addressWidth object) (x .address .0) (r .offset .0)
-    → distanceWell (addressWidth object) d t p ≡ distanceWell (addressWidth object) (decisionAt object x j) (T (addressWidth object) (S w) (A object x j)) (P object x j)
+    → r ≡ entry object x j → d ≡ decision (classOf object) (r .kind) → v ≡ w → t ≡ T (addressWidth object) (S v) (signed 64 (r .addend)) → p ≡ plus (addressWidth object) (x .address .0) (r .offset .0)
+    → distanceWell (classOf object) d t p ≡ distanceWell (classOf object) (decisionAt object x j) (T (addressWidth object) (S w) (A object x j)) (P object x j)
 reach-read object x j r d v w t p f inside re de ve te pe = rw (pe, te, de, ve, re) (in-reach-is object x j (T (addressWidth object) (S w) (A object x j)) f inside)
 
 -- ---- check 14
 
-pub boundary-read : (object : List ℕ) (x : Site) (j : ℕ) (r : Relocation) (d : Decision) → r ≡ entry object x j → d ≡ decision (r .kind)
+pub boundary-read : (object : List ℕ) (x : Site) (j : ℕ) (r : Relocation) (d : Decision) → r ≡ entry object x j → d ≡ decision (classOf object) (r .kind)
     → boundaryWell d (x .address .0 + r .offset .0) (signed 64 (r .addend)) ≡ boundaryWell (decisionAt object x j) (P object x j) (A object x j)
 boundary-read object x j r d re de = rw (de, re)
 

@@ -8,9 +8,11 @@ use native.Mathlib.Omega.{arith}
 use lib.Dec.{eqb}
 use types.Run.{OneOf}
 use borrow.Author.Tests.{eqb-true, eqb-false}
+use Rattle.numbers_definitions.specs.declared.Class.{Class}
+use Rattle.numbers_definitions.specs.declared.Class.the-variants.{Elf32, Elf64}
 use Rattle.numbers_definitions.proofs.Laws.Tests.{and-left, and-right, or-false}
 use Rattle.relocations_types.specs.declared.Decision.the-variants.{Refused}
-use Rattle.relocations_types.specs.Types.{Line, table, among, lookup, decision}
+use Rattle.relocations_types.specs.Types.{Line, table, linesOf, among, lookup, decision}
 
 -- ---- a number in a list, and in several
 
@@ -118,17 +120,20 @@ arms =
     ∷ (17 ∷ [])
     ∷ (16 ∷ [])
     ∷ (57 ∷ [])
+    ∷ (2 ∷ [])
     ∷ (1 ∷ [])
     ∷ (43 ∷ [])
     ∷ (0 ∷ 51 ∷ [])
     ∷ []
 
 -- a number in none of these arms is that of CALL or CALL_PLT, or it is refused
-pub others-refused : (t : ℕ) → Passed arms t → (OneOf (18 ∷ 19 ∷ []) t → ⊥) → decision t ≡ Refused
+no-line : (ls : List Line) → covers (typesOf ls) (joined ((18 ∷ 19 ∷ []) ∷ arms)) ≡ true → (t : ℕ) → Passed arms t → (OneOf (18 ∷ 19 ∷ []) t → ⊥) → lookup t ls ≡ Refused
+no-line ls all t p n = lookup-none t ls (covered t (typesOf ls) (joined ((18 ∷ 19 ∷ []) ∷ arms)) all (passed-among t ((18 ∷ 19 ∷ []) ∷ arms) (p, n)))
+
+pub others-refused : (c : Class) (t : ℕ) → Passed arms t → (OneOf (18 ∷ 19 ∷ []) t → ⊥) → decision c t ≡ Refused
 unfolding decision typesOf table covers among joined
-others-refused t p n =
-    lookup-none t table
-    (covered t (typesOf table) (joined ((18 ∷ 19 ∷ []) ∷ arms)) refl (passed-among t ((18 ∷ 19 ∷ []) ∷ arms) (p, n)))
+others-refused Elf32 t p n = no-line (linesOf Elf32) refl t p n
+others-refused Elf64 t p n = no-line (linesOf Elf64) refl t p n
 
 pub call-types : (t : ℕ) → 16 ≤ t → t < 20 → Passed arms t → OneOf (18 ∷ 19 ∷ []) t
 unfolding among joined
@@ -156,3 +161,9 @@ too-low t h k l e = omega arith
 
 pub too-high : (t : ℕ) → 20 ≤ t → (k : ℕ) → k < 20 → t ≡ k → ⊥
 too-high t h k l e = omega arith
+
+-- a type other than 2 has its line in document 01's table, in both classes
+pub listed : (c : Class) (t k : ℕ) → t ≡ k → eqb k 2 ≡ false → decision c t ≡ lookup k table
+unfolding decision lookup among
+listed Elf32 t k e other = ap (λ t. lookup t table) e
+listed Elf64 t k e other = ap (λ t. lookup t (linesOf Elf64)) e ∙ rw other

@@ -14,6 +14,7 @@ use borrow.Author.Tests.{ltb-false}
 use borrow.Author.Count.{below-more}
 use Rattle.numbers_definitions.proofs.Laws.Tests.{clash, neither-left, neither-right}
 use Rattle.elf_read.specs.declared.Relocation.{Relocation}
+use Rattle.elf_read.specs.Headers.{classOf}
 use Rattle.relocations_types.specs.Types.{decision}
 use Rattle.relocations_decisions.specs.Decisions.{givesPair}
 use Rattle.relocations_rela.specs.declared.sites.Site.{Site}
@@ -113,9 +114,9 @@ module _ (object : List ℕ) (x : Site) where
             (eq-or-lt-of-le a)
 
   -- the same by what was read
-  module _ (l : List ℕ) (m last : ℕ) (falls : Bool) (k : ℕ) (g : Gathering l m last falls k) (h : Relocation) (read : h ≡ entry object x k) (b : Bool) (test : b ≡ givesPair (decision (h .kind))) where
+  module _ (l : List ℕ) (m last : ℕ) (falls : Bool) (k : ℕ) (g : Gathering l m last falls k) (h : Relocation) (read : h ≡ entry object x k) (b : Bool) (test : b ≡ givesPair (decision (classOf object) (h .kind))) where
     is : b ≡ isHigh object x k
-    is = test ∙ ap (λ (h : Relocation). givesPair (decision (h .kind))) read
+    is = test ∙ ap (λ (h : Relocation). givesPair (decision (classOf object) (h .kind))) read
 
     pub read-passed : b ≡ false → Gathering l m last falls (k + 1)
     read-passed e = gathering-passed l m last falls k g (sym is ∙ e)
