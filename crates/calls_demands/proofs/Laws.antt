@@ -19,3 +19,4 @@ pub mod Follows
 pub mod Codes
 pub mod Undone
 pub mod Witness
+pub mod Witness64

@@ -204,7 +204,7 @@ abbrev pub InHalvesReach : Class → ℕ → Type 0
 InHalvesReach Elf32 v = Unit {0}
 InHalvesReach Elf64 v = Within 2147485696 2147481599 (signed 64 v)
 
--- 26: the address T; 18, 19, 23: the distance T - P modulo 2^w; 24 and 25 "have no range of their own"
+-- 26: the address T; 18, 19, 23: the distance T - P modulo 2^w; 24 and 25 have no range of their own
 abbrev pub OperandReachable : Class → Operand → ℕ → ℕ → Type 0
 OperandReachable c Absolute t p = InHalvesReach c t
 OperandReachable c PcRelative t p = InHalvesReach c (minus (bits c) t p)

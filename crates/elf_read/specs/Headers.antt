@@ -1,15 +1,17 @@
 -- The header of an ELF file (System V gABI), for both classes: where its section headers are, and the sizes that the format gives its
 -- parts. `by c m n` is m in a file of class 1 and n in a file of class 2.
 use Prim.Native.Nat.{ℕ}
+use mathlib.Core.Bool.{cond}
 use mathlib.Core.List.{List}
+use lib.Dec.{eqb}
 use Rattle.numbers_definitions.specs.declared.Class.{Class}
-use Rattle.numbers_definitions.specs.declared.Class.the-variants.{Elf32}
+use Rattle.numbers_definitions.specs.declared.Class.the-variants.{Elf32, Elf64}
 use Rattle.numbers_definitions.specs.Bytes.{leAt}
 use Rattle.numbers_definitions.specs.Classes.{by, bits, addressBytes}
 
--- the class of a file
+-- the class of a file: byte 4 (EI_CLASS) is 1 or 2. Any other is refused by check 4, whose other sentences then read the file as class 1.
 unfoldable pub classOf : List ℕ → Class
-classOf s = Elf32
+classOf s = cond (eqb (leAt 1 s 4) 2) Elf64 Elf32
 
 -- how many bits an address has. No other definition says how wide addresses are.
 abbrev pub addressWidth : List ℕ → ℕ

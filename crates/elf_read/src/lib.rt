@@ -113,6 +113,9 @@ pub fn class_of(object: &[u8]) -> Class
     requires { ⌜ headerSize Class.Elf32 ≤ length (now object) ⌝ }
     ensures { λ r. ⌜ r ≡ classOf (now (object .entry)) ⌝ }
 {
+    if object[4] == 2 {
+        return Class::Elf64;
+    }
     Class::Elf32
 }
 

@@ -96,7 +96,7 @@ pairWell object x j = not (needsPair (decisionAt object x j)) || isOne (pairOf o
 -- ---- check 13, in class c, for t, which is T, and p, which is P
 
 -- Document 02, in class 2: "for 18, 19, 23 and 26 the distance or address, read as a signed 64-bit number, lies in
--- -2,147,485,696..2,147,481,599". 26: the address T; 18, 19, 23: the distance T - P modulo 2^w. 24 and 25 "have no range of their own".
+-- -2,147,485,696..2,147,481,599". 26: the address T; 18, 19, 23: the distance T - P modulo 2^w. 24 and 25 have no range of their own.
 abbrev pub operandReaches : Class → Operand → ℕ → ℕ → Bool
 operandReaches c Absolute t p = halvesReach c t
 operandReaches c PcRelative t p = halvesReach c (minus (bits c) t p)

@@ -1,15 +1,18 @@
-// p: the first of checks 2 to 8 that an object and an order break. If they break none, the addresses and the values of
-// the symbols.
+// p: the first of checks 4, 2, 3 and 5 to 8 that an object and an order break. If they break none, the addresses and the
+// values of the symbols.
 ghost use mathlib.Core.Path.{_≡_};
+ghost use mathlib.Core.Bool.{true};
 ghost use Prim.Native.Nat.{_≤_};
+ghost use Rattle.elf_read.specs.Headers.{classOf};
+ghost use Rattle.elf_header.specs.Headers.{headerAllowed};
 ghost use Rattle.elf_check.specs.Requires.{SoundObject};
 ghost use Rattle.order_format.specs.Orders.{reading};
 ghost use Rattle.order_format.specs.Windows.{maxImage};
 ghost use Rattle.placing_symbols.specs.Arrays.{ValueArrays};
 use elf_check::MAX_SYMBOLS;
-use elf_check::ObjectCheck;
+use elf_check::SectionCheck;
+use elf_read::class_of;
 use numbers_definitions::Address;
-use numbers_definitions::Class;
 use order_format::OrderHeader;
 use order_format::Reading;
 use order_lookup::Addresses;
@@ -17,31 +20,41 @@ use placing_match::Fault;
 use placing_symbols::SymbolValue;
 
 pub fn line(object: &[u8], order: &[u8], len: usize) {
-    match order_format::read_order(order) {
-        Reading::Malformed => tests_harness::answer(2, 0),
-        Reading::WellFormed(counts) => read(object, order, counts, len),
+    if elf_header::check_header(object) {
+        read(object, order, len);
+    } else {
+        tests_harness::answer(4, 0);
     }
     tests_harness::end();
 }
 
-// Checks 3 to 5.
-fn read(object: &[u8], order: &[u8], counts: OrderHeader, len: usize)
-    requires { ⌜ reading (now order) ≡ Reading.WellFormed counts ⌝ }
+// Check 2. The object's class says how the order is read.
+fn read(object: &[u8], order: &[u8], len: usize)
+    requires { ⌜ headerAllowed (now object) ≡ true ⌝ }
 {
-    if !order_format::window_allowed(Class::Elf32, counts.base, len) {
+    match order_format::read_order(class_of(object), order) {
+        Reading::Malformed => tests_harness::answer(2, 0),
+        Reading::WellFormed(counts) => sections(object, order, counts, len),
+    }
+}
+
+// Checks 3 and 5.
+fn sections(object: &[u8], order: &[u8], counts: OrderHeader, len: usize)
+    requires { ⌜ (headerAllowed (now object) ≡ true) × (reading (classOf (now object)) (now order) ≡ Reading.WellFormed counts) ⌝ }
+{
+    if !order_format::window_allowed(class_of(object), counts.base, len) {
         tests_harness::answer(3, 0);
         return;
     }
-    match elf_check::check_object(object) {
-        ObjectCheck::BadHeader => tests_harness::answer(4, 0),
-        ObjectCheck::BadSection(i) => tests_harness::answer(5, i as u64),
-        ObjectCheck::Passed => placements(object, order, counts, len),
+    match elf_check::check_sections(object) {
+        SectionCheck::Broken(i) => tests_harness::answer(5, i as u64),
+        SectionCheck::Sound => placements(object, order, counts, len),
     }
 }
 
 // Check 6.
 fn placements(object: &[u8], order: &[u8], counts: OrderHeader, len: usize)
-    requires { ⌜ SoundObject (now object) × (reading (now order) ≡ Reading.WellFormed counts) × (len ≤ maxImage) ⌝ }
+    requires { ⌜ SoundObject (now object) × (reading (classOf (now object)) (now order) ≡ Reading.WellFormed counts) × (len ≤ maxImage) ⌝ }
 {
     match placing_match::check_placements(object, order, counts) {
         Fault::At(i) => tests_harness::answer(6, i as u64),
@@ -51,7 +64,7 @@ fn placements(object: &[u8], order: &[u8], counts: OrderHeader, len: usize)
 
 // Check 7.
 fn externals(object: &[u8], order: &[u8], counts: OrderHeader, len: usize)
-    requires { ⌜ SoundObject (now object) × (reading (now order) ≡ Reading.WellFormed counts) × (len ≤ maxImage) ⌝ }
+    requires { ⌜ SoundObject (now object) × (reading (classOf (now object)) (now order) ≡ Reading.WellFormed counts) × (len ≤ maxImage) ⌝ }
 {
     match placing_match::check_externals(object, order, counts) {
         Fault::At(k) => tests_harness::answer(7, k as u64),
@@ -61,9 +74,9 @@ fn externals(object: &[u8], order: &[u8], counts: OrderHeader, len: usize)
 
 // Check 8.
 fn placing(object: &[u8], order: &[u8], counts: OrderHeader, len: usize)
-    requires { ⌜ SoundObject (now object) × (reading (now order) ≡ Reading.WellFormed counts) × (len ≤ maxImage) ⌝ }
+    requires { ⌜ SoundObject (now object) × (reading (classOf (now object)) (now order) ≡ Reading.WellFormed counts) × (len ≤ maxImage) ⌝ }
 {
-    let given = order_lookup::fill_addresses([0u64; 32], order, counts);
+    let given = order_lookup::fill_addresses(class_of(object), [0u64; 32], order, counts);
     let placed = placing_check::check_placing(object, given, counts.base, len);
     let fault = placed.fault;
     let array = placed.addresses;
@@ -74,7 +87,7 @@ fn placing(object: &[u8], order: &[u8], counts: OrderHeader, len: usize)
 }
 
 fn passed(object: &[u8], order: &[u8], counts: OrderHeader, array: Addresses)
-    requires { ⌜ SoundObject (now object) × (reading (now order) ≡ Reading.WellFormed counts) ⌝ }
+    requires { ⌜ SoundObject (now object) × (reading (classOf (now object)) (now order) ≡ Reading.WellFormed counts) ⌝ }
 {
     let symbols = placing_symbols::symbols_of(object);
     let mut numbers = [0u64; MAX_SYMBOLS];

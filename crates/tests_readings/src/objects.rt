@@ -1,22 +1,34 @@
 // o: checks 4 and 5 of an object. If it passes, a digest for each function that reads it.
+ghost use mathlib.Core.Path.{_≡_};
+ghost use mathlib.Core.Bool.{true};
 ghost use Prim.Native.Nat.{_<_};
 ghost use Rattle.elf_read.specs.Headers.{classOf, sectionCount};
 ghost use Rattle.elf_read.specs.Sections.{relocationEntries};
 ghost use Rattle.elf_read.specs.Entries.{symbolEntries};
 ghost use Rattle.elf_read.specs.Requires.{HeaderInside, TableInside, Inside, EntryInside};
+ghost use Rattle.elf_header.specs.Headers.{headerAllowed};
 ghost use Rattle.elf_check.specs.Requires.{SoundObject};
 use super::digest;
 use super::lines;
-use elf_check::ObjectCheck;
+use elf_check::SectionCheck;
 use elf_read::Section;
 
 pub fn line(s: &[u8]) {
-    match elf_check::check_object(s) {
-        ObjectCheck::Passed => passed(s),
-        ObjectCheck::BadHeader => lines::answer(b'o', 4, 0),
-        ObjectCheck::BadSection(i) => lines::answer(b'o', 5, i as u64),
+    if elf_header::check_header(s) {
+        check_sections(s);
+    } else {
+        lines::answer(b'o', 4, 0);
     }
     tests_harness::end();
+}
+
+fn check_sections(s: &[u8])
+    requires { ⌜ headerAllowed (now s) ≡ true ⌝ }
+{
+    match elf_check::check_sections(s) {
+        SectionCheck::Sound => passed(s),
+        SectionCheck::Broken(i) => lines::answer(b'o', 5, i as u64),
+    }
 }
 
 fn passed(s: &[u8])

@@ -1,11 +1,12 @@
-// r: the first of checks 2 to 14 that an object and an order break. If they break none, the bytes of the loaded
-// sections after relocation.
+// r: the first of checks 4, 2, 3 and 5 to 14 that an object and an order break. If they break none, the bytes of the
+// loaded sections after relocation.
 ghost use mathlib.Core.Path.{_≡_};
 ghost use mathlib.Core.Bool.{true};
 ghost use Prim.Native.Nat.{_<_};
 ghost use lib.ListN.{length};
-ghost use Rattle.elf_read.specs.Headers.{sectionCount};
+ghost use Rattle.elf_read.specs.Headers.{classOf, sectionCount};
 ghost use Rattle.elf_read.specs.Sections.{sectionAt, loaded};
+ghost use Rattle.elf_header.specs.Headers.{headerAllowed};
 ghost use Rattle.order_format.specs.Orders.{reading};
 ghost use Rattle.tests_relocations.specs.Requires.{Layable};
 use super::lines;
@@ -16,11 +17,22 @@ use order_format::Reading;
 use order_lookup::Addresses;
 
 pub fn line(object: &[u8], order: &[u8], len: usize) {
-    match order_format::read_order(order) {
+    if elf_header::check_header(object) {
+        read(object, order, len);
+    } else {
+        write(Answer::BadHeader);
+    }
+    tests_harness::end();
+}
+
+// Check 2. The object's class says how the order is read.
+fn read(object: &[u8], order: &[u8], len: usize)
+    requires { ⌜ headerAllowed (now object) ≡ true ⌝ }
+{
+    match order_format::read_order(elf_read::class_of(object), order) {
         Reading::Malformed => write(Answer::OrderMalformed),
         Reading::WellFormed(counts) => judged(object, order, counts, len),
     }
-    tests_harness::end();
 }
 
 fn write(answer: Answer) {
@@ -29,7 +41,7 @@ fn write(answer: Answer) {
 }
 
 fn judged(object: &[u8], order: &[u8], counts: OrderHeader, len: usize)
-    requires { ⌜ reading (now order) ≡ Reading.WellFormed counts ⌝ }
+    requires { ⌜ (headerAllowed (now object) ≡ true) × (reading (classOf (now object)) (now order) ≡ Reading.WellFormed counts) ⌝ }
 {
     let mut highs = [0u32; MAX_RELOCATIONS];
     let mut words = [0u64; MAX_RELOCATIONS];

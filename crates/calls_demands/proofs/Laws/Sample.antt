@@ -80,7 +80,7 @@ unfolding object words bytes tableAllowed leAt le classOf
 table-is = table-well object refl
 
 window-is : WindowWell (addressWidth object) (baseFor object order) (length (files .image))
-unfolding order files words bytes windowAllowed lengthAllowed leAt le classOf
+unfolding object order files words bytes windowAllowed lengthAllowed leAt le classOf
 window-is = window-well (addressWidth object) (baseFor object order) (length (files .image)) refl
 
 -- the section header table has four entries
@@ -106,7 +106,7 @@ matches-are (suc (suc (suc zero))) = refl
 matches-are (suc (suc (suc (suc i)))) = rw (ne-eqb 1 (suc (suc (suc (suc i)))) (λ e. omega arith), le-ltb (suc (suc (suc (suc i)))) 4 (omega arith))
 
 externals-are : (k : ℕ) → ValuedIfUndefined object order k
-unfolding order words bytes leAt le classOf externalValue valueIn first
+unfolding object order words bytes leAt le classOf externalValue valueIn first
 externals-are k e = never e
 
 -- section 1 stands at the window's start, and keeps every rule of placing

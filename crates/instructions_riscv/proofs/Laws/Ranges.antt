@@ -8,6 +8,7 @@ use native.Mathlib.Decide.{decLt}
 use native.Mathlib.Nat.{mod-eq-of-lt}
 use native.Mathlib.Omega.{arith}
 use lib.IntN.{ℤ, pos, negℤ, _-ℤ_}
+use Rattle.numbers_definitions.specs.declared.Class.the-variants.{Elf64}
 use Rattle.numbers_definitions.specs.Whole.{residue, signed, within, even, plus}
 use Rattle.numbers_definitions.proofs.Laws.Tests.{and-left, and-right, and-true, same-test}
 use Rattle.numbers_definitions.proofs.Laws.Whole.{even-residue, within-spelt, sub-ahead, sub-back}
@@ -16,7 +17,7 @@ use Rattle.instructions_fields.specs.declared.Field.the-variants.{B, J, Cb, Cj}
 use Rattle.instructions_fields.specs.Layouts.{read, put}
 use Rattle.instructions_fields.specs.Fields.{layout, valueBits, unit}
 use Rattle.instructions_riscv.specs.declared.ranges.Range.{Range}
-use Rattle.instructions_riscv.specs.Ranges.{distance, branch, jal, rvcBranch, rvcJump, anywhere, reaches}
+use Rattle.instructions_riscv.specs.Ranges.{distance, branch, jal, rvcBranch, rvcJump, anywhere, reaches, halvesReach}
 use Rattle.instructions_fields.proofs.Laws.Fields.{reads-back-signed}
 use Rattle.instructions_riscv.proofs.Laws.Halves.{at-least}
 
@@ -94,3 +95,9 @@ halves-compared v h = go (ltb (2 * v) (2 ^ 64)) refl
     go : (b : Bool) → ltb (2 * v) (2 ^ 64) ≡ b → leb ((v + 2147485696) % 2 ^ 64) 4294967295 ≡ within 2147485696 2147481599 (cond b (pos v) (pos v -ℤ pos (2 ^ 64)))
     go true e = halves-ahead v (ltb-true _ _ e)
     go false e = halves-back v h (ltb-false _ _ e) ∙ sym (ap (within 2147485696 2147481599) (sub-back v (2 ^ 64) h))
+
+-- both ends of the range are reached, and the numbers one further out are not
+pub halves-ends : (halvesReach Elf64 2147481599 ≡ true) × (halvesReach Elf64 2147481600 ≡ false)
+    × (halvesReach Elf64 (2 ^ 64 - 2147485696) ≡ true) × (halvesReach Elf64 (2 ^ 64 - 2147485697) ≡ false)
+unfolding within signed
+halves-ends = (refl, refl, refl, refl)

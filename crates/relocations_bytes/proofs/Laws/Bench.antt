@@ -1,5 +1,5 @@
--- Document 01's bench numbers marked K, as one list with one claim. Each number is what the definitions give of a whole object with one
--- relocation: the bytes of its section afterwards, or the number of the first rule that the relocation breaks.
+-- Document 01's bench numbers marked K, and those of class 2, as one list with one claim. Each number is what the definitions give of a whole
+-- object with one relocation: the bytes of its section afterwards, or the number of the first rule that the relocation breaks.
 use mathlib.Core.Path.{_≡_, refl}
 use mathlib.Core.List.{List, [], _∷_, _++_, map}
 use Prim.Native.Nat.{ℕ}
@@ -61,6 +61,31 @@ laid type w a p = pos (leAt 8 (relocated (object type w a) [] (0 ∷ p ∷ []) 1
 abbrev gives : ℕ → ℕ → ℕ → ℕ → ℤ
 gives type w a p = pos (number (findingOf (object type w a) [] (0 ∷ p ∷ []) 0))
 
+-- ---- the same in class 2
+
+unfoldable pub doubles : List ℕ → List ℕ
+doubles [] = []
+doubles (d ∷ ds) = bytes 8 d ++ doubles ds
+
+unfoldable pub object64 : ℕ → ℕ → ℕ → List ℕ
+object64 type w addend =
+    -- the header
+    words (0x464C457F ∷ 0x00010102 ∷ 0 ∷ 0 ∷ 0x00F30001 ∷ 1 ∷ [])
+    ++ doubles (0 ∷ 0 ∷ 96 ∷ [])
+    ++ words (0 ∷ 64 ∷ 0x00400000 ∷ 3 ∷ [])
+    -- the section, the relocation
+    ++ doubles (w ∷ 0 ∷ type ∷ addend ∷ [])
+    -- the section header table: NULL, PROGBITS, RELA
+    ++ doubles (0 ∷ 0 ∷ 0 ∷ 0 ∷ 0 ∷ 0 ∷ 0 ∷ 0 ∷ [])
+    ++ (words (0 ∷ 1 ∷ []) ++ doubles (2 ∷ 0 ∷ 64 ∷ 8 ∷ []) ++ words (0 ∷ 0 ∷ []) ++ doubles (1 ∷ 0 ∷ []))
+    ++ (words (0 ∷ 4 ∷ []) ++ doubles (0 ∷ 0 ∷ 72 ∷ 24 ∷ []) ++ words (0 ∷ 1 ∷ []) ++ doubles (8 ∷ 24 ∷ []))
+
+abbrev laid64 : ℕ → ℕ → ℕ → ℕ → ℤ
+laid64 type w a p = pos (leAt 8 (relocated (object64 type w a) [] (0 ∷ p ∷ []) 1) 0)
+
+abbrev gives64 : ℕ → ℕ → ℕ → ℕ → ℤ
+gives64 type w a p = pos (number (findingOf (object64 type w a) [] (0 ∷ p ∷ []) 0))
+
 unfoldable pub numbers : List Number
 numbers =
     -- "T 0x7FFFF7FF: high 0x7FFFF, low 2,047. 0x7FFFF800: 0x80000, -2,048."
@@ -91,8 +116,35 @@ numbers =
     -- "ALIGN A 6: P 0x1002 done, P 0x1000 gives 14."
     ∷ (gives 43 0 6 0x1002 is pos 0)
     ∷ (gives 43 0 6 0x1000 is pos 14)
+    -- class 2, 23: both ends of its range are done, and one step past each gives 13; the ends of 26 and of 18 are the same
+    ∷ (laid64 23 0x00000097 0x407FFFF7FF 0x4000000000 is pos 0x7FFFF097)
+    ∷ (gives64 23 0x00000097 0x407FFFF7FF 0x4000000000 is pos 0)
+    ∷ (gives64 23 0x00000097 0x407FFFF800 0x4000000000 is pos 13)
+    ∷ (laid64 23 0x00000097 0x3F7FFFF800 0x4000000000 is pos 0x80000097)
+    ∷ (gives64 23 0x00000097 0x3F7FFFF800 0x4000000000 is pos 0)
+    ∷ (gives64 23 0x00000097 0x3F7FFFF7FF 0x4000000000 is pos 13)
+    ∷ (gives64 26 0x00000537 0x7FFFF7FF 0 is pos 0)
+    ∷ (gives64 26 0x00000537 0x7FFFF800 0 is pos 13)
+    ∷ (laid64 26 0x00000537 0xFFFFFFFF7FFFF800 0 is pos 0x80000537)
+    ∷ (gives64 26 0x00000537 0xFFFFFFFF7FFFF7FF 0 is pos 13)
+    ∷ (gives64 18 0x000080E700000097 0x407FFFF7FE 0x4000000000 is pos 0)
+    ∷ (gives64 18 0x000080E700000097 0x407FFFF7FF 0x4000000000 is pos 13)
+    ∷ (gives64 18 0x000080E700000097 0x407FFFF800 0x4000000000 is pos 13)
+    -- type 2 with T above 2^63; class 1 has no type 2, and type numbers are not cut to eight bits
+    ∷ (laid64 2 0 0x8000000000001234 0 is pos 0x8000000000001234)
+    ∷ (gives 2 0 0x1234 0 is pos 9)
+    ∷ (gives64 258 0 0x1234 0 is pos 9)
+    -- opcode 0x1B as _I; in class 1 it gives 11
+    ∷ (laid64 27 0x0005051B 0x12345FFF 0 is pos 0xFFF5051B)
+    ∷ (gives 27 0x0005051B 0x12345FFF 0 is pos 11)
+    -- RVC_JUMP with funct3 1, which is C.JAL, is done in class 1 and gives 11 in class 2
+    ∷ (gives 45 0x2001 0xFFE 0x1000 is pos 0)
+    ∷ (gives64 45 0x2001 0xFFE 0x1000 is pos 11)
+    -- the low 32 bits of T and of T - P
+    ∷ (laid64 1 0 0x123456789A 0 is pos 0x3456789A)
+    ∷ (laid64 57 0 0x1000 0x1004 is pos 0xFFFFFFFC)
     ∷ []
 
 pub right : map (λ n. n .given) numbers ≡ map (λ n. n .said) numbers
-unfolding numbers object words bytes le leAt part first sum ceilPower ceilLog residue signed within even minus read put high low hasForm reaches decision table lookup among classOf readSection sectionAt allocated isAllocated countingRela relocationsIn bytesOf readSymbol readRelocation relocationAt locationOf siteAt neverFalls staysInside previous noOverlap shapeWell symbolValue symbolWell standsWell formWell pairWell finding firstBroken findingOf patched sumAt applied after relaOf relocated
+unfolding numbers object object64 words doubles bytes le leAt part first sum ceilPower ceilLog residue signed within even minus read put high low hasForm reaches decision table lookup among classOf readSection sectionAt allocated isAllocated countingRela relocationsIn bytesOf readSymbol readRelocation relocationAt locationOf siteAt neverFalls staysInside previous noOverlap shapeWell symbolValue symbolWell standsWell formWell pairWell finding firstBroken findingOf patched sumAt applied after relaOf relocated
 right = refl

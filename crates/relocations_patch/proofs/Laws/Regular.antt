@@ -44,7 +44,94 @@ RegularOf Refused = Unit {0}
 regular-each : (k : Class) (t : ℕ) → RegularOf (decision k t)
 unfolding table
 regular-each =
-    each-decided RegularOf ((refl, refl), (tt, (tt, ((refl, refl), ((refl, refl), ((by PcRelative, refl), ((by PcRelative, refl), ((by PcRelative, refl), ((by PcRelative, refl), ((refl, refl), ((by PcRelative, refl, refl), ((by Absolute, refl, refl), ((by Absolute, refl), ((by Absolute, refl), ((by Paired, refl), ((by Paired, refl), ((refl, refl), ((refl, refl), ((refl, refl), ((refl, refl), ((refl, refl), ((refl, refl), ((refl, refl), ((refl, refl), ((refl, refl), ((refl, refl), ((refl, refl), ((refl, refl), ((refl, refl), tt)))))))))))))))))))))))))))))
+    each-decided RegularOf (
+      (refl, refl),
+      (
+        tt,
+        (
+          tt,
+          (
+            (refl, refl),
+            (
+              (refl, refl),
+              (
+                (by PcRelative, refl),
+                (
+                  (by PcRelative, refl),
+                  (
+                    (by PcRelative, refl),
+                    (
+                      (by PcRelative, refl),
+                      (
+                        (refl, refl),
+                        (
+                          (by PcRelative, refl, refl),
+                          (
+                            (by Absolute, refl, refl),
+                            (
+                              (by Absolute, refl),
+                              (
+                                (by Absolute, refl),
+                                (
+                                  (by Paired, refl),
+                                  (
+                                    (by Paired, refl),
+                                    (
+                                      (refl, refl),
+                                      (
+                                        (refl, refl),
+                                        (
+                                          (refl, refl),
+                                          (
+                                            (refl, refl),
+                                            (
+                                              (refl, refl),
+                                              (
+                                                (refl, refl),
+                                                (
+                                                  (refl, refl),
+                                                  (
+                                                    (refl, refl),
+                                                    (
+                                                      (refl, refl),
+                                                      (
+                                                        (refl, refl),
+                                                        (
+                                                          (refl, refl),
+                                                          (
+                                                            (refl, refl),
+                                                            (
+                                                              (refl, refl),
+                                                              tt,
+                                                            ),
+                                                          ),
+                                                        ),
+                                                      ),
+                                                    ),
+                                                  ),
+                                                ),
+                                              ),
+                                            ),
+                                          ),
+                                        ),
+                                      ),
+                                    ),
+                                  ),
+                                ),
+                              ),
+                            ),
+                          ),
+                        ),
+                      ),
+                    ),
+                  ),
+                ),
+              ),
+            ),
+          ),
+        ),
+      ),
+    )
   where
     by : {part : Part} (o : Operand) → OfPart part (Of part o)
     by o = record { operand = o; is = refl }

@@ -16,7 +16,7 @@ passed-requires c κs =
     let a = s .args in
     let done = sym (d .is-done .ensures) ∙ t .if1 .taken in
     let ready = j .judge .ensures .ready done in
-    let f = done-fits (a .object .now) (a .order .now) (a .len) _ (sym (j .judge .ensures .verdict-is) ∙ verdict-done (a .object .now) (a .order .now) (j .judge .result .answer) done) (s .pre) in
+    let f = done-fits (a .object .now) (a .order .now) (a .len) _ (sym (j .judge .ensures .verdict-is) ∙ verdict-done (a .object .now) (a .order .now) (j .judge .result .answer) done) (s .pre .1) in
     let same = sym (ready .addresses-are) in
     record { sound = is-sound (a .object .now) (a .order .now) _ _ f; placed = rw same at (is-placed (a .object .now) (a .order .now) _ _ f); passed = rw same at (f .relocations); worked = ready .worked }
 
