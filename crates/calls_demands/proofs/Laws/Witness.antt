@@ -30,6 +30,7 @@ use Rattle.relocations_types.specs.declared.Part.the-variants.{Low}
 use Rattle.relocations_types.specs.declared.Calculation.the-variants.{Of}
 use Rattle.relocations_types.specs.declared.Role.the-variants.{Plain}
 use Rattle.relocations_types.specs.declared.Rule.{Rule}
+use Rattle.relocations_types.specs.declared.Decision.the-variants.{Store}
 use Rattle.relocations_types.specs.Types.{table, among, lookup, decision}
 use Rattle.elf_read.specs.Headers.{classOf, addressWidth, sectionCount}
 use Rattle.elf_read.specs.Sections.{readSection, sectionAt, allocated, loaded, symbolTable, countingRel, countingRela, relocationsIn, isAllocated}
@@ -52,13 +53,13 @@ use Rattle.journal_history.specs.Histories.{Standing, History, begin, spans, la
 use Rattle.placing_match.specs.Externals.{isUndefined}
 use Rattle.placing_check.specs.Placing.{endOf, unit, aligned, endsInMemory, hasBytes, inWindow, share, apart, misplaced}
 use Rattle.placing_symbols.specs.Values.{ofSection, symbolValue}
-use Rattle.relocations_rela.specs.Sites.{siteAt}
+use Rattle.relocations_rela.specs.Sites.{siteAt, decisionAt}
 use Rattle.relocations_rela.specs.Shape.{neverFalls, staysInside, previous, sharesPlace, noOverlap, shapeWell}
 use Rattle.relocations_values.specs.declared.pairs.Pair.{Pair}
 use Rattle.relocations_values.specs.declared.pairs.Pair.the-variants.{At, NotOne}
 use Rattle.relocations_values.specs.Pairs.{isPair, howMany, pairOf}
 use Rattle.relocations_rules.specs.declared.RelocationCheck.the-variants.{Passed}
-use Rattle.relocations_rules.specs.Rules.{inTarget, symbolWell, standsWell, formWell, pairWell}
+use Rattle.relocations_rules.specs.Rules.{symbol, inTarget, symbolWell, standsWell, formWell, pairWell}
 use Rattle.relocations_rules.specs.Search.{firstBroken, finding, findingOf, relocationCheck}
 use Rattle.relocations_rules.proofs.Laws.Search.{passed-kept, kept-rules, Rules as Tests}
 use Rattle.relocations_bytes.specs.Patches.{patched}
@@ -67,7 +68,7 @@ use Rattle.relocations_bytes.specs.Promises.{stackAt, ReadsBack, AddUp}
 use Rattle.placing_span.specs.Pieces.{pieces}
 use Rattle.calls_judgement.specs.Judgement.{planOf, judgement}
 use Rattle.calls_demands.specs.Rules.{Rules, WindowWell, HeaderWell, TableWell, PlacedAsAllocated, ValuedIfUndefined, PlacedIfAllocated, site, entryOf, valueOf}
-use Rattle.calls_demands.specs.Laid.{Covers, IsSpan, siteOf, bytesAt, Laid}
+use Rattle.calls_demands.specs.Laid.{Covers, IsSpan, siteOf, IsRelocation, bytesAt, Laid}
 use Rattle.calls_demands.specs.Demands.{Promised}
 use Rattle.calls_demands.specs.Ours.{ourInstall, ourRollback}
 use Rattle.calls_demands.proofs.Laws.Rules.{order-well, window-well, header-well, table-well, valued, placed-well}
@@ -347,23 +348,29 @@ pub record Says (code value : List ℕ) (apart near total : ℕ) : Type 0 where
   -- the data's word is what the object has there, plus the data's start, minus the code's start
   pub stack : read (layout (Data W32)) (leAt 4 value 0) ≡ total
 
--- the number of the pair
-abbrev place : Pair → ℕ
-place (At k) = k
-place NotOne = 0
+-- the two halves of a pair add up, where it is known which relocation is the pair
+pub halves-add : (object order before after : List ℕ) → Laid object order before after → (i j k : ℕ) → IsRelocation object order i j
+    → (b : Rule) → decisionAt object (siteOf object order i) j ≡ Store b → b .calculation ≡ Of Low Paired
+    → pairOf object (siteOf object order i) (symbol object (siteOf object order i) j .value) ≡ At k
+    → AddUp (addressWidth object) U (bytesAt object order after i k 4) (b .field) (bytesAt object order after i j (b .size)) (distanceAt object order (addressesFor object order) (siteOf object order i) k)
+halves-add object order before after l i j k is b d c pair =
+    let halves = l .distances-whole i j is b d c in
+    subst (λ n. AddUp (addressWidth object) U (bytesAt object order after i n 4) (b .field) (bytesAt object order after i j (b .size)) (distanceAt object order (addressesFor object order) (siteOf object order i) n)) (ap place (sym (halves .2) ∙ pair)) (halves .3)
+  where
+    place : Pair → ℕ
+    place (At n) = n
+    place NotOne = 0
 
 -- what the table says about the type of its PCREL_LO12
-abbrev low-half : Rule
+abbrev pub low-half : Rule
 low-half = record { calculation = Of Low Paired; field = I; form = LowI; size = 4; role = Plain }
 
 -- demand 2 says so of each of the two, over any image
 says₁ : (before after : List ℕ) → Laid object order₁ before after → Says (part after 0 20) (part after 24 4) 0x12345FF8 0x2800 0x118
 unfolding object orderWith words bytes le leAt classOf sum relocationsIn countingRela readSection sectionAt allocated isAllocated siteAt readRelocation relocationAt symbolTable symbolCount readSymbol symbolAt ofSection decision table lookup among addresses tabulate placedAt valueIn externalValue entryAt first symbolValue bytesOf part residue signed plus minus isPair howMany pairOf distanceAt sumAt stackAt ReadsBack high low read
 says₁ before after l =
-    let halves = l .distances-whole 4 1 (record { there = omega arith; counts = refl; entry = omega arith }) low-half refl refl in
-    let first : halves .0 ≡ 0 = sym (ap place (halves .2)) in
     record {
-      pair = subst (λ k. AddUp 32 U (bytesAt object order₁ after 4 k 4) I (bytesAt object order₁ after 4 1 4) (distanceAt object order₁ (addressesFor object order₁) (siteOf object order₁ 4) k)) first (halves .3);
+      pair = halves-add object order₁ before after l 4 1 0 (record { there = omega arith; counts = refl; entry = omega arith }) low-half refl refl refl;
       call = l .fields 4 2 (record { there = omega arith; counts = refl; entry = omega arith }) .0;
       branch = l .fields 4 3 (record { there = omega arith; counts = refl; entry = omega arith }) .0;
       stack = l .fields 5 1 (record { there = omega arith; counts = refl; entry = omega arith }) .0;
@@ -372,10 +379,8 @@ says₁ before after l =
 says₂ : (before after : List ℕ) → Laid object order₂ before after → Says (part after 32 20) (part after 24 4) 0x12345FD8 0x27E0 0xF8
 unfolding object orderWith words bytes le leAt classOf sum relocationsIn countingRela readSection sectionAt allocated isAllocated siteAt readRelocation relocationAt symbolTable symbolCount readSymbol symbolAt ofSection decision table lookup among addresses tabulate placedAt valueIn externalValue entryAt first symbolValue bytesOf part residue signed plus minus isPair howMany pairOf distanceAt sumAt stackAt ReadsBack high low read
 says₂ before after l =
-    let halves = l .distances-whole 4 1 (record { there = omega arith; counts = refl; entry = omega arith }) low-half refl refl in
-    let first : halves .0 ≡ 0 = sym (ap place (halves .2)) in
     record {
-      pair = subst (λ k. AddUp 32 U (bytesAt object order₂ after 4 k 4) I (bytesAt object order₂ after 4 1 4) (distanceAt object order₂ (addressesFor object order₂) (siteOf object order₂ 4) k)) first (halves .3);
+      pair = halves-add object order₂ before after l 4 1 0 (record { there = omega arith; counts = refl; entry = omega arith }) low-half refl refl refl;
       call = l .fields 4 2 (record { there = omega arith; counts = refl; entry = omega arith }) .0;
       branch = l .fields 4 3 (record { there = omega arith; counts = refl; entry = omega arith }) .0;
       stack = l .fields 5 1 (record { there = omega arith; counts = refl; entry = omega arith }) .0;
