@@ -9,6 +9,7 @@ ghost use Rattle.order_format.specs.Orders.{reading, placement, placementCount}
 ghost use Rattle.order_lookup.specs.Addresses.{placedAt};
 ghost use Rattle.placing_match.specs.Placements.{placementCheck};
 ghost use Rattle.order_lookup.specs.Values.{isGiven};
+ghost use Rattle.placing_symbols.specs.Requires.{SymbolsOf};
 ghost use Rattle.placing_match.specs.Externals.{isUndefined, externalCheck};
 use elf_read::SHN_UNDEF;
 use elf_read::class_of;
@@ -16,6 +17,8 @@ use numbers_definitions::Class;
 use order_format::OrderHeader;
 use order_format::Reading;
 use order_lookup::Value;
+use placing_symbols::Symbols;
+use placing_symbols::symbols_of;
 
 // The lowest section or symbol that breaks a rule, if one does.
 pub enum Fault {
@@ -97,15 +100,15 @@ pub fn check_placements(object: &[u8], order: &[u8], counts: OrderHeader) -> Fau
 }
 
 // Whether a number names an undefined symbol.
-fn is_undefined(object: &[u8], k: u32) -> bool
-    requires { ⌜ SoundObject (now object) ⌝ }
+fn is_undefined(object: &[u8], symbols: Symbols, k: u32) -> bool
+    requires { ⌜ SoundObject (now object) × SymbolsOf (now object) symbols ⌝ }
     ensures { λ r. ⌜ r ≡ isUndefined (now (object .entry)) k ⌝ }
 {
     let at = k as usize;
-    if elf_read::symbol_count(object) <= at {
+    if symbols.count <= at {
         return false;
     }
-    let table = elf_read::read_section(object, elf_read::symbol_table(object));
+    let table = symbols.table;
     let symbol = elf_read::read_symbol(object, table, at);
     (0 < k) & (symbol.section == SHN_UNDEF)
 }
@@ -116,12 +119,13 @@ pub fn check_externals(object: &[u8], order: &[u8], counts: OrderHeader) -> Faul
     ensures { λ r. ⌜ r ≡ externalCheck (now (object .entry)) (now (order .entry)) ⌝ }
 {
     let class = class_of(object);
+    let symbols = symbols_of(object);
     let start = order_format::externals_start(class, counts.placements);
     let n = counts.externals;
     let mut j: usize = 0;
     while j < n {
         let e = order_format::read_entry(class, order, start, j);
-        if !is_undefined(object, e.index) {
+        if !is_undefined(object, symbols, e.index) {
             return Fault::At(e.index);
         }
         j += 1;

@@ -26,12 +26,11 @@ fn well_formed(class: Class, s: &[u8], counts: OrderHeader)
     tests_harness::then(counts.base.0);
     tests_harness::then(counts.placements as u64);
     tests_harness::then(counts.externals as u64);
-    lists(class, s, counts);
-    lookups(class, s, counts);
+    digests(class, s, counts);
 }
 
-// Both lists, and the array.
-fn lists(class: Class, s: &[u8], counts: OrderHeader)
+// Both lists; the array; and the values of numbers that are in the lists and of numbers that are not.
+fn digests(class: Class, s: &[u8], counts: OrderHeader)
     requires { ⌜ reading class (now s) ≡ Reading.WellFormed counts ⌝ }
 {
     let first = order_format::placements_start(class);
@@ -40,14 +39,6 @@ fn lists(class: Class, s: &[u8], counts: OrderHeader)
     tests_harness::then(entries(class, s, start, counts.externals));
     let array = order_lookup::fill_addresses(class, [0u64; 32], s, counts);
     tests_harness::then(addresses(array));
-}
-
-// The values of numbers that are in the lists and of numbers that are not.
-fn lookups(class: Class, s: &[u8], counts: OrderHeader)
-    requires { ⌜ reading class (now s) ≡ Reading.WellFormed counts ⌝ }
-{
-    let first = order_format::placements_start(class);
-    let start = order_format::externals_start(class, counts.placements);
     tests_harness::then(low_values(class, s, counts));
     tests_harness::then(near_values(class, s, counts, first, counts.placements));
     tests_harness::then(near_values(class, s, counts, start, counts.externals));

@@ -23,15 +23,18 @@ use Rattle.placing_match.proofs.check_externals.Statement.{statement}
 use Rattle.placing_match.proofs.check_externals.Tie as tie
 
 abbrev Inv-loop : tie.InvT-loop
-Inv-loop object order class start n j₀ j = (j ≤ n) × ((k : ℕ) → k < j → not (isUndefined object (entryAt class order start k .index)) ≡ false)
+Inv-loop object order class symbols start n j₀ j = (j ≤ n) × ((k : ℕ) → k < j → not (isUndefined object (entryAt class order start k .index)) ≡ false)
 
 abbrev μ-loop : tie.MeasureT-loop
-μ-loop object order class start n j₀ j = n - j
+μ-loop object order class symbols start n j₀ j = n - j
 
 -- ---- the places on the way: an inserted line moves one of them
 
+abbrev classed : tie.After-externals-start Inv-loop μ-loop → tie.After-class-of Inv-loop μ-loop
+classed c = c .before .before
+
 abbrev entered : tie.After-externals-start Inv-loop μ-loop → tie.Start Inv-loop μ-loop
-entered c = c .before .before .before .before
+entered c = classed c .before .before .before
 
 abbrev at-start : tie.At-loop Inv-loop μ-loop → tie.After-externals-start Inv-loop μ-loop
 at-start c = c .before
@@ -51,7 +54,7 @@ abbrev order : tie.After-externals-start Inv-loop μ-loop → List ℕ
 order c = entered c .args .order .now
 
 abbrev class : tie.After-externals-start Inv-loop μ-loop → Class
-class c = c .before .class-of .result
+class c = classed c .class-of .result
 
 abbrev start : tie.After-externals-start Inv-loop μ-loop → ℕ
 start c = c .externals-start .result
@@ -61,7 +64,7 @@ number c = entered c .args .counts .externals
 
 reads : (c : tie.After-externals-start Inv-loop μ-loop) → Sound (class c) (order c) (entered c .args .counts)
 reads c =
-    subst (λ k. Sound k (order c) (entered c .args .counts)) (sym (c .before .class-of .ensures))
+    subst (λ k. Sound k (order c) (entered c .args .counts)) (sym (classed c .class-of .ensures))
     (reading-sound (classOf (object c)) (order c) (entered c .args .counts) (entered c .pre .1))
 
 up : (c : tie.After-externals-start Inv-loop μ-loop) → ascending (λ i. entryAt (class c) (order c) (start c) i .index) (number c) ≡ true
@@ -75,7 +78,7 @@ same c =
     ap (λ at. lowest (λ x. isGiven (valueIn (class c) (order c) at (number c) x) && not (isUndefined (object c) x)) (2 ^ 32)) (c .externals-start .ensures)
     ∙ ap (λ (k : OrderHeader). lowest (λ x. isGiven (valueIn (class c) (order c) (externalsAt (class c) (k .placements)) (k .externals) x) && not (isUndefined (object c) x)) (2 ^ 32))
     (sound-counts (class c) (order c) (entered c .args .counts) (reads c))
-    ∙ ap (λ (k : Class). lowest (λ x. isGiven (externalValue k (order c) x) && not (isUndefined (object c) x)) (2 ^ 32)) (c .before .class-of .ensures)
+    ∙ ap (λ (k : Class). lowest (λ x. isGiven (externalValue k (order c) x) && not (isUndefined (object c) x)) (2 ^ 32)) (classed c .class-of .ensures)
 
 -- what is known of the entry that was read
 
@@ -96,6 +99,14 @@ externals-start-requires c κs =
 class-of-requires : tie.Need-class-of-requires Inv-loop μ-loop
 class-of-requires c κs = let a : tie.Start Inv-loop μ-loop = search in header-there (a .args .object .now) (a .pre .0 .table .header)
 
+symbols-of-requires : tie.Need-symbols-of-requires Inv-loop μ-loop
+symbols-of-requires c κs = let a : tie.Start Inv-loop μ-loop = search in a .pre .0
+
+is-undefined-requires : tie.Need-is-undefined-requires Inv-loop μ-loop
+is-undefined-requires c κs =
+    let b = at-start (turn c) in
+    (entered b .pre .0, b .before .symbols-of .ensures)
+
 loop-holds : tie.Need-loop-holds Inv-loop μ-loop
 loop-holds c = (omega arith, λ k h. absurd (omega arith))
 
@@ -115,6 +126,9 @@ returns c =
     (ap not (sym (tested (c .before))) ∙ c .if1 .taken))
     ∙ same b
 
+add-j : tie.Need-add-j Inv-loop μ-loop
+add-j c = record { fits = omega (arith, at-entry (c .before) .before .loop-test .taken, reads (at-start (turn (at-entry (c .before)))) .some) }
+
 loop-again : tie.Need-loop-again Inv-loop μ-loop
 loop-again c =
     (search needs, below-more _ _ (turn (at-entry (c .before)) .loop .inv .1) (ap not (sym (tested (c .before))) ∙ c .if1 .left))
@@ -132,12 +146,13 @@ check-externals-spec =
     Inv-loop
     μ-loop
     class-of-requires
+    symbols-of-requires
     externals-start-requires
     loop-holds
     read-entry-requires
-    (λ c κs. search needs)
+    is-undefined-requires
     returns
-    (λ c. search needs)
+    add-j
     (λ c. search needs)
     loop-again
     returns-2)

@@ -5,50 +5,46 @@ use borrow.Author.Tests.{lt-ltb, le-ltb}
 use Rattle.numbers_definitions.proofs.Laws.Tests.{and-true, and-false}
 use Rattle.elf_read.specs.Sections.{sectionAt, symbolTable}
 use Rattle.elf_read.specs.Entries.{symbolAt, symbolCount}
-use Rattle.elf_check.proofs.Laws.Bounds.{some-symbol, symbol-inside}
+use Rattle.elf_check.proofs.Laws.Bounds.{symbol-inside}
 use native.Mathlib.Omega.{arith}
 use Rattle.placing_match.specs.Externals.{isUndefined}
 use borrow.Author.Needs.{needs}
 use Rattle.placing_match.proofs.is_undefined.Statement.{statement}
 use Rattle.placing_match.proofs.is_undefined.Tie as tie
 
+abbrev entered : tie.Else1 → tie.Start
+entered c = c .before .before .before
+
+-- the number is one of the table
+in-table : (c : tie.Else1) → let a = entered c .args in a .k < symbolCount (a .object .now)
+in-table c = let start : tie.Start = search in omega (arith, start .pre .1 .count)
+
+table-is : (c : tie.Else1) → let a = entered c .args in a .symbols .table ≡ sectionAt (a .object .now) (symbolTable (a .object .now))
+table-is c = let start : tie.Start = search in start .pre .1 .table (omega arith)
+
 returns : tie.Need-returns
 unfolding isUndefined
 returns c =
-    let a = c .before .before .before .args in
-    let out : symbolCount (a .object .now) ≤ a .k = omega arith in
+    let start : tie.Start = search in
+    let out : symbolCount (start .args .object .now) ≤ start .args .k = omega (arith, start .pre .1 .count) in
     simp (le-ltb _ _ out, and-false)
-
-read-section-requires : tie.Need-read-section-requires
-read-section-requires c κs =
-    let s = c .before .before .before .before .args .object .now in
-    let t = c .before .before .before .before .pre .table in
-    let there = some-symbol s (c .before .before .before .before .pre) (c .before .before .before .before .args .k) (omega arith) in
-    (t, omega (arith, there .0))
 
 read-symbol-requires : tie.Need-read-symbol-requires
 read-symbol-requires c κs =
-    let s = c .before .before .before .before .before .args .object .now in
-    let table : c .read-section .result ≡ sectionAt s (symbolTable s) = c .read-section .ensures ∙ ap (sectionAt s) (c .before .symbol-table .ensures) in
-    rw table (symbol-inside s (c .before .before .before .before .before .pre) (c .before .before .before .before .before .args .k) (omega arith))
+    let start : tie.Start = search in
+    let there : tie.Else1 = search in
+    rw (table-is there) (symbol-inside (start .args .object .now) (start .pre .0) (start .args .k) (in-table there))
 
 returns-2 : tie.Need-returns-2
 unfolding isUndefined
 returns-2 c =
-    let s = c .before .before .before .before .before .before .before .args .object .now in
-    let k = c .before .before .before .before .before .before .before .args .k in
-    let table : c .before .before .read-section .result ≡ sectionAt s (symbolTable s) = c .before .before .read-section .ensures ∙ ap (sectionAt s) (c .before .before .before .symbol-table .ensures) in
-    let there : k < symbolCount s = omega arith in
-    let symbol : c .before .read-symbol .result ≡ symbolAt s (sectionAt s (symbolTable s)) k = c .before .read-symbol .ensures ∙ ap (λ h. symbolAt s h k) table in
-    simp (lt-ltb _ _ there, and-true) (rw symbol)
+    let read : tie.After-read-symbol = search in
+    let there : tie.Else1 = search in
+    let start : tie.Start = search in
+    let s = start .args .object .now in
+    let k = start .args .k in
+    let symbol : read .read-symbol .result ≡ symbolAt s (sectionAt s (symbolTable s)) k = read .read-symbol .ensures ∙ ap (λ h. symbolAt s h k) (table-is there) in
+    simp (lt-ltb _ _ (in-table there), and-true) (rw symbol)
 
 pub is-undefined-spec : {M : Type 1} → statement M
-is-undefined-spec =
-    tie.close
-    (tie.spec
-    (λ c κs. search needs)
-    returns
-    (λ c κs. search needs)
-    read-section-requires
-    read-symbol-requires
-    returns-2)
+is-undefined-spec = tie.close (tie.spec returns read-symbol-requires returns-2)

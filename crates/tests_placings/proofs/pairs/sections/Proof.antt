@@ -26,8 +26,7 @@ placements-requires c κs =
     let asked : tie.After-window-allowed = search in
     let classed : tie.After-class-of = search in
     let at : tie.Start = search in
-    let allowed : windowAllowed (bits (classed .class-of .result)) (at .args .counts .base .0) (at .args .len) ≡ true = sym (asked .window-allowed .ensures) ∙ not-false _ (passed .if1 .left) in
-    (
+    let allowed : windowAllowed (bits (classed .class-of .result)) (at .args .counts .base .0) (at .args .len) ≡ true = sym (asked .window-allowed .ensures) ∙ not-false _ (passed .if1 .left) in (
       sound-object _ (at .pre .0) (sym (checked .check-sections .ensures) ∙ c .enum-told .given .1),
       at .pre .1,
       leb-true _ _ (and-left (lengthAllowed (at .args .len)) _ allowed),
