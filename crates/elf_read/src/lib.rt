@@ -391,11 +391,10 @@ fn relocation_32(object: &[u8], at: usize) -> Relocation
     requires { ⌜ at + relocationSize Class.Elf32 ≤ length (now object) ⌝ }
     ensures { λ r. ⌜ r ≡ readRelocation Class.Elf32 (now (object .entry)) at ⌝ }
 {
-    let info = numbers_bytes::read32(object, at + 4);
     Relocation {
         offset: SectionOffset(numbers_bytes::read32(object, at) as u64),
-        kind: info % 256,
-        symbol: info / 256,
+        kind: numbers_bytes::read8(object, at + 4) as u32,
+        symbol: numbers_bytes::read32(object, at + 4) / 256,
         addend: numbers_arithmetic::addend(numbers_bytes::read32(object, at + 8)),
     }
 }

@@ -1,7 +1,7 @@
 // Sums and differences that wrap at a width, signed words, and powers of two.
 ghost use mathlib.Core.Path.{_≡_};
 ghost use mathlib.Core.Bool.{_&&_};
-ghost use Prim.Native.Nat.{_+_, _%_, _^_, _<_};
+ghost use Prim.Native.Nat.{_+_, _-_, _%_, _^_, _<_};
 ghost use lib.Dec.{leb, ltb};
 ghost use Rattle.numbers_definitions.specs.Classes.{bits};
 ghost use Rattle.numbers_definitions.specs.Whole.{residue, signed, plus, minus};
@@ -62,9 +62,16 @@ pub fn sub64(v: u64, x: u64) -> u64
 pub fn reduce(class: Class, x: u64) -> u64
     ensures { λ r. ⌜ r ≡ x % 2 ^ bits class ⌝ }
 {
+    x & last_address(class)
+}
+
+// The last address, whose bits are all ones.
+fn last_address(class: Class) -> u64
+    ensures { λ r. ⌜ r ≡ 2 ^ bits class - 1 ⌝ }
+{
     match class {
-        Class::Elf32 => x % 0x1_0000_0000,
-        Class::Elf64 => x,
+        Class::Elf32 => 0xffff_ffff,
+        Class::Elf64 => 0xffff_ffff_ffff_ffff,
     }
 }
 

@@ -40,7 +40,6 @@ use relocations_values::highs::list_highs;
 use relocations_values::pairs::Pair;
 use relocations_values::pairs::pair_at;
 use relocations_values::place_of;
-use relocations_values::target_of;
 
 // What is found out about a relocation that keeps check 9: the number of the first of checks 10 to 14 that it breaks, or 0; the
 // bytes that it leaves, as one number; and what is known of the site's high halves.
@@ -114,7 +113,7 @@ fn found_bytes(object: &[u8], site: Site, rule: Rule, here: Relocation, j: usize
     read_bytes(bytes, here.offset.0 as usize, rule.size as usize)
 }
 
-// T - P of relocation k.
+// T - P of relocation k. S + A is not reduced first: the difference is.
 fn distance_at(object: &[u8], site: Site, values: &[u64], states: &[u8], k: usize) -> u64
     requires { ⌜ There (now object) site k × ValueArrays (now values) (now states) ⌝ }
     ensures { λ r. ⌜ r ≡ distanceBy (listed (now (values .entry)) (now (states .entry))) (now (object .entry)) site k ⌝ }
@@ -122,9 +121,9 @@ fn distance_at(object: &[u8], site: Site, values: &[u64], states: &[u8], k: usiz
     let class = class_of(object);
     let high = elf_read::read_relocation(object, site.rela, k);
     let value = value_at(values, states, high.symbol);
-    let t = target_of(class, value, high.addend);
-    let p = place_of(class, site, high);
-    difference(class, t.0, p.0)
+    let x = symbol_sum(value, high.addend);
+    let p = place_of(site, high);
+    difference(class, x, p.0)
 }
 
 // Lists the high halves of a site, unless they are listed already. The result is one more than their number.
@@ -291,9 +290,8 @@ fn check_resolved(
         form,
         found,
         present(shares, last, found),
-        target_of(class, value, here.addend),
         symbol_sum(value, here.addend),
-        place_of(class, site, here),
+        place_of(site, here),
         high.distance,
     );
     Outcome {

@@ -8,6 +8,7 @@ ghost use Rattle.numbers_definitions.specs.declared.Class.{Class};
 ghost use Rattle.numbers_definitions.specs.Classes.{bits};
 ghost use Rattle.numbers_definitions.specs.Whole.{residue, signed};
 ghost use Rattle.instructions_riscv.specs.Forms.{hasForm};
+ghost use Rattle.instructions_riscv.specs.Ranges.{distance, rangeOf, reaches};
 ghost use Rattle.relocations_values.specs.Values.{S};
 ghost use Rattle.relocations_rules.specs.Rules.{standsWell, reachesWell};
 ghost use Rattle.relocations_bytes.specs.Patches.{highPart, lowPart, operandOf, patched};
@@ -61,13 +62,13 @@ fn low_part(x: u64) -> u64
     lo12(x)
 }
 
-// The operand. t is T, p is P, and d is the paired high half's T - P.
-fn operand_of(class: Class, operand: Operand, t: Address, p: Address, d: u64) -> u64
-    ensures { λ r. ⌜ r ≡ operandOf (bits class) operand (t .0) (p .0) d ⌝ }
+// The operand. x is S + A in two's complement, p is P, and d is the paired high half's T - P. T is x, reduced; T - P is reduced once.
+fn operand_of(class: Class, operand: Operand, x: u64, p: Address, d: u64) -> u64
+    ensures { λ r. ⌜ r ≡ operandOf (bits class) operand (residue (bits class) (signed 64 x)) (p .0) d ⌝ }
 {
     match operand {
-        Operand::Absolute => t.0,
-        Operand::PcRelative => difference(class, t.0, p.0),
+        Operand::Absolute => reduce(class, x),
+        Operand::PcRelative => difference(class, x, p.0),
         Operand::Paired => d,
     }
 }
@@ -77,9 +78,7 @@ fn operand_value(class: Class, calculation: Calculation, x: u64, p: Address, d: 
     ensures { λ r. ⌜ r ≡ operandBy (bits class) calculation (residue (bits class) (signed 64 x)) (p .0) d ⌝ }
 {
     match calculation {
-        Calculation::Of(_, operand) => {
-            operand_of(class, operand, Address(reduce(class, x)), p, d)
-        }
+        Calculation::Of(_, operand) => operand_of(class, operand, x, p, d),
         Calculation::Add => 0,
         Calculation::Sub => 0,
         Calculation::Set => 0,
@@ -126,9 +125,16 @@ pub struct Applied {
     pub word: u64,
 }
 
-// A rule at a place. `found` is the touched bytes as the object has them, and w as the relocation finds them; t is T, x is S + A
-// in two's complement, p is P, and d is the paired high half's T - P. One match on the field decides everything: what goes into
-// the field and which form is asked for are then known.
+// Whether the distance from p to T is in the range of a field, where x is S + A in two's complement.
+fn jump_reaches(class: Class, field: Field, x: u64, p: Address) -> bool
+    ensures { λ r. ⌜ r ≡ reaches (rangeOf field) (distance (residue (bits class) (signed 64 x)) (p .0)) ⌝ }
+{
+    in_reach(range_of(field), Address(reduce(class, x)), p)
+}
+
+// A rule at a place. `found` is the touched bytes as the object has them, and w as the relocation finds them; x is S + A in two's
+// complement, p is P, and d is the paired high half's T - P. One match on the field decides everything: what goes into the field
+// and which form is asked for are then known.
 pub fn apply_rule(
     class: Class,
     calculation: Calculation,
@@ -136,13 +142,12 @@ pub fn apply_rule(
     form: Form,
     found: u64,
     w: u64,
-    t: Address,
     x: u64,
     p: Address,
     d: u64,
 ) -> Applied
-    requires { ⌜ Regular calculation field form × (t .0 ≡ residue (bits class) (signed 64 x)) ⌝ }
-    ensures { λ r. ⌜ (r .stands ≡ standsWell class form (p .0) found) × (r .reaches ≡ reachesWell class calculation field (t .0) (p .0)) × (r .word ≡ patched (bits class) calculation field w (signed 64 x) (p .0) d) ⌝ }
+    requires { ⌜ Regular calculation field form ⌝ }
+    ensures { λ r. ⌜ (r .stands ≡ standsWell class form (p .0) found) × (r .reaches ≡ reachesWell class calculation field (residue (bits class) (signed 64 x)) (p .0)) × (r .word ≡ patched (bits class) calculation field w (signed 64 x) (p .0) d) ⌝ }
 {
     let even = p.0 % 2 == 0;
     let next = found / 0x1_0000_0000;
@@ -165,22 +170,22 @@ pub fn apply_rule(
         },
         Field::B => Applied {
             stands: even & has_form(class, Form::Branch, found, next),
-            reaches: in_reach(range_of(Field::B), t, p),
+            reaches: jump_reaches(class, Field::B, x, p),
             word: put_b(w, v),
         },
         Field::J => Applied {
             stands: even & has_form(class, Form::Jal, found, next),
-            reaches: in_reach(range_of(Field::J), t, p),
+            reaches: jump_reaches(class, Field::J, x, p),
             word: put_j(w, v),
         },
         Field::Cb => Applied {
             stands: even & has_form(class, Form::CBranch, found, next),
-            reaches: in_reach(range_of(Field::Cb), t, p),
+            reaches: jump_reaches(class, Field::Cb, x, p),
             word: put_cb(w, v),
         },
         Field::Cj => Applied {
             stands: even & has_form(class, Form::CJump, found, next),
-            reaches: in_reach(range_of(Field::Cj), t, p),
+            reaches: jump_reaches(class, Field::Cj, x, p),
             word: put_cj(w, v),
         },
         Field::Call => Applied {

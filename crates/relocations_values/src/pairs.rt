@@ -17,7 +17,8 @@ pub enum Pair {
     NotOne,
 }
 
-// The first of the m listed high halves whose offset is not below the given one, by halving.
+// The first of the m listed high halves whose offset is not below the given one, by halving. It is `low` or one of the places
+// after it, of which there are `more` with itself.
 fn first_not_below(
     object: &[u8],
     site: Site,
@@ -29,14 +30,15 @@ fn first_not_below(
     ensures { λ r. ⌜ NotBelow (keys (now (object .entry)) site (now (highs .entry))) m (offset .0) r ⌝ }
 {
     let mut low: usize = 0;
-    let mut high: usize = m;
-    while low < high {
-        let middle = low + (high - low) / 2;
-        let here = offset_at(object, site, highs, middle);
+    let mut more: usize = m + 1;
+    while 1 < more {
+        let half = more / 2;
+        let here = offset_at(object, site, highs, low + half - 1);
         if here.0 < offset.0 {
-            low = middle + 1;
+            low += half;
+            more -= half;
         } else {
-            high = middle;
+            more = half;
         }
     }
     low

@@ -83,6 +83,14 @@ minus-unique w a b r h e =
     mod-unique (2 ^ w) r (residue w (pos a -ℤ pos b)) b h (residue-lt w (pos a -ℤ pos b))
     (e ∙ sym (residue-sub w (pos a) (pos b)) ∙ add-mod-mod (residue w (pos a -ℤ pos b)) b (2 ^ w))
 
+-- a difference is known by what its two numbers are modulo 2^w
+pub minus-mod : (w a b m n : ℕ) → a % 2 ^ w ≡ m % 2 ^ w → b % 2 ^ w ≡ n % 2 ^ w → minus w a b ≡ minus w m n
+unfolding minus residue
+minus-mod w a b m n ea eb =
+    let r : ℕ = residue w (pos a -ℤ pos b) in
+    minus-unique w m n r (residue-lt w (pos a -ℤ pos b))
+    (mod-sum (2 ^ w) r r n b refl (sym eb) ∙ sym (add-mod-mod r b (2 ^ w)) ∙ residue-sub w (pos a) (pos b) ∙ ea)
+
 -- a residue at a smaller width
 pub residue-narrow : (j k : ℕ) (z : ℤ) → residue (j + k) z % 2 ^ k ≡ residue k z
 residue-narrow j k z =

@@ -7,6 +7,7 @@ use native.Mathlib.Nat.{mod-eq-of-lt, zero-add}
 use native.Mathlib.Omega.{arith}
 use lib.Dec.{eqb}
 use lib.IntN.{ℤ, pos, _+ℤ_, _-ℤ_}
+use lib.Pow.{pow-mono}
 use lib.Seq.{sets}
 use borrow.Author.Tests.{eqb-true, lt-ltb, le-ltb}
 use Rattle.numbers_definitions.specs.Bytes.{leAt, bytes}
@@ -76,10 +77,13 @@ symbol-read object x j r h y re he ye =
     ye ∙ ap (λ h. symbolAt object h (r .symbol)) he ∙ ap (λ r. symbolAt object (sectionAt object (symbolTable object)) (r .symbol)) re
 
 -- P of a store; addition modulo 2^w gives it
-pub place-read : (object : List ℕ) (x : Site) (j : ℕ) (r : Relocation) (p : ℕ) → r ≡ entry object x j → p ≡ plus (addressWidth object) (x .address .0) (r .offset .0) → SoundSite object x
+pub place-read : (object : List ℕ) (x : Site) (j : ℕ) (r : Relocation) (p : ℕ) → r ≡ entry object x j → p ≡ plus 64 (x .address .0) (r .offset .0) → SoundSite object x
     → end object x j ≤ x .target .size → isStore (decisionAt object x j) ≡ true → p ≡ P object x j
 unfolding plus
-place-read object x j r p re pe f inside s = pe ∙ ap (λ r. plus (addressWidth object) (x .address .0) (r .offset .0)) re ∙ mod-eq-of-lt (place-below object x j f inside s)
+place-read object x j r p re pe f inside s =
+    pe
+    ∙ ap (λ r. plus 64 (x .address .0) (r .offset .0)) re
+    ∙ mod-eq-of-lt (omega (arith, place-below object x j f inside s, pow-mono (address-narrow object)))
 
 -- ---- one relocation applied
 

@@ -5,7 +5,7 @@ use mathlib.Core.List.{List}
 use Prim.Native.Nat.{ℕ, _+_, _%_, _^_, _≤_, _<_}
 use lib.IntN.{ℤ, pos, _+ℤ_, _-ℤ_}
 use lib.Dec.{ltb, eqb}
-use native.Mathlib.Nat.{zero-add}
+use native.Mathlib.Nat.{mod-eq-of-lt}
 use native.Mathlib.Omega.{arith}
 use borrow.Author.Tests.{lt-ltb}
 use Rattle.numbers_definitions.specs.declared.Class.{Class}
@@ -13,7 +13,7 @@ use Rattle.numbers_definitions.specs.declared.Class.the-variants.{Elf32, Elf64}
 use Rattle.numbers_definitions.specs.Classes.{bits}
 use Rattle.numbers_definitions.specs.Bytes.{leAt}
 use Rattle.numbers_definitions.specs.Whole.{residue, signed, plus, minus}
-use Rattle.numbers_definitions.proofs.Laws.Whole.{residue-signed, minus-residue}
+use Rattle.numbers_definitions.proofs.Laws.Whole.{residue-lt, residue-signed, minus-mod}
 use Rattle.numbers_definitions.proofs.Laws.Tests.{never}
 use Rattle.instructions_riscv.proofs.Laws.Halves.{narrowed}
 use Rattle.elf_read.specs.declared.Relocation.{Relocation}
@@ -42,7 +42,6 @@ use Rattle.relocations_values.specs.declared.pairs.Pair.{Pair}
 use Rattle.relocations_values.specs.Pairs.{pairOf}
 use Rattle.relocations_rules.specs.Rules.{isResolved, inTarget, symbol, symbolWell, formWell, isOne, pairWell, reachesWell, distanceWell, boundaryWell}
 use Rattle.relocations_rules.specs.declared.Finding.the-variants.{Kept, OffBoundary}
-use Rattle.relocations_rules.proofs.Laws.Rules.{reach-read}
 use Rattle.relocations_rules.specs.Search.{number, firstBroken, finding}
 use Rattle.relocations_bytes.specs.Sections.{sumAt, distanceAt}
 use Rattle.relocations_bytes.specs.Patches.{patched}
@@ -173,7 +172,7 @@ target-sum k t y z h te ye =
 -- ---- by what was read and worked out: y is S + A in two's complement, t is T, p is P, d is the pair's T - P
 
 module _ (v : ℕ → SymbolValue) (object : List ℕ) (x : Site) (j : ℕ) (rule : Rule) (here : Relocation) (f : Storing object x j rule here) (value : SymbolValue)
-    (value-is : value ≡ v (here .symbol)) (p : ℕ) (place : p ≡ plus (addressWidth object) (x .address .0) (here .offset .0)) where
+    (value-is : value ≡ v (here .symbol)) (p : ℕ) (place : p ≡ plus 64 (x .address .0) (here .offset .0)) where
   abbrev w : ℕ
   w = addressWidth object
 
@@ -183,11 +182,15 @@ module _ (v : ℕ → SymbolValue) (object : List ℕ) (x : Site) (j : ℕ) (rul
   pub value-read : value ≡ valueBy v object x j
   value-read = value-is ∙ ap (λ r. v (r .symbol)) (f .read)
 
+  pub at-place : p ≡ P object x j
+  at-place = place-read object x j here p (f .read) place (f .there .site) inside (ap isStore (f .decided))
+
   reach-is : (t : ℕ) → t ≡ T w (S value) (signed 64 (here .addend))
       → reachesWell (classOf object) (rule .calculation) (rule .field) t p ≡ reachesWell (classOf object) (rule .calculation) (rule .field) (targetBy v object x j) (P object x j)
   reach-is t te =
-      reach-read object x j here (Store rule) value (valueBy v object x j) t p (f .there .site) inside (f .read) (sym (f .decided) ∙ ap (λ r. decision (classOf object) (r .kind)) (sym (f .read))) value-read te place
-      ∙ ap (λ d. distanceWell (classOf object) d (targetBy v object x j) (P object x j)) (f .decided)
+      ap (λ t. reachesWell (classOf object) (rule .calculation) (rule .field) t p)
+      (te ∙ ap (λ y. T w (S y) (signed 64 (here .addend))) value-read ∙ ap (λ r. T w (S (valueBy v object x j)) (signed 64 (r .addend))) (f .read))
+      ∙ ap (reachesWell (classOf object) (rule .calculation) (rule .field) (targetBy v object x j)) at-place
 
   pub number-read : (n t : ℕ) (symbols forms pairs reaches : Bool) → n ≡ storeNumber symbols forms pairs reaches → symbols ≡ symbolWell object x j (valueBy v object x j)
       → forms ≡ formWell object x j → (symbols ≡ true → pairs ≡ pairWell object x j) → reaches ≡ reachesWell (classOf object) (rule .calculation) (rule .field) t p → t ≡ T w (S value) (signed 64 (here .addend))
@@ -208,27 +211,28 @@ module _ (v : ℕ → SymbolValue) (object : List ℕ) (x : Site) (j : ℕ) (rul
       let sum : residue 64 (pos (S value) +ℤ signed 64 (here .addend)) ≡ residue 64 z =
       ap (λ s. residue 64 (pos (S s) +ℤ signed 64 (here .addend))) value-read ∙ ap (λ r. residue 64 (pos (S (valueBy v object x j)) +ℤ signed 64 (r .addend))) (f .read) in
       let same : residue 64 (signed 64 y) ≡ residue 64 z = residue-signed 64 y h ∙ ye ∙ sum in
-      let at : p ≡ P object x j = place-read object x j here p (f .read) place (f .there .site) inside (ap isStore (f .decided)) in
       ue
       ∙ same-patch w (address-narrow object) (rule .calculation) (rule .field) b (signed 64 y) z p d (pairDistanceBy v object x j) same de
-      ∙ ap (λ p. patched w (rule .calculation) (rule .field) b z p (pairDistanceBy v object x j)) at
+      ∙ ap (λ p. patched w (rule .calculation) (rule .field) b z p (pairDistanceBy v object x j)) at-place
       ∙ sym (ap (λ d. word w d b z (P object x j) (pairDistanceBy v object x j)) (f .decided))
 
 -- ---- T - P of relocation k, by the relocation r and the value that were read
 
-pub distance-read : (v : ℕ → SymbolValue) (object : List ℕ) (x : Site) (k : ℕ) (r : Relocation) (value : SymbolValue) (t p : ℕ) → r ≡ entry object x k → value ≡ v (r .symbol)
-    → t ≡ T (addressWidth object) (S value) (signed 64 (r .addend)) → p ≡ plus (addressWidth object) (x .address .0) (r .offset .0)
-    → minus (addressWidth object) t p ≡ distanceBy v object x k
-unfolding minus plus residue
-distance-read v object x k r value t p re ve te pe =
+pub distance-read : (v : ℕ → SymbolValue) (object : List ℕ) (x : Site) (k : ℕ) (r : Relocation) (value : SymbolValue) (y p : ℕ) → r ≡ entry object x k → value ≡ v (r .symbol)
+    → y ≡ residue 64 (pos (S value) +ℤ signed 64 (r .addend)) → p ≡ plus 64 (x .address .0) (r .offset .0)
+    → minus (addressWidth object) y p ≡ distanceBy v object x k
+unfolding plus residue
+distance-read v object x k r value y p re ve ye pe =
     let w : ℕ = addressWidth object in
     let m : ℕ = x .address .0 + r .offset .0 in
+    let t : ℕ = T w (S value) (signed 64 (r .addend)) in
     let same : value ≡ valueBy v object x k = ve ∙ ap (λ e. v (e .symbol)) re in
-    ap (minus w t) pe
-    ∙ subst (λ k. minus w t (residue k (pos m)) ≡ residue w (pos t -ℤ pos m)) (zero-add w) (minus-residue 0 w t (pos m))
-    ∙ ap (λ t. residue w (pos t -ℤ pos m)) te
-    ∙ ap (λ y. residue w (pos (T w (S y) (signed 64 (r .addend))) -ℤ pos m)) same
-    ∙ ap (λ e. residue w (pos (T w (S (valueBy v object x k)) (signed 64 (e .addend))) -ℤ pos (x .address .0 + e .offset .0))) re
+    let target : y % 2 ^ w ≡ t % 2 ^ w =
+    ap (λ n. n % 2 ^ w) ye ∙ narrowed 64 w (pos (S value) +ℤ signed 64 (r .addend)) (address-narrow object) ∙ sym (mod-eq-of-lt (residue-lt w (pos (S value) +ℤ signed 64 (r .addend)))) in
+    let place : p % 2 ^ w ≡ m % 2 ^ w = ap (λ n. n % 2 ^ w) pe ∙ narrowed 64 w (pos m) (address-narrow object) in
+    minus-mod w y p t m target place
+    ∙ ap (λ s. minus w (T w (S s) (signed 64 (r .addend))) m) same
+    ∙ ap (λ e. minus w (T w (S (valueBy v object x k)) (signed 64 (e .addend))) (x .address .0 + e .offset .0)) re
 
 -- ---- the symbol of a PCREL_LO12, by the table h and the symbol y that were read
 

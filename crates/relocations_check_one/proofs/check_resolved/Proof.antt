@@ -32,7 +32,7 @@ abbrev taken : tie.After-found-bytes → tie.After-take-partner
 taken c = c .before .before .before
 
 abbrev read : tie.After-apply-rule → tie.After-found-bytes
-read c = c .before .before .before .before .before .before
+read c = c .before .before .before .before .before
 
 -- ---- the needs
 
@@ -51,18 +51,14 @@ class-of-requires c κs = let high : tie.After-take-partner = search in header-t
 
 apply-rule-requires : tie.Need-apply-rule-requires
 apply-rule-requires c κs =
-    let summed : tie.After-symbol-sum = search in
-    let target : tie.After-target-of = search in
-    let classed : tie.After-class-of = search in
     let found : tie.After-found-bytes = search in
-    (rules-regular _ _ _ (entered (arguments (taken found)) .pre .1 .decided), target-sum (classed .class-of .result) _ _ _ (omega arith) (target .target-of .ensures) (summed .symbol-sum .ensures))
+    rules-regular _ _ _ (entered (arguments (taken found)) .pre .1 .decided)
 
 returns : tie.Need-returns
 returns c =
     let applied : tie.After-apply-rule = search in
     let placed : tie.After-place-of = search in
     let summed : tie.After-symbol-sum = search in
-    let target : tie.After-target-of = search in
     let fitted : tie.After-present = search in
     let found = read applied in
     let high = taken found in
@@ -74,7 +70,7 @@ returns c =
     let value = start .pre .3 in
     let classed : tie.After-class-of = search in
     let is = classed .class-of .ensures in
-    let place = rw is at (placed .place-of .ensures) in
+    let place = placed .place-of .ensures in
     let e = rw is at (applied .apply-rule .ensures) in
     let partner = high .take-partner .ensures in
     let at = place-read s (a .site) (a .j) (a .here) _ (f .read) place (f .there .site) (shape-inside s (a .site) (a .j) (f .shape)) (ap isStore (f .decided)) ∙ sym (ap (λ (r : Relocation). a .site .address .0 + r .offset .0) (f .read)) in
@@ -83,7 +79,8 @@ returns c =
     ∙ form-read s (a .site) (a .j) (a .rule) _ (a .here) (f .decided) refl (f .read) in (
       record {
         number-is =
-            number-read v s (a .site) (a .j) (a .rule) (a .here) f _ value _ place _ _ _ _ _ _ (c .first-broken .ensures) (partner .0 .symbol-is) forms (partner .0 .pair-is) (e .1) (rw is at (target .target-of .ensures));
+            number-read v s (a .site) (a .j) (a .rule) (a .here) f _ value _ place _ _ _ _ _ _ (c .first-broken .ensures) (partner .0 .symbol-is) forms (partner .0 .pair-is) (e .1)
+            (sym (target-sum (classOf s) _ _ _ (omega arith) refl (summed .symbol-sum .ensures)));
         word-is = λ z.
             word-read v s (a .site) (a .j) (a .rule) (a .here) f _ value _ place _ _ _ _
             (e .2
@@ -102,7 +99,6 @@ check-resolved-spec =
     take-partner-requires
     found-bytes-requires
     class-of-requires
-    (λ c κs. search needs)
     (λ c κs. search needs)
     (λ c κs. search needs)
     (λ c κs. search needs)

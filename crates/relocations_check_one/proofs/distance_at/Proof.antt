@@ -13,16 +13,15 @@ class-of-requires c κs = let at : tie.Start = search in header-there _ (at .pre
 returns : tie.Need-returns
 returns c =
     let placed : tie.After-place-of = search in
-    let target : tie.After-target-of = search in
+    let summed : tie.After-symbol-sum = search in
     let valued : tie.After-value-at = search in
     let read : tie.After-read-relocation = search in
+    let classed : tie.After-class-of = search in
     let at : tie.Start = search in
     let a = at .args in
-    let classed : tie.After-class-of = search in
-    let is = classed .class-of .ensures in
-    rw is at (c .difference .ensures)
-    ∙ distance-read (listed (a .values .now) (a .states .now)) (a .object .now) (a .site) (a .k) _ _ _ _ (read .read-relocation .ensures) (valued .value-at .ensures) (rw is at (target .target-of .ensures))
-    (rw is at (placed .place-of .ensures))
+    rw (classed .class-of .ensures) at (c .difference .ensures)
+    ∙ distance-read (listed (a .values .now) (a .states .now)) (a .object .now) (a .site) (a .k) _ _ _ _ (read .read-relocation .ensures) (valued .value-at .ensures)
+    (summed .symbol-sum .ensures) (placed .place-of .ensures)
 
 pub distance-at-spec : {M : Type 1} → statement M
 distance-at-spec =

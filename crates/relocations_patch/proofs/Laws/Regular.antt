@@ -1,13 +1,15 @@
 -- Every rule of the table is regular; and what the field alone then says.
 use mathlib.Core.Path.{_≡_, refl, sym, ap, _∙_, subst}
 use mathlib.Core.Bool.{Bool, true, false, _&&_}
-use Prim.Native.Nat.{ℕ, _/_, _%_, _^_}
+use Prim.Native.Nat.{ℕ, _/_, _%_, _^_, _<_}
 use lib.Dec.{eqb}
 use lib.IntN.{ℤ, pos}
 use Rattle.numbers_definitions.specs.declared.Class.{Class}
+use Rattle.numbers_definitions.specs.declared.Class.the-variants.{Elf32, Elf64}
 use Rattle.numbers_definitions.specs.Classes.{bits}
-use Rattle.numbers_definitions.specs.Whole.{residue, even, minus}
+use Rattle.numbers_definitions.specs.Whole.{residue, signed, even, minus}
 use Rattle.numbers_definitions.proofs.Laws.Tests.{never}
+use Rattle.numbers_definitions.proofs.Laws.Whole.{cut-signed}
 use Rattle.instructions_fields.specs.declared.Width.{Width}
 use Rattle.instructions_fields.specs.declared.Field.{Field}
 use Rattle.instructions_fields.specs.declared.Field.the-variants.{Data}
@@ -34,6 +36,11 @@ use Rattle.relocations_bytes.specs.Patches.{operandOf, partOf, patched}
 use Rattle.relocations_patch.specs.Regular.{isUpper, OfPart, fills, Regular, operandBy}
 
 -- ---- every rule of the table
+
+-- T, out of S + A in two's complement of 64 bits
+pub cut : (k : Class) (x : ℕ) → x < 2 ^ 64 → x % 2 ^ bits k ≡ residue (bits k) (signed 64 x)
+cut Elf32 x h = cut-signed 32 32 x h
+cut Elf64 x h = cut-signed 0 64 x h
 
 abbrev RegularOf : Decision → Type 0
 RegularOf (Store r) = Regular (r .calculation) (r .field) (r .form)

@@ -1,18 +1,17 @@
 -- `relocations_patch::apply_rule` meets its contract.
 use mathlib.Core.Path.{_≡_, refl, sym, ap, _∙_, subst}
 use mathlib.Core.Bool.{_&&_}
-use Prim.Native.Nat.{_/_, _%_, _^_}
+use Prim.Native.Nat.{ℕ, _/_, _%_, _^_}
 use lib.Dec.{eqb}
 use Rattle.numbers_definitions.specs.Classes.{bits}
-use Rattle.numbers_definitions.specs.Whole.{signed}
+use Rattle.numbers_definitions.specs.Whole.{residue, signed}
 use Rattle.instructions_fields.specs.declared.Field.the-variants.{U, I, S, B, J, Cb, Cj, Call, Data}
 use Rattle.instructions_fields.specs.Layouts.{put}
 use Rattle.instructions_fields.specs.Fields.{layout}
 use Rattle.instructions_riscv.specs.declared.forms.Form.the-variants.{LowI, LowS, Branch, Jal, CBranch, CJump, CallPair}
-use Rattle.instructions_riscv.specs.Ranges.{reaches, distance}
 use Rattle.relocations_types.specs.declared.Operand.the-variants.{PcRelative}
 use Rattle.relocations_types.specs.declared.Part.the-variants.{Distance, High, Low, BothHalves}
-use Rattle.relocations_patch.specs.Regular.{Regular, operandBy}
+use Rattle.relocations_patch.specs.Regular.{Regular}
 use Rattle.relocations_patch.proofs.Laws.Regular.{upper-instruction, high-reaches, both-reach, instruction-made, data-made}
 use borrow.Author.Needs.{needs}
 use Rattle.relocations_patch.proofs.apply_rule.Statement.{statement}
@@ -22,20 +21,18 @@ upper-opcode-requires : tie.Need-upper-opcode-requires
 upper-opcode-requires c κs =
     let s : tie.Start = search in
     let a = s .args in
-    subst (λ f. Regular (a .calculation) f (a .form)) (c .enum-told .given .1) (s .pre .0) .2
+    subst (λ f. Regular (a .calculation) f (a .form)) (c .enum-told .given .1) (s .pre) .2
 
 data-word-requires : tie.Need-data-word-requires
 data-word-requires c κs =
     let s : tie.Start = search in
     let a = s .args in
     let k : tie.After-field = search in
-    subst (λ f. Regular (a .calculation) f (a .form)) (k .field .given .1) (s .pre .0) .0
+    subst (λ f. Regular (a .calculation) f (a .form)) (k .field .given .1) (s .pre) .0
 
--- the operand, by T
-by-target : (c : tie.After-operand-value) → let a = c .before .before .args in c .operand-value .result ≡ operandBy (bits (a .class)) (a .calculation) (a .t .0) (a .p .0) (a .d)
-by-target c =
-    let a = c .before .before .args in
-    c .operand-value .ensures ∙ sym (ap (λ t. operandBy (bits (a .class)) (a .calculation) t (a .p .0) (a .d)) (c .before .before .pre .1))
+-- T
+abbrev target : tie.Start → ℕ
+target c = residue (bits (c .args .class)) (signed 64 (c .args .x))
 
 returns : tie.Need-returns
 returns c =
@@ -43,15 +40,15 @@ returns c =
     let a = s .args in
     let o : tie.After-operand-value = search in
     let told = c .before .before .before .before .enum-told .given .1 in
-    let g : Regular (a .calculation) U (a .form) = subst (λ f. Regular (a .calculation) f (a .form)) told (s .pre .0) in
-    instruction-made (a .class) (a .calculation) (a .form) (a .found) (a .w) (a .t .0) (a .p .0) (a .d) (signed 64 (a .x))
+    let g : Regular (a .calculation) U (a .form) = subst (λ f. Regular (a .calculation) f (a .form)) told (s .pre) in
+    instruction-made (a .class) (a .calculation) (a .form) (a .found) (a .w) (target s) (a .p .0) (a .d) (signed 64 (a .x))
     (a .field) U High (a .form) _ _ _ _
     told
     (g .0)
     refl
     (upper-instruction (a .form) (g .2))
     (c .before .before .before .upper-opcode .ensures (a .class) (a .found) (a .found / 2 ^ 32))
-    (c .before .before .in-halves-reach .ensures ∙ high-reaches (a .class) (a .calculation) (g .0) (a .t .0) (a .p .0) (a .d) _ (g .1) (by-target o))
+    (c .before .before .in-halves-reach .ensures ∙ high-reaches (a .class) (a .calculation) (g .0) (target s) (a .p .0) (a .d) _ (g .1) (o .operand-value .ensures))
     (o .operand-value .ensures)
     (c .put-u .ensures ∙ ap (put (layout U) (a .w)) (c .before .high-part .ensures .0))
 
@@ -61,8 +58,8 @@ returns-2 c =
     let a = s .args in
     let o : tie.After-operand-value = search in
     let told = c .before .before .before .enum-told2 .given .1 in
-    let g : Regular (a .calculation) I (a .form) = subst (λ f. Regular (a .calculation) f (a .form)) told (s .pre .0) in
-    instruction-made (a .class) (a .calculation) (a .form) (a .found) (a .w) (a .t .0) (a .p .0) (a .d) (signed 64 (a .x))
+    let g : Regular (a .calculation) I (a .form) = subst (λ f. Regular (a .calculation) f (a .form)) told (s .pre) in
+    instruction-made (a .class) (a .calculation) (a .form) (a .found) (a .w) (target s) (a .p .0) (a .d) (signed 64 (a .x))
     (a .field) I Low LowI _ _ _ _
     told
     (g .0)
@@ -79,8 +76,8 @@ returns-3 c =
     let a = s .args in
     let o : tie.After-operand-value = search in
     let told = c .before .before .before .enum-told3 .given .1 in
-    let g : Regular (a .calculation) S (a .form) = subst (λ f. Regular (a .calculation) f (a .form)) told (s .pre .0) in
-    instruction-made (a .class) (a .calculation) (a .form) (a .found) (a .w) (a .t .0) (a .p .0) (a .d) (signed 64 (a .x))
+    let g : Regular (a .calculation) S (a .form) = subst (λ f. Regular (a .calculation) f (a .form)) told (s .pre) in
+    instruction-made (a .class) (a .calculation) (a .form) (a .found) (a .w) (target s) (a .p .0) (a .d) (signed 64 (a .x))
     (a .field) S Low LowS _ _ _ _
     told
     (g .0)
@@ -96,16 +93,16 @@ returns-4 c =
     let s : tie.Start = search in
     let a = s .args in
     let o : tie.After-operand-value = search in
-    let told = c .before .before .before .before .enum-told4 .given .1 in
-    let g : Regular (a .calculation) B (a .form) = subst (λ f. Regular (a .calculation) f (a .form)) told (s .pre .0) in
-    instruction-made (a .class) (a .calculation) (a .form) (a .found) (a .w) (a .t .0) (a .p .0) (a .d) (signed 64 (a .x))
+    let told = c .before .before .before .enum-told4 .given .1 in
+    let g : Regular (a .calculation) B (a .form) = subst (λ f. Regular (a .calculation) f (a .form)) told (s .pre) in
+    instruction-made (a .class) (a .calculation) (a .form) (a .found) (a .w) (target s) (a .p .0) (a .d) (signed 64 (a .x))
     (a .field) B Distance Branch _ _ _ _
     told
     (g .0)
     (g .1)
     refl
-    (c .before .before .before .has-form3 .ensures)
-    (c .before .in-reach .ensures ∙ ap (λ r. reaches r (distance (a .t .0) (a .p .0))) (c .before .before .range-of .ensures))
+    (c .before .before .has-form3 .ensures)
+    (c .before .jump-reaches .ensures)
     (o .operand-value .ensures)
     (c .put-b .ensures)
 
@@ -114,16 +111,16 @@ returns-5 c =
     let s : tie.Start = search in
     let a = s .args in
     let o : tie.After-operand-value = search in
-    let told = c .before .before .before .before .enum-told5 .given .1 in
-    let g : Regular (a .calculation) J (a .form) = subst (λ f. Regular (a .calculation) f (a .form)) told (s .pre .0) in
-    instruction-made (a .class) (a .calculation) (a .form) (a .found) (a .w) (a .t .0) (a .p .0) (a .d) (signed 64 (a .x))
+    let told = c .before .before .before .enum-told5 .given .1 in
+    let g : Regular (a .calculation) J (a .form) = subst (λ f. Regular (a .calculation) f (a .form)) told (s .pre) in
+    instruction-made (a .class) (a .calculation) (a .form) (a .found) (a .w) (target s) (a .p .0) (a .d) (signed 64 (a .x))
     (a .field) J Distance Jal _ _ _ _
     told
     (g .0)
     (g .1)
     refl
-    (c .before .before .before .has-form4 .ensures)
-    (c .before .in-reach2 .ensures ∙ ap (λ r. reaches r (distance (a .t .0) (a .p .0))) (c .before .before .range-of2 .ensures))
+    (c .before .before .has-form4 .ensures)
+    (c .before .jump-reaches2 .ensures)
     (o .operand-value .ensures)
     (c .put-j .ensures)
 
@@ -132,16 +129,16 @@ returns-6 c =
     let s : tie.Start = search in
     let a = s .args in
     let o : tie.After-operand-value = search in
-    let told = c .before .before .before .before .enum-told6 .given .1 in
-    let g : Regular (a .calculation) Cb (a .form) = subst (λ f. Regular (a .calculation) f (a .form)) told (s .pre .0) in
-    instruction-made (a .class) (a .calculation) (a .form) (a .found) (a .w) (a .t .0) (a .p .0) (a .d) (signed 64 (a .x))
+    let told = c .before .before .before .enum-told6 .given .1 in
+    let g : Regular (a .calculation) Cb (a .form) = subst (λ f. Regular (a .calculation) f (a .form)) told (s .pre) in
+    instruction-made (a .class) (a .calculation) (a .form) (a .found) (a .w) (target s) (a .p .0) (a .d) (signed 64 (a .x))
     (a .field) Cb Distance CBranch _ _ _ _
     told
     (g .0)
     (g .1)
     refl
-    (c .before .before .before .has-form5 .ensures)
-    (c .before .in-reach3 .ensures ∙ ap (λ r. reaches r (distance (a .t .0) (a .p .0))) (c .before .before .range-of3 .ensures))
+    (c .before .before .has-form5 .ensures)
+    (c .before .jump-reaches3 .ensures)
     (o .operand-value .ensures)
     (c .put-cb .ensures)
 
@@ -150,16 +147,16 @@ returns-7 c =
     let s : tie.Start = search in
     let a = s .args in
     let o : tie.After-operand-value = search in
-    let told = c .before .before .before .before .enum-told7 .given .1 in
-    let g : Regular (a .calculation) Cj (a .form) = subst (λ f. Regular (a .calculation) f (a .form)) told (s .pre .0) in
-    instruction-made (a .class) (a .calculation) (a .form) (a .found) (a .w) (a .t .0) (a .p .0) (a .d) (signed 64 (a .x))
+    let told = c .before .before .before .enum-told7 .given .1 in
+    let g : Regular (a .calculation) Cj (a .form) = subst (λ f. Regular (a .calculation) f (a .form)) told (s .pre) in
+    instruction-made (a .class) (a .calculation) (a .form) (a .found) (a .w) (target s) (a .p .0) (a .d) (signed 64 (a .x))
     (a .field) Cj Distance CJump _ _ _ _
     told
     (g .0)
     (g .1)
     refl
-    (c .before .before .before .has-form6 .ensures)
-    (c .before .in-reach4 .ensures ∙ ap (λ r. reaches r (distance (a .t .0) (a .p .0))) (c .before .before .range-of4 .ensures))
+    (c .before .before .has-form6 .ensures)
+    (c .before .jump-reaches4 .ensures)
     (o .operand-value .ensures)
     (c .put-cj .ensures)
 
@@ -169,8 +166,8 @@ returns-8 c =
     let a = s .args in
     let o : tie.After-operand-value = search in
     let told = c .before .before .before .before .enum-told8 .given .1 in
-    let g : Regular (a .calculation) Call (a .form) = subst (λ f. Regular (a .calculation) f (a .form)) told (s .pre .0) in
-    instruction-made (a .class) (a .calculation) (a .form) (a .found) (a .w) (a .t .0) (a .p .0) (a .d) (signed 64 (a .x))
+    let g : Regular (a .calculation) Call (a .form) = subst (λ f. Regular (a .calculation) f (a .form)) told (s .pre) in
+    instruction-made (a .class) (a .calculation) (a .form) (a .found) (a .w) (target s) (a .p .0) (a .d) (signed 64 (a .x))
     (a .field) Call BothHalves CallPair _ _ _ _
     told
     (record { operand = PcRelative; is = g .0 })
@@ -178,7 +175,7 @@ returns-8 c =
     refl
     (c .before .before .before .has-form7 .ensures)
     (ap (λ b. eqb (o .operand-value .result % 2) 0 && b) (c .before .before .in-halves-reach2 .ensures)
-    ∙ both-reach (a .class) (a .calculation) (a .t .0) (a .p .0) (a .d) _ (g .0) (by-target o))
+    ∙ both-reach (a .class) (a .calculation) (target s) (a .p .0) (a .d) _ (g .0) (o .operand-value .ensures))
     (o .operand-value .ensures)
     (c .put-field .ensures ∙ ap (put (layout Call) (a .w)) (c .before .both-halves .ensures))
 
@@ -189,8 +186,8 @@ returns-9 c =
     let o : tie.After-operand-value = search in
     let k : tie.After-field = search in
     let told = k .field .given .1 in
-    let g : Regular (a .calculation) (Data (k .field .given .0 .0)) (a .form) = subst (λ f. Regular (a .calculation) f (a .form)) told (s .pre .0) in
-    data-made (a .class) (a .calculation) (a .form) (a .found) (a .w) (a .t .0) (a .p .0) (a .d) (signed 64 (a .x))
+    let g : Regular (a .calculation) (Data (k .field .given .0 .0)) (a .form) = subst (λ f. Regular (a .calculation) f (a .form)) told (s .pre) in
+    data-made (a .class) (a .calculation) (a .form) (a .found) (a .w) (target s) (a .p .0) (a .d) (signed 64 (a .x))
     (a .field) (k .field .given .0 .0) _
     told
     (g .0)
@@ -219,19 +216,15 @@ apply-rule-spec =
     (λ c κs. search needs)
     (λ c κs. search needs)
     (λ c κs. search needs)
+    (λ c. search needs)
+    (λ c κs. search needs)
+    (λ c κs. search needs)
     (λ c κs. search needs)
     (λ c. search needs)
     (λ c κs. search needs)
     (λ c κs. search needs)
     (λ c κs. search needs)
-    (λ c κs. search needs)
     (λ c. search needs)
-    (λ c κs. search needs)
-    (λ c κs. search needs)
-    (λ c κs. search needs)
-    (λ c κs. search needs)
-    (λ c. search needs)
-    (λ c κs. search needs)
     (λ c κs. search needs)
     (λ c κs. search needs)
     (λ c κs. search needs)

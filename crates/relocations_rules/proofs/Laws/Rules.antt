@@ -83,24 +83,6 @@ place-below object x j f inside s = go (decisionAt object x j) refl s inside
     go Align q s i = never s
     go Refused q s i = never s
 
-pub in-reach-is : (object : List ℕ) (x : Site) (j t : ℕ) → SoundSite object x → end object x j ≤ x .target .size
-    → distanceWell (classOf object) (decisionAt object x j) t (plus (addressWidth object) (x .address .0) (offset object x j))
-    ≡ distanceWell (classOf object) (decisionAt object x j) t (P object x j)
-unfolding plus
-in-reach-is object x j t f inside = go (decisionAt object x j) refl
-  where
-    go : (d : Decision) → decisionAt object x j ≡ d → distanceWell (classOf object) d t ((x .address .0 + offset object x j) % 2 ^ addressWidth object) ≡ distanceWell (classOf object) d t (P object x j)
-    go (Store r) q = ap (distanceWell (classOf object) (Store r) t) (mod-eq-of-lt (place-below object x j f inside (ap isStore q)))
-    go Marker q = refl
-    go Align q = refl
-    go Refused q = refl
-
--- stated for the relocation r that the code has read, and for what it has worked out from it
-pub reach-read : (object : List ℕ) (x : Site) (j : ℕ) (r : Relocation) (d : Decision) (v w : SymbolValue) (t p : ℕ) → SoundSite object x → end object x j ≤ x .target .size
-    → r ≡ entry object x j → d ≡ decision (classOf object) (r .kind) → v ≡ w → t ≡ T (addressWidth object) (S v) (signed 64 (r .addend)) → p ≡ plus (addressWidth object) (x .address .0) (r .offset .0)
-    → distanceWell (classOf object) d t p ≡ distanceWell (classOf object) (decisionAt object x j) (T (addressWidth object) (S w) (A object x j)) (P object x j)
-reach-read object x j r d v w t p f inside re de ve te pe = rw (pe, te, de, ve, re) (in-reach-is object x j (T (addressWidth object) (S w) (A object x j)) f inside)
-
 -- ---- check 14
 
 pub boundary-read : (object : List ℕ) (x : Site) (j : ℕ) (r : Relocation) (d : Decision) → r ≡ entry object x j → d ≡ decision (classOf object) (r .kind)
