@@ -1,5 +1,5 @@
 /*
- * Aktinoph: lays RV32 ELF objects into memory images, and takes installs back, byte for byte.
+ * Aktinoph: lays RV32 and RV64 ELF objects into memory images, and takes installs back, byte for byte.
  *
  * The static library is target/staticlib/libfitter.a, which `rt staticlib fitter` writes, for x86-64 Linux.
  * It keeps no state, allocates nothing, and needs nothing but memory functions of the C library (memset).
@@ -13,6 +13,10 @@
  * Lengths: any length is answered. A call can be done with an object of at most 65,536 bytes, an image of 0 to
  * 65,536 bytes, and a ledger of at least AKTINOPH_LEDGER_HEAD bytes and the old bytes of every standing fit.
  * A ledger of zero bytes is one in which no fit stands.
+ *
+ * Classes: the object decides, by its byte 4: 1 is ELF32 (RV32), 2 is ELF64 (RV64). The order is read in the format of
+ * that class: counts and the numbers of sections and symbols have four bytes in both; base, addresses and values have
+ * four bytes for ELF32 and eight for ELF64. All are little-endian. The ledger is the same for both.
  *
  * Every answer but AKTINOPH_DONE leaves image and ledger as they were, byte for byte. Object, order and calls never
  * change.
@@ -34,14 +38,15 @@ extern "C" {
 #define AKTINOPH_LEDGER_HEAD 136
 
 /*
- * The numbers, in the order of the checks: an answer is the first check that fails. The place is 0 where none is
- * named below. Relocations are counted from 0 over all RELA sections that count, by section and then file order.
+ * The numbers. An answer is the first check that fails; a fit checks 1, 4, 2, 3, 5, and from there on in the order of
+ * the numbers. The place is 0 where none is named below. Relocations are counted from 0 over all RELA sections that
+ * count, by section and then file order.
  */
 enum aktinoph_answer {
     AKTINOPH_DONE = 0,                   /* done */
     AKTINOPH_LEDGER_UNSOUND = 1,         /* the ledger is not sound */
     AKTINOPH_ORDER_MALFORMED = 2,        /* the order's bytes are malformed */
-    AKTINOPH_WINDOW_BROKEN = 3,          /* the image is too long, or (fit) the window ends above 2^32 */
+    AKTINOPH_WINDOW_BROKEN = 3,          /* image too long, or (fit) the window ends above 2^32 (ELF64: 2^64) */
     AKTINOPH_BAD_HEADER = 4,             /* the ELF header or the object's length is not allowed */
     AKTINOPH_BAD_SECTION = 5,            /* a section header breaks a rule; place: section, or 0 for the whole table */
     AKTINOPH_PLACEMENTS_DIFFER = 6,      /* only placed, or only allocated; place: the lowest such section */
@@ -51,7 +56,7 @@ enum aktinoph_answer {
     AKTINOPH_SYMBOL_UNRESOLVED = 10,     /* the symbol does not resolve; place: relocation */
     AKTINOPH_WRONG_INSTRUCTION = 11,     /* not an instruction that the type is for; place: relocation */
     AKTINOPH_NOT_ONE_PAIR = 12,          /* a PCREL_LO12 without exactly one PCREL_HI20; place: relocation */
-    AKTINOPH_OUT_OF_REACH = 13,          /* the distance is odd or too far; place: relocation */
+    AKTINOPH_OUT_OF_REACH = 13,          /* distance odd or too far, or (ELF64) address of HI20; place: relocation */
     AKTINOPH_PADDING_OFF_BOUNDARY = 14,  /* ALIGN's padding does not end on its boundary; place: relocation */
     AKTINOPH_LEDGER_FULL = 15,           /* the ledger has 16 fits, or no room for the old bytes */
     AKTINOPH_NOTHING_STANDS = 16         /* no fit stands (take-back only) */

@@ -3,8 +3,9 @@
 use std::error::Error;
 use std::fmt::{self, Display, Formatter};
 
-/// The answer of a call. The cases stand in the order of the checks, and an
-/// answer is the first check that fails.
+/// The answer of a call: the first check that fails. The checks run in the order
+/// of the cases, but that 4 comes before 2, since the object's header says how
+/// the order is to be read.
 ///
 /// A section's number counts section headers, a symbol's number counts entries
 /// of the symbol table, and a relocation's number counts from 0 over all RELA
@@ -17,7 +18,7 @@ pub enum Answer {
     LedgerUnsound,
     /// 2: the order's bytes are malformed.
     OrderMalformed,
-    /// 3: the image is too long, or the window ends above 2^32.
+    /// 3: the image is too long, or the window ends above 2^32 (RV64: 2^64).
     WindowBroken,
     /// 4: the ELF header or the object's length is not allowed.
     BadHeader,
@@ -39,7 +40,8 @@ pub enum Answer {
     WrongInstruction(u32),
     /// 12: this PCREL_LO12 relocation has not exactly one PCREL_HI20.
     NotOnePair(u32),
-    /// 13: this relocation's distance is odd or too far.
+    /// 13: this relocation's distance is odd or too far, or, in an RV64 object,
+    /// the address of a HI20 is.
     OutOfReach(u32),
     /// 14: this ALIGN relocation's padding does not end on its boundary.
     PaddingOffBoundary(u32),
@@ -144,7 +146,9 @@ impl Answer {
             Answer::Done => "done",
             Answer::LedgerUnsound => "the ledger is not sound",
             Answer::OrderMalformed => "the order's bytes are malformed",
-            Answer::WindowBroken => "the image is too long, or the window ends above 2^32",
+            Answer::WindowBroken => {
+                "the image is too long, or the window ends above 2^32 (RV64: 2^64)"
+            }
             Answer::BadHeader => "the ELF header or the object's length is not allowed",
             Answer::BadSection(0) => "the section header table, or section 0, breaks a rule",
             Answer::BadSection(_) => "the section header breaks a rule",

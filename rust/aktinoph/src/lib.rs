@@ -1,11 +1,16 @@
 //! A safe binding to the proved fitter.
 //!
-//! [`fit`] lays an RV32 ELF object into a memory image, with relocations
+//! [`fit`] lays an RV32 or RV64 ELF object into a memory image, with relocations
 //! applied, and records the old bytes in a ledger. [`take_back`] undoes the
 //! newest fit that stands. [`replay`] makes a list of such calls, one after the
 //! other. Every call is answered, for any bytes of any length, and an
 //! [`Answer`] other than [`Answer::Done`] means that image and ledger are as
 //! they were, byte for byte.
+//!
+//! The class is the object's: byte 4 of its file is 1 for RV32 and 2 for RV64.
+//! The order is one for that class, with base, addresses and values of four
+//! bytes for RV32 and of eight for RV64. The ledger is the same for both, so that
+//! fits of both classes can stand in one image.
 //!
 //! ```
 //! # fn main() -> Result<(), Box<dyn std::error::Error>> {
@@ -48,7 +53,8 @@ pub const LEDGER_HEAD: usize = 136;
 pub const STACK: usize = 65_536;
 
 /// Lays the object's sections into the image as the order says, and records
-/// the old bytes in the ledger. It never answers [`Answer::NothingStands`].
+/// the old bytes in the ledger. The order is read in the format of the object's
+/// class. It never answers [`Answer::NothingStands`].
 #[must_use = "a refused fit changes nothing"]
 pub fn fit(object: &[u8], order: &[u8], image: &mut [u8], ledger: &mut [u8]) -> Answer {
     Answer::from_code(ffi::fit(object, order, image, ledger))

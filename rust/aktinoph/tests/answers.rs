@@ -14,7 +14,7 @@ const ANSWERS: [Row; 17] = [
     ("AKTINOPH_ORDER_MALFORMED", Answer::OrderMalformed, 2, 0,
      "the order's bytes are malformed"),
     ("AKTINOPH_WINDOW_BROKEN", Answer::WindowBroken, 3, 0,
-     "the image is too long, or the window ends above 2^32"),
+     "the image is too long, or the window ends above 2^32 (RV64: 2^64)"),
     ("AKTINOPH_BAD_HEADER", Answer::BadHeader, 4, 0,
      "the ELF header or the object's length is not allowed"),
     ("AKTINOPH_BAD_SECTION", Answer::BadSection(31), 5, 31,

@@ -1,11 +1,12 @@
-//! The comparison fitter: document 01 written for speed, in safe Rust, without
-//! a heap. The library's time is measured against it.
+//! The comparison fitter: document 01 and Ticket 1 written for speed, in safe
+//! Rust, without a heap. The library's time is measured against it.
 //!
-//! It has two phases. The first makes every check in document 01's order and
-//! writes nothing. The second saves and lays, and cannot fail. Each phase reads
-//! a relocation once. What a type asks for stands in a table (`types`), so
-//! that relocations of different types take the same path through the code, and
-//! a processor need not guess which one comes next.
+//! It has two phases. The first makes every check in its order and writes
+//! nothing. The second saves and lays, and cannot fail. Each phase reads a
+//! relocation once. What a type asks for stands in a table (`types`), so that
+//! relocations of different types take the same path through the code, and a
+//! processor need not guess which one comes next. All of this is built once for
+//! each class (`class`).
 //!
 //! The checks of a relocation are made in two steps. The first step asks
 //! whether all rules hold, in any order (`relocations`). Only where it cannot
@@ -13,6 +14,7 @@
 //! broken one (`exact`).
 
 mod bytes;
+mod class;
 mod exact;
 mod forms;
 mod journal;
@@ -25,6 +27,7 @@ mod relocations;
 mod symbols;
 mod types;
 
+use class::{Class, Elf32, Elf64};
 use journal::Journal;
 use lay::Plan;
 use object::Object;
@@ -33,8 +36,6 @@ use symbols::Symbols;
 
 /// The longest object or image.
 const MAX_BYTES: usize = 65_536;
-/// The end of the address space.
-const ADDRESS_END: u64 = 1 << 32;
 
 /// Document 01: number and place.
 #[derive(Clone, Copy, PartialEq, Eq, Debug)]
@@ -72,18 +73,35 @@ fn install(
     journal: &mut [u8],
 ) -> Result<(), Answer> {
     let standing = Journal::read(journal, image.len()).ok_or(refusal(1, 0))?;
-    let order = Order::read(order).ok_or(refusal(2, 0))?;
-    if !order::is_allowed_window(order.base, image.len()) {
+    match object.get(4) {
+        Some(1) => install_of::<Elf32>(object, order, image, journal, standing),
+        Some(2) => install_of::<Elf64>(object, order, image, journal, standing),
+        _ => Err(refusal(4, 0)),
+    }
+}
+
+fn install_of<C: Class>(
+    object: &[u8],
+    order: &[u8],
+    image: &mut [u8],
+    journal: &mut [u8],
+    standing: Journal,
+) -> Result<(), Answer> {
+    let header = object::read_header::<C>(object).ok_or(refusal(4, 0))?;
+    let order = Order::<C>::read(order).ok_or(refusal(2, 0))?;
+    if !order::is_allowed_window::<C>(order.base, image.len()) {
         return Err(refusal(3, 0));
     }
-    let header = object::read_header(object).ok_or(refusal(4, 0))?;
-    let object = Object::read(object, header).map_err(|place| refusal(5, place))?;
+    let object = Object::<C>::read(object, &header).map_err(|place| refusal(5, place))?;
     let addresses = placing::addresses(&object, &order).map_err(|place| refusal(6, place))?;
     let mut symbols = Symbols::new(&object, &addresses);
     symbols
         .take_external_values(&order)
         .map_err(|place| refusal(7, place))?;
-    let window = placing::Window::new(order.base, image.len());
+    let window = placing::Window {
+        base: order.base,
+        length: image.len() as u64,
+    };
     let span = placing::check(&object, &addresses, window).map_err(|place| refusal(8, place))?;
     relocations::check(&object, &addresses, &mut symbols)?;
     if !standing.has_room_for(span, journal.len()) {

@@ -6,6 +6,10 @@
 //! relocations take 49,152. What is left has no room for 4,096 instructions, so
 //! that some relocations stand at one place (ADD and SUB) or take no bytes
 //! (RELAX).
+//!
+//! The rows of class 2 have the same shapes, and names that begin with `rv64-`.
+//! Their relocations are twice as long, so that an object has room for half as
+//! many.
 
 mod code;
 mod mixed;
@@ -16,14 +20,30 @@ pub use others::relocations;
 
 use mixed::Arrangement;
 
+use testing::build::Class;
 use testing::damage::Input;
 
 /// The length of the image, but for the real objects.
 pub const IMAGE: usize = 65_536;
 /// The most relocations that an object may have.
 pub const MOST: usize = 4_096;
-/// How many relocations the rows have that come in several sizes.
-const COUNTS: [usize; 4] = [64, 256, 1_024, MOST];
+
+/// The most relocations of a row of this class.
+fn most(class: Class) -> usize {
+    match class {
+        Class::Elf32 => MOST,
+        Class::Elf64 => MOST / 2,
+    }
+}
+
+/// The most relocations of a row in which every second one names a label of its
+/// own.
+fn most_near(class: Class) -> usize {
+    match class {
+        Class::Elf32 => 2_000,
+        Class::Elf64 => 1_600,
+    }
+}
 
 /// Which of the two calls.
 #[derive(Clone, Copy, PartialEq, Eq, Debug)]
@@ -54,38 +74,50 @@ fn done(name: &str, relocations: usize, input: Input) -> Row {
     }
 }
 
-/// All rows, in the order of the table.
+/// All rows, in the order of the table. A rollback has no class.
 pub fn rows() -> Vec<Row> {
+    let mut rows = rows_of(Class::Elf32);
+    rows.push(others::take_back());
+    rows.extend(rows_of(Class::Elf64));
+    rows
+}
+
+fn rows_of(class: Class) -> Vec<Row> {
+    let most = most(class);
     let sized = |name: &str, count: usize, input: Input| {
         let name = format!("{name}-{count}");
         done(&name, count, input)
     };
-    let in_runs = mixed::input(MOST, Arrangement::InRuns);
-    let mut rows = vec![sized("mixed-in-runs", MOST, in_runs)];
-    for count in COUNTS {
-        let input = mixed::input(count, Arrangement::Shuffled);
+    let in_runs = mixed::input(class, most, Arrangement::InRuns);
+    let mut rows = vec![sized("mixed-in-runs", most, in_runs)];
+    for count in [64, 256, 1_024, most] {
+        let input = mixed::input(class, count, Arrangement::Shuffled);
         rows.push(sized("mixed", count, input));
     }
-    for count in COUNTS {
-        rows.push(sized("pairs", count, pairs::far(count)));
+    for count in [64, 256, 1_024, most] {
+        rows.push(sized("pairs", count, pairs::far(class, count)));
     }
-    for count in [64, 256, 1_024, 2_000] {
-        rows.push(sized("near-pairs", count, pairs::near(count)));
+    for count in [64, 256, 1_024, most_near(class)] {
+        rows.push(sized("near-pairs", count, pairs::near(class, count)));
     }
-    rows.push(sized("crowded", MOST, pairs::crowded(MOST)));
+    rows.push(sized("crowded", most, pairs::crowded(class, most)));
     rows.push(Row {
-        answer: (9, MOST as u32 - 1),
-        ..sized("falling", MOST, pairs::falling(MOST))
+        answer: (9, most as u32 - 1),
+        ..sized("falling", most, pairs::falling(class, most))
     });
-    rows.push(sized("many-symbols", 64, others::many_symbols(64)));
-    rows.push(done("many-sections", 15, others::many_sections()));
-    rows.extend(["many-relocations", "gcc-relaxed"].map(others::real));
-    rows.push(done("no-relocations", 0, others::no_relocations()));
+    rows.push(sized("many-symbols", 64, others::many_symbols(class, 64)));
+    rows.push(done("many-sections", 15, others::many_sections(class)));
+    rows.extend(["many-relocations", "gcc-relaxed"].map(|name| others::real(class, name)));
+    rows.push(done("no-relocations", 0, others::no_relocations(class)));
     rows.push(Row {
-        answer: (13, MOST as u32 - 1),
-        ..sized("refused-last", MOST, mixed::too_far_at_last(MOST))
+        answer: (13, most as u32 - 1),
+        ..sized("refused-last", most, mixed::too_far_at_last(class, most))
     });
-    rows.push(others::take_back());
+    if class == Class::Elf64 {
+        for row in &mut rows {
+            row.name.insert_str(0, "rv64-");
+        }
+    }
     rows
 }
 

@@ -3,7 +3,12 @@
 
 use bench::inputs::{relocations, row, rows, Call, Row, IMAGE};
 use bench::run::{Buffers, Fitter};
+use reference::object::{Header, Object};
+use reference::Class;
 use testing::damage::get;
+
+/// The rows that are real objects, but for what names of class 2 begin with.
+const REAL: [&str; 2] = ["many-relocations", "gcc-relaxed"];
 
 const PCREL_HI20: usize = 23;
 const RELAX: usize = 51;
@@ -16,9 +21,20 @@ fn named(name: &str) -> Row {
 fn types(row: &Row) -> [usize; 256] {
     let mut counts = [0; 256];
     for (_, kind) in relocations(&row.input.object) {
-        counts[usize::from(kind)] += 1;
+        counts[kind as usize] += 1;
     }
     counts
+}
+
+/// How many symbols a row's object has.
+fn symbols(row: &Row) -> u32 {
+    let object = &row.input.object;
+    let header = Header::read(object).expect("an object");
+    let object = Object::read(object, header).expect("an object");
+    let table = object.symbol_table().expect("a symbol table");
+    (0..)
+        .find(|index| table.get(*index).is_none())
+        .expect("an end")
 }
 
 /// How many PCREL_LO12.
@@ -27,7 +43,7 @@ fn low_halves(types: &[usize; 256]) -> usize {
 }
 
 /// The types of a row's relocations, in file order.
-fn order_of_types(name: &str) -> Vec<u8> {
+fn order_of_types(name: &str) -> Vec<u32> {
     let all = relocations(&named(name).input.object).into_iter();
     all.map(|(_, kind)| kind).collect()
 }
@@ -74,7 +90,7 @@ fn answered_alike() {
 #[test]
 fn the_span_is_the_whole_image() {
     for row in rows() {
-        let is_real = ["many-relocations", "gcc-relaxed"].contains(&row.name.as_str());
+        let is_real = REAL.contains(&row.name.trim_start_matches("rv64-"));
         if row.call == Call::TakeBack {
             let span = (get(&row.input.journal, 4, 4), get(&row.input.journal, 8, 4));
             assert_eq!(span, (0, IMAGE), "{}", row.name);
@@ -91,73 +107,123 @@ fn the_span_is_the_whole_image() {
 
 #[test]
 fn mixed() {
-    for name in ["mixed-in-runs-4096", "mixed-4096"] {
+    for (name, turns, words) in [
+        ("mixed-in-runs-4096", 372, 376),
+        ("mixed-4096", 372, 376),
+        ("rv64-mixed-in-runs-2048", 186, 188),
+        ("rv64-mixed-2048", 186, 188),
+    ] {
         let types = types(&named(name));
         for kind in [16, 17, 18, 26, 27, 28] {
-            assert_eq!(types[kind], 372, "{name}, type {kind}");
+            assert_eq!(types[kind], turns, "{name}, type {kind}");
         }
-        assert_eq!((types[35], types[39], types[1]), (744, 744, 376), "{name}");
+        let found = (types[35], types[39], types[1]);
+        assert_eq!(found, (2 * turns, 2 * turns, words), "{name}");
     }
     // ADD32 and SUB32 take turns at one place after the other.
     let changes = |name| {
         let types = order_of_types(name);
-        let differs = |two: &&[u8]| two[0] != two[1] && (two[0], two[1]) != (39, 35);
+        let differs = |two: &&[u32]| two[0] != two[1] && (two[0], two[1]) != (39, 35);
         types.windows(2).filter(differs).count()
     };
     assert_eq!(changes("mixed-in-runs-4096"), 744 + 8);
     assert!(changes("mixed-4096") > 3_000, "{}", changes("mixed-4096"));
+    assert_eq!(changes("rv64-mixed-in-runs-2048"), 372 + 8);
+    assert!(changes("rv64-mixed-2048") > 1_500);
 }
 
 #[test]
 fn pairs() {
-    for (name, pairs) in [("pairs-64", 32), ("pairs-4096", 1_984)] {
+    for (name, pairs) in [
+        ("pairs-64", 32),
+        ("pairs-4096", 1_984),
+        ("rv64-pairs-64", 32),
+        ("rv64-pairs-2048", 1_024),
+    ] {
         let types = types(&named(name));
         let relax = named(name).relocations - 2 * pairs;
         let found = (types[PCREL_HI20], low_halves(&types), types[RELAX]);
         assert_eq!(found, (pairs, pairs, relax), "{name}");
     }
-    let types = types(&named("near-pairs-2000"));
-    assert_eq!((types[PCREL_HI20], low_halves(&types)), (1_000, 1_000));
-    let symbol_table = 3;
-    let object = named("near-pairs-2000").input.object;
-    let size = get(&object, get(&object, 32, 4) + 40 * symbol_table + 20, 4);
-    assert_eq!(
-        size / 16,
-        1_002,
-        "a label for each, the target, and symbol 0"
-    );
+    for (name, pairs) in [("near-pairs-2000", 1_000), ("rv64-near-pairs-1600", 800)] {
+        let types = types(&named(name));
+        assert_eq!((types[PCREL_HI20], low_halves(&types)), (pairs, pairs));
+        // A label for each, the target, and symbol 0.
+        assert_eq!(symbols(&named(name)), pairs as u32 + 2, "{name}");
+    }
 }
 
 #[test]
 fn crowded() {
-    let row = named("crowded-4096");
-    let types = types(&row);
-    assert_eq!(types[PCREL_HI20], 1);
-    assert!(types[RELAX] > 2_000 && low_halves(&types) > 2_000);
-    let crowd = relocations(&row.input.object);
-    let at_one_place = crowd.iter().filter(|(offset, _)| *offset == 0).count();
-    assert_eq!(at_one_place, types[RELAX] + 1);
+    for (name, half) in [("crowded-4096", 2_000), ("rv64-crowded-2048", 1_000)] {
+        let row = named(name);
+        let types = types(&row);
+        assert_eq!(types[PCREL_HI20], 1, "{name}");
+        assert!(types[RELAX] > half && low_halves(&types) > half, "{name}");
+        let crowd = relocations(&row.input.object);
+        let at_one_place = crowd.iter().filter(|(offset, _)| *offset == 0).count();
+        assert_eq!(at_one_place, types[RELAX] + 1, "{name}");
+    }
 }
 
 #[test]
 fn falling() {
-    let row = named("falling-4096");
-    assert_eq!(low_halves(&types(&row)), 1_984);
-    let offsets = relocations(&row.input.object);
-    let falls = |two: &[(usize, u8)]| two[1].0 < two[0].0;
-    assert_eq!(offsets.windows(2).position(falls), Some(4_094));
+    for (name, low, last) in [
+        ("falling-4096", 1_984, 4_095),
+        ("rv64-falling-2048", 1_023, 2_047),
+    ] {
+        let row = named(name);
+        assert_eq!(low_halves(&types(&row)), low, "{name}");
+        let offsets = relocations(&row.input.object);
+        let falls = |two: &[(u64, u32)]| two[1].0 < two[0].0;
+        assert_eq!(offsets.windows(2).position(falls), Some(last - 1), "{name}");
+    }
+}
+
+/// The two classes have the same rows, but for the rollback.
+#[test]
+fn rows_of_both_classes() {
+    let names: Vec<String> = rows().into_iter().map(|row| row.name).collect();
+    let shape = |name: &String| {
+        name.trim_end_matches(|c: char| c.is_ascii_digit())
+            .to_string()
+    };
+    let (of_64, of_32): (Vec<_>, Vec<_>) = names.iter().partition(|name| name.starts_with("rv64-"));
+    let of_64: Vec<String> = of_64
+        .iter()
+        .map(|name| shape(&name.replace("rv64-", "")))
+        .collect();
+    let of_32 = of_32.into_iter().filter(|name| *name != "take-back");
+    assert_eq!(of_64, of_32.map(shape).collect::<Vec<_>>());
+    for row in rows().iter().filter(|row| row.call == Call::Fit) {
+        let class = match row.name.starts_with("rv64-") {
+            true => Class::Elf64,
+            false => Class::Elf32,
+        };
+        assert_eq!(Class::of(&row.input.object), Some(class), "{}", row.name);
+    }
 }
 
 #[test]
 fn others() {
-    let object = named("many-symbols-64").input.object;
-    let size = get(&object, get(&object, 32, 4) + 40 * 3 + 20, 4);
-    assert_eq!(size / 16, 1_024);
-    assert_eq!(get(&named("many-sections").input.object, 48, 2), 32);
-    assert_eq!(order_of_types("refused-last-4096").last(), Some(&17));
-    let most = testing::given::objects()
-        .into_iter()
-        .max_by_key(|given| relocations(&given.object).len())
-        .expect("objects");
-    assert_eq!(most.name, "many-relocations");
+    for start in ["", "rv64-"] {
+        let name = |name: &str| format!("{start}{name}");
+        assert_eq!(symbols(&named(&name("many-symbols-64"))), 1_024);
+        let object = named(&name("many-sections")).input.object;
+        let header = Header::read(&object).expect("an object");
+        let object = Object::read(&object, header).expect("an object");
+        assert_eq!(object.sections().len(), 32);
+    }
+    for name in ["refused-last-4096", "rv64-refused-last-2048"] {
+        assert_eq!(order_of_types(name).last(), Some(&17), "{name}");
+    }
+    for class in Class::ALL {
+        let objects = testing::given::objects().into_iter();
+        let objects = objects.filter(|given| Class::of(&given.object) == Some(class));
+        let most = objects
+            .max_by_key(|given| relocations(&given.object).len())
+            .expect("objects");
+        let name = most.name.trim_start_matches("rv64-");
+        assert_eq!(name, "many-relocations", "{class:?}");
+    }
 }

@@ -22,7 +22,7 @@ fn names_the_rows() {
 #[test]
 fn makes_one_call() {
     for fitter in ["library", "comparison"] {
-        for row in ["mixed-64", "falling-4096", "take-back"] {
+        for row in ["mixed-64", "falling-4096", "take-back", "rv64-mixed-64"] {
             let output = run(&["count", fitter, row]);
             assert!(output.status.success(), "{fitter}, {row}");
             assert_eq!(output.stdout, b"");

@@ -42,8 +42,8 @@ impl Pool {
     }
 }
 
-/// Four times any bytes. Often the object begins as an object does, and the
-/// ledger is empty and sound, so that more than the first check is reached.
+/// Four times any bytes. Often the object begins as one of either class does, and
+/// the ledger is empty and sound, so that more than the first check is reached.
 fn raw(random: &mut Random) -> Input {
     let mut input = Input {
         object: some_bytes(random),
@@ -51,9 +51,9 @@ fn raw(random: &mut Random) -> Input {
         image: some_bytes(random),
         journal: some_bytes(random),
     };
-    const START: [u8; 7] = [0x7F, b'E', b'L', b'F', 1, 1, 1];
-    if input.object.len() >= START.len() && random.one_in(2) {
-        input.object[..START.len()].copy_from_slice(&START);
+    let start = [0x7F, b'E', b'L', b'F', random.pick(&[1, 2]), 1, 1];
+    if input.object.len() >= start.len() && random.one_in(2) {
+        input.object[..start.len()].copy_from_slice(&start);
     }
     if random.below(4) != 0 {
         input.journal = journal(random.below(300));
@@ -62,7 +62,7 @@ fn raw(random: &mut Random) -> Input {
 }
 
 fn some_bytes(random: &mut Random) -> Vec<u8> {
-    let most = random.pick(&[1, 20, 52, 200, 1_000]);
+    let most = random.pick(&[1, 20, 52, 64, 200, 1_000]);
     let length = random.below(most);
     random.bytes(length)
 }

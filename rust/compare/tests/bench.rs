@@ -1,8 +1,10 @@
 //! Document 01's "Bench numbers" and "Errors we have met" through the static
-//! library.
+//! library, in both classes, and the numbers of Ticket 1.
 
 use compare::call::{Command, Library, Outcome};
-use testing::build::{journal, object, Fit, Relocation, Section, Symbol, GLOBAL, WEAK};
+use testing::build::{
+    journal, object, order, Class, Fit, Relocation, Section, Symbol, GLOBAL, WEAK,
+};
 use testing::damage::Input;
 
 fn run(input: &Input) -> Outcome {
@@ -10,12 +12,27 @@ fn run(input: &Input) -> Outcome {
     outcome.unwrap_or_else(|wrong| panic!("{wrong}"))
 }
 
-fn answer(fit: &Fit) -> (u32, u32) {
+/// The answer in the fit's own class.
+fn answer_of_one(fit: &Fit) -> (u32, u32) {
     run(&Input::from(fit)).answer
 }
 
-/// The bytes laid for section 1 of a done fit, in hexadecimal.
+/// The answer, which is the same in both classes.
+fn answer(fit: &Fit) -> (u32, u32) {
+    let [first, second] = Class::ALL.map(|class| answer_of_one(&fit.clone().of(class)));
+    assert_eq!(first, second, "class 1 and class 2");
+    first
+}
+
+/// What a done fit lays, which is the same in both classes.
 fn laid(fit: &Fit) -> String {
+    let [first, second] = Class::ALL.map(|class| laid_of_one(&fit.clone().of(class)));
+    assert_eq!(first, second, "class 1 and class 2");
+    first
+}
+
+/// The bytes laid for section 1 of a done fit, in hexadecimal.
+fn laid_of_one(fit: &Fit) -> String {
     let outcome = run(&Input::from(fit));
     assert_eq!(outcome.answer, (0, 0));
     let start = (fit.placements[0].1 - fit.base) as usize;
@@ -24,14 +41,18 @@ fn laid(fit: &Fit) -> String {
 }
 
 /// One relocation of this type at the section's start, towards a target.
-fn one(kind: u8, bytes: &[u8], address: u32, target: u32) -> Fit {
+fn one(kind: u32, bytes: &[u8], address: u64, target: u64) -> Fit {
     let list = [Relocation::new(0, kind, 1, 0)];
     Fit::code(address, bytes, &[Symbol::absolute(target)], &list)
 }
 
-fn laid_word(kind: u8, word: u32, target: u32) -> u32 {
-    let digits = laid(&one(kind, &word.to_le_bytes(), 0x1000, target));
-    u32::from_str_radix(&digits, 16)
+fn laid_word(kind: u32, word: u32, target: u64) -> u32 {
+    number(&laid(&one(kind, &word.to_le_bytes(), 0x1000, target)))
+}
+
+/// The number of four bytes in hexadecimal.
+fn number(digits: &str) -> u32 {
+    u32::from_str_radix(digits, 16)
         .expect("four bytes")
         .swap_bytes()
 }
@@ -43,10 +64,11 @@ fn halves() {
         (lui(0x7FFF_F7FF), addi(0x7FFF_F7FF)),
         (0x7FFF_F537, 0x7FF5_0513)
     );
-    assert_eq!(
-        (lui(0x7FFF_F800), addi(0x7FFF_F800)),
-        (0x8000_0537, 0x8005_0513)
-    );
+    assert_eq!(addi(0x7FFF_F800), 0x8005_0513);
+    // In class 2 this is the first address that the halves do not reach.
+    let last = one(26, &[0x37, 0x05, 0, 0], 0x1000, 0x7FFF_F800);
+    assert_eq!(number(&laid_of_one(&last)), 0x8000_0537);
+    assert_eq!(answer_of_one(&last.of(Class::Elf64)), (13, 0));
     assert_eq!(
         (lui(0x1234_5FFF), addi(0x1234_5FFF)),
         (0x1234_6537, 0xFFF5_0513)
@@ -62,7 +84,7 @@ fn call() {
 #[test]
 fn jal() {
     assert_eq!(laid_word(17, 0xEF, 0x1008), 0x0080_00EF);
-    let to = |distance: u32| one(17, &[0xEF, 0, 0, 0], 0x1000, 0x1000 + distance);
+    let to = |distance: u64| one(17, &[0xEF, 0, 0, 0], 0x1000, 0x1000 + distance);
     assert_eq!(answer(&to(1_048_574)), (0, 0));
     assert_eq!(answer(&to(1_048_576)), (13, 0));
 }
@@ -70,7 +92,7 @@ fn jal() {
 #[test]
 fn branch() {
     assert_eq!(laid_word(16, 0x63, 0x1000 - 4), 0xFE00_0EE3);
-    let to = |distance: u32| one(16, &[0x63, 0, 0, 0], 0x1000, 0x1000 + distance);
+    let to = |distance: u64| one(16, &[0x63, 0, 0, 0], 0x1000, 0x1000 + distance);
     assert_eq!(answer(&to(4_094)), (0, 0));
     assert_eq!(answer(&to(4_096)), (13, 0));
 }
@@ -94,27 +116,46 @@ fn align() {
     assert_eq!(answer(&at(0x1000)), (14, 0));
 }
 
-#[test]
-fn order_and_ledger_bytes() {
-    let mut image = vec![0; 16];
-    image[8..12].copy_from_slice(&[0xAA, 0xBB, 0xCC, 0xDD]);
-    let outcome = run(&Input {
-        object: object(&[Section::default(), Section::loaded(4, &[1, 2, 3, 4])]),
-        order: vec![
+/// The bench order, and the same for an object of class 2.
+const ORDERS: [(Class, &[u8]); 2] = [
+    (
+        Class::Elf32,
+        &[
             1, 0, 0, 0, 0, 0, 0, 0x20, 1, 0, 0, 0, 1, 0, 0, 0, 8, 0, 0, 0x20, 0, 0, 0, 0,
         ],
-        image,
-        journal: journal(4),
-    });
-    let mut expected = vec![1, 0, 0, 0, 8, 0, 0, 0, 4, 0, 0, 0];
-    expected.extend([0; 120]);
-    expected.extend([4, 0, 0, 0, 0xAA, 0xBB, 0xCC, 0xDD]);
-    assert_eq!(outcome.answer, (0, 0));
-    assert_eq!(outcome.journal, expected);
-    assert_eq!(
-        outcome.image,
-        [0, 0, 0, 0, 0, 0, 0, 0, 1, 2, 3, 4, 0, 0, 0, 0]
-    );
+    ),
+    (
+        Class::Elf64,
+        &[
+            1, 0, 0, 0, 0, 0, 0, 0x20, 0, 0, 0, 0, 1, 0, 0, 0, 1, 0, 0, 0, 8, 0, 0, 0x20, 0, 0, 0,
+            0, 0, 0, 0, 0,
+        ],
+    ),
+];
+
+#[test]
+fn order_and_ledger_bytes() {
+    for (class, bytes) in ORDERS {
+        assert_eq!(order(class, 0x2000_0000, &[(1, 0x2000_0008)], &[]), bytes);
+        let sections = [Section::default(), Section::loaded(4, &[1, 2, 3, 4])];
+        let mut image = vec![0; 16];
+        image[8..12].copy_from_slice(&[0xAA, 0xBB, 0xCC, 0xDD]);
+        let outcome = run(&Input {
+            object: object(class, &sections),
+            order: bytes.to_vec(),
+            image,
+            journal: journal(4),
+        });
+        let mut expected = vec![1, 0, 0, 0, 8, 0, 0, 0, 4, 0, 0, 0];
+        expected.extend([0; 120]);
+        expected.extend([4, 0, 0, 0, 0xAA, 0xBB, 0xCC, 0xDD]);
+        assert_eq!(outcome.answer, (0, 0));
+        assert_eq!(outcome.journal, expected);
+        assert_eq!(
+            outcome.image,
+            [0, 0, 0, 0, 0, 0, 0, 0, 1, 2, 3, 4, 0, 0, 0, 0]
+        );
+    }
 }
 
 fn code(words: &[u32]) -> Vec<u8> {
@@ -158,4 +199,45 @@ fn stacked_from_what_the_first_left() {
     let list = [Relocation::new(0, 35, 1, 0), Relocation::new(0, 39, 2, 0)];
     let fit = Fit::code(0x1000, &[7, 0, 0, 0], &symbols, &list);
     assert_eq!(laid(&fit), "07020000");
+}
+
+/// Ticket 1: "lies in -2,147,485,696..2,147,481,599, else 13", both ends and one
+/// step past each.
+#[test]
+fn ends_of_the_halves() {
+    let place: u64 = 0x8000_0000_0000_1000;
+    let over = |distance| {
+        let target = place.wrapping_add_signed(distance);
+        one(23, &[0x17, 0x05, 0, 0], place, target).of(Class::Elf64)
+    };
+    assert_eq!(answer_of_one(&over(-2_147_485_697)), (13, 0));
+    assert_eq!(number(&laid_of_one(&over(-2_147_485_696))), 0x8000_0517);
+    assert_eq!(number(&laid_of_one(&over(2_147_481_599))), 0x7FFF_F517);
+    assert_eq!(answer_of_one(&over(2_147_481_600)), (13, 0));
+}
+
+/// Type 2 with T above 2^63.
+#[test]
+fn word_64() {
+    let fit = one(2, &[0; 8], 0x1000, 0xFEDC_BA98_7654_3210);
+    let laid = laid_of_one(&fit.clone().of(Class::Elf64));
+    assert_eq!(laid, "1032547698badcfe");
+    assert_eq!(answer_of_one(&fit), (9, 0));
+}
+
+/// addiw a0, a0, 0.
+#[test]
+fn addiw() {
+    let fit = one(27, &[0x1B, 0x05, 0x05, 0], 0x1000, 0x1234_5FFF);
+    let laid = laid_of_one(&fit.clone().of(Class::Elf64));
+    assert_eq!(number(&laid), 0xFFF5_051B);
+    assert_eq!(answer_of_one(&fit), (11, 0));
+}
+
+/// C.JAL's number is C.ADDIW in class 2.
+#[test]
+fn compressed_jal() {
+    let fit = one(45, &[0x01, 0x20], 0x1000, 0x1000 - 2);
+    assert_eq!(laid_of_one(&fit), "fd3f");
+    assert_eq!(answer_of_one(&fit.of(Class::Elf64)), (11, 0));
 }

@@ -2,7 +2,7 @@
 //! all as before after a rollback.
 
 use compare::call::{Command, Library};
-use testing::build::journal;
+use testing::build::{journal, Class};
 use testing::damage::Input;
 use testing::given::{objects, Given};
 
@@ -39,7 +39,11 @@ fn wrong(library: &mut Library, given: Given) -> Option<String> {
 fn installs_what_ld_lays() {
     let library = &mut Library::new();
     let objects = objects();
-    assert!(objects.len() >= 63, "{} objects", objects.len());
+    for class in Class::ALL {
+        let own = objects.iter().map(|given| Class::of(&given.object));
+        let count = own.filter(|own| *own == Some(class)).count();
+        assert!(count >= 63, "{count} objects, {class:?}");
+    }
     let mut faults = Vec::new();
     for given in objects {
         let name = given.name.clone();

@@ -5,7 +5,7 @@ use aktinoph::{Answer, Calls};
 use compare::replay::{as_by_model, code, Replays, State};
 use compare::Compare;
 use testing::answer;
-use testing::build::{journal, Fit};
+use testing::build::{journal, Class, Fit};
 use testing::lists::{histories, list, malformed, Listed};
 use testing::sample::Call;
 
@@ -64,8 +64,8 @@ fn vectors() {
 }
 
 /// A fit that is done, and what it is done on.
-fn good(places: usize) -> (Call, State) {
-    let fit = Fit::code(0x1000, &[1, 2, 3, 4, 5, 6, 7, 8], &[], &[]);
+fn good(class: Class, places: usize) -> (Call, State) {
+    let fit = Fit::code(0x1000, &[1, 2, 3, 4, 5, 6, 7, 8], &[], &[]).of(class);
     let call = Call {
         object: fit.object(),
         order: fit.order(),
@@ -81,12 +81,14 @@ fn good(places: usize) -> (Call, State) {
 #[test]
 fn malformed_lists() {
     let replays = &mut Replays::new();
-    for places in [0, 2, 3, 4] {
-        let (call, before) = good(places);
-        for (what, bytes) in malformed(&call) {
-            let outcome = replays.compare(&bytes, &before);
-            let outcome = outcome.unwrap_or_else(|wrong| panic!("{what}: {wrong}"));
-            assert_eq!(outcome, (false, before.clone()), "{what}");
+    for class in Class::ALL {
+        for places in [0, 2, 3, 4] {
+            let (call, before) = good(class, places);
+            for (what, bytes) in malformed(&call) {
+                let outcome = replays.compare(&bytes, &before);
+                let outcome = outcome.unwrap_or_else(|wrong| panic!("{what}: {wrong}"));
+                assert_eq!(outcome, (false, before.clone()), "{what}");
+            }
         }
     }
 }
@@ -97,7 +99,8 @@ fn places() {
     let replays = &mut Replays::new();
     for count in 0..4 {
         for places in 0..6 {
-            let (call, before) = good(places);
+            let class = Class::ALL[places % 2];
+            let (call, before) = good(class, places);
             let calls = vec![Listed::Fit(call); count];
             let outcome = replays.compare(&list(&calls), &before);
             let (is_run, after) = outcome.expect("no difference");
@@ -110,15 +113,18 @@ fn places() {
     }
 }
 
-/// Seventeen fits and eighteen takings-back, in one list.
+/// Seventeen fits, now of class 1 and now of class 2, and eighteen takings-back,
+/// in one list.
 #[test]
 fn a_full_ledger() {
-    let (call, before) = good(35);
+    let (call, before) = good(Class::Elf32, 35);
+    let (other, _) = good(Class::Elf64, 35);
     let before = State {
         journal: journal(1_000),
         ..before
     };
-    let mut calls = vec![Listed::Fit(call); 17];
+    let both = [call, other].map(Listed::Fit);
+    let mut calls: Vec<Listed> = both.into_iter().cycle().take(17).collect();
     calls.extend(vec![Listed::TakeBack; 18]);
     let outcome = Replays::new().compare(&list(&calls), &before);
     let (is_run, after) = outcome.expect("no difference");

@@ -2,14 +2,14 @@
 
 use aktinoph::{Calls, STACK};
 use compare::stack::needed;
-use testing::build::{journal, object, order, Relocation, Section, Symbol};
+use testing::build::{journal, object, order, Class, Relocation, Section, Symbol};
 use testing::given::objects;
 
-const PCREL_HI20: u8 = 23;
-const PCREL_LO12_I: u8 = 24;
+const PCREL_HI20: u32 = 23;
+const PCREL_LO12_I: u32 = 24;
 const AUIPC: u32 = 0x517;
 const ADDI: u32 = 0x50513;
-const BASE: u32 = 0x2000_0000;
+const BASE: u64 = 0x2000_0000;
 
 /// The stack of a fit, and of a list that has it and its taking-back.
 fn of_both(object: &[u8], order: &[u8], length: usize) -> (usize, usize) {
@@ -29,7 +29,7 @@ fn of_both(object: &[u8], order: &[u8], length: usize) -> (usize, usize) {
 
 /// A low half before high halves whose offsets fall, so that their list is
 /// sorted.
-fn falling() -> (Vec<u8>, Vec<u8>) {
+fn falling(class: Class) -> (Vec<u8>, Vec<u8>, usize) {
     let words = [AUIPC, ADDI, AUIPC].map(u32::to_le_bytes);
     let relocations = [
         Relocation::new(4, PCREL_LO12_I, 1, 0),
@@ -42,16 +42,16 @@ fn falling() -> (Vec<u8>, Vec<u8>) {
         Section::symbols(&[Symbol::default(), Symbol::new(0, 1, 0)]),
         Section::relocations(1, 2, &relocations),
     ];
-    (object(&sections), order(BASE, &[(1, BASE)], &[]))
+    let order = order(class, BASE, &[(1, BASE)], &[]);
+    (object(class, &sections), order, 64)
 }
 
 #[test]
 fn at_most_what_is_said() {
     let given = objects().into_iter();
     let given = given.map(|given| (given.object, given.order, given.image_length));
-    let (object, order) = falling();
     let (mut fit, mut list) = (0, 0);
-    for (object, order, length) in given.chain([(object, order, 64)]) {
+    for (object, order, length) in given.chain(Class::ALL.map(falling)) {
         let (one, other) = of_both(&object, &order, length);
         (fit, list) = (fit.max(one), list.max(other));
     }

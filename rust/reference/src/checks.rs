@@ -1,5 +1,5 @@
-//! "When the fitter says no": the checks in document 01's order, a line each,
-//! with the number that a broken one gives.
+//! "When the fitter says no": the checks in their order, a line each, with the
+//! number that a broken one gives.
 
 use crate::journal::{self, Standing};
 use crate::object::{Header, Object};
@@ -16,12 +16,15 @@ use crate::symbol::Symbols;
 use crate::Answer;
 
 /// Checks 2 to 14: everything that depends on object, order and image length
-/// alone. Gives the first broken check, or what to lay.
+/// alone. Gives the first broken check, or what to lay. "the class is read
+/// before the order, so the checks run 1, 4, 2, 3, 5 for both classes"
 #[rustfmt::skip]
 pub fn judge(object: &[u8], order: &[u8], image_length: usize) -> Result<Plan, Answer> {
-    let order = read(2, Order::read(order))?;                       // order bytes malformed
-    let window = read(3, Window::new(order.base, image_length))?;   // window rule broken
     let header = read(4, Header::read(object))?;                    // header or file length
+    let class = header.class;
+    let order = read(2, Order::read(order, class))?;                // order bytes malformed
+    let window = Window::new(order.base, image_length, class);
+    let window = read(3, window)?;                                  // window rule broken
     let object = read_at(5, Object::read(object, header))?;         // row table or row rule
     broken_at(6, lowest_differing_section(&object, &order))?;       // placements differ
     broken_at(7, lowest_wrong_external(&object, &order))?;          // outside value, wrong symbol

@@ -3,7 +3,8 @@
 
 use std::ops::RangeInclusive;
 
-use crate::numbers::{number_from, write_number, Whole, ADDRESS_END};
+use crate::class::Class;
+use crate::numbers::{number_from, write_number, Whole};
 
 /// "High half of x: (x + 2,048) / 4,096 rounded down, modulo 2^20."
 pub fn high_half(x: Whole) -> Whole {
@@ -11,14 +12,9 @@ pub fn high_half(x: Whole) -> Whole {
 }
 
 /// "Low half: x minus 4,096 times that, as a number from -2,048 to 2,047
-/// modulo 2^32."
+/// modulo 2^32." It is the same for x modulo 2^64.
 pub fn low_half(x: Whole) -> Whole {
-    let rest = (x - 4_096 * high_half(x)).rem_euclid(ADDRESS_END);
-    if rest < ADDRESS_END / 2 {
-        rest
-    } else {
-        rest - ADDRESS_END
-    }
+    Class::Elf32.signed(x - 4_096 * high_half(x))
 }
 
 /// Bits `high` to `low` of a field's number stand in the word from bit `at` on.

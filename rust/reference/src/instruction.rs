@@ -1,6 +1,7 @@
 //! The instruction forms that relocation types ask for (check 11), "as found in
 //! the object".
 
+use crate::class::Class;
 use crate::fields::bits;
 use crate::numbers::{number_from, Whole};
 
@@ -17,7 +18,8 @@ pub enum Form {
     Jal,
     /// "BRANCH 0x63"
     Branch,
-    /// "_I 0x03, 0x07, 0x13 or 0x67 (the last two with funct3 0)"
+    /// "_I 0x03, 0x07, 0x13 or 0x67 (the last two with funct3 0)". "In class 2,
+    /// opcode 0x1B with funct3 0 joins the _I forms"
     LowI,
     /// "_S 0x23 or 0x27"
     LowS,
@@ -26,13 +28,15 @@ pub enum Form {
     Call,
     /// "RVC_BRANCH quadrant 1 funct3 6 or 7"
     CompressedBranch,
-    /// "RVC_JUMP quadrant 1 funct3 1 or 5"
+    /// "RVC_JUMP quadrant 1 funct3 1 or 5". In class 2, "RVC_JUMP funct3 1 gives
+    /// 11"
     CompressedJump,
 }
 
 impl Form {
     /// Whether the bytes, as many as the field has, are of this form.
-    pub fn matches(self, bytes: &[u8]) -> bool {
+    pub fn matches(self, bytes: &[u8], class: Class) -> bool {
+        let is_64 = class == Class::Elf64;
         let word = Whole::from(number_from(bytes));
         match self {
             Form::Any => true,
@@ -43,12 +47,17 @@ impl Form {
             Form::LowI => match opcode(word) {
                 0x03 | 0x07 => true,
                 0x13 | 0x67 => funct3(word) == 0,
+                0x1B => is_64 && funct3(word) == 0,
                 _ => false,
             },
             Form::LowS => matches!(opcode(word), 0x23 | 0x27),
             Form::Call => is_call(bits(word, 31, 0), bits(word, 63, 32)),
             Form::CompressedBranch => quadrant(word) == 1 && matches!(rvc_funct3(word), 6 | 7),
-            Form::CompressedJump => quadrant(word) == 1 && matches!(rvc_funct3(word), 1 | 5),
+            Form::CompressedJump => match rvc_funct3(word) {
+                1 => quadrant(word) == 1 && !is_64,
+                5 => quadrant(word) == 1,
+                _ => false,
+            },
         }
     }
 }

@@ -1,8 +1,10 @@
-//! A second fitter, written from document 01 alone and kept as close to its
-//! sentences as code can be.
+//! A second fitter, written from document 01 and Ticket 1 of document 02 alone,
+//! and kept as close to their sentences as code can be. One body of code is for
+//! both classes of object: what differs between them is asked of the class.
 //!
 //! | part of document 01 | module | checks |
 //! |---|---|---|
+//! | Ticket 1: the two classes | [`class`] | |
 //! | What the object may hold | [`object`] | 4, 5 |
 //! | Order, window and ledger | [`order`], [`journal`] | 2, 3; 1, 15, 16 |
 //! | Placing | [`placement`] | 6, 7, 8 |
@@ -17,12 +19,13 @@
 //! | A list of calls, as bytes | [`calls`] | |
 //!
 //! The words are the field's; the comment at each definition has document
-//! 01's term. Quoted sentences in comments are document 01's.
+//! 01's term. Quoted sentences in comments are document 01's, or Ticket 1's.
 
 #![forbid(unsafe_code)]
 
 pub mod calls;
 pub mod checks;
+pub mod class;
 pub mod fields;
 pub mod history;
 pub mod instruction;
@@ -38,6 +41,7 @@ pub mod symbol;
 
 pub use calls::replay;
 pub use checks::{install, judge, rollback};
+pub use class::Class;
 pub use journal::Span;
 pub use plan::{Piece, Plan};
 

@@ -2,24 +2,23 @@
 //! must not be mixed: "a file offset, a row offset and a run-time address are
 //! three types".
 
+use crate::class::Class;
+
 /// A whole number, wide enough that no sum or difference of document 01 leaves
 /// it; every reduction is written out.
 pub type Whole = i128;
 
-/// 2^32, the end of the address space and the modulus of T.
-pub const ADDRESS_END: Whole = 1 << 32;
-
 /// Counts from the object's first byte.
 #[derive(Clone, Copy, PartialEq, Eq, PartialOrd, Ord, Debug)]
-pub struct FileOffset(pub u32);
+pub struct FileOffset(pub u64);
 
 /// Counts from a section's first byte. Document 01: row offset.
 #[derive(Clone, Copy, PartialEq, Eq, PartialOrd, Ord, Debug)]
-pub struct SectionOffset(pub u32);
+pub struct SectionOffset(pub u64);
 
 /// A run-time address.
 #[derive(Clone, Copy, PartialEq, Eq, PartialOrd, Ord, Debug)]
-pub struct Address(pub u32);
+pub struct Address(pub u64);
 
 /// The number of `N` bytes at `offset`, if they are all there.
 fn chunk_at<const N: usize>(bytes: &[u8], offset: usize) -> Option<[u8; N]> {
@@ -34,8 +33,8 @@ pub fn u32_at(bytes: &[u8], offset: usize) -> Option<u32> {
     chunk_at(bytes, offset).map(u32::from_le_bytes)
 }
 
-pub fn i32_at(bytes: &[u8], offset: usize) -> Option<i32> {
-    chunk_at(bytes, offset).map(i32::from_le_bytes)
+pub fn u64_at(bytes: &[u8], offset: usize) -> Option<u64> {
+    chunk_at(bytes, offset).map(u64::from_le_bytes)
 }
 
 /// The whole of up to eight bytes as one number.
@@ -60,6 +59,13 @@ impl<'a> Unread<'a> {
     pub(crate) fn next_u32(&mut self) -> Option<u32> {
         let number = u32_at(self.0, 0)?;
         self.0 = &self.0[4..];
+        Some(number)
+    }
+
+    /// A number that is as long as an address of the class.
+    pub(crate) fn next_number(&mut self, class: Class) -> Option<u64> {
+        let number = class.number_at(self.0, 0)?;
+        self.0 = &self.0[class.address_bytes()..];
         Some(number)
     }
 

@@ -1,9 +1,10 @@
 //! "What the object may hold": the ELF header (check 4), the section header
 //! table and the rules of its sections (check 5).
 
-use crate::numbers::{u16_at, u32_at, FileOffset};
-use crate::relocation::{Relocation, RELOCATION_SIZE};
-use crate::symbol::{SymbolTable, MAX_SYMBOLS, SYMBOL_SIZE};
+use crate::class::Class;
+use crate::numbers::{u16_at, u32_at, FileOffset, Whole};
+use crate::relocation::Relocation;
+use crate::symbol::{SymbolTable, MAX_SYMBOLS};
 use crate::MAX_BYTES;
 
 /// Document 01: at most 32 rows.
@@ -18,14 +19,13 @@ pub const RELA: u32 = 4;
 pub const NOBITS: u32 = 8;
 pub const REL: u32 = 9;
 
-const HEADER_SIZE: usize = 52;
-const SECTION_HEADER_SIZE: usize = 40;
 /// "flag bit 2 (value 2)"
-const ALLOCATED: u32 = 2;
+const ALLOCATED: u64 = 2;
 
 /// What later checks need of a header that passed check 4.
 #[derive(Clone, Copy, Debug)]
 pub struct Header {
+    pub class: Class,
     section_table: FileOffset,
     section_entry_size: u16,
     section_count: u16,
@@ -34,37 +34,38 @@ pub struct Header {
 impl Header {
     /// Check 4: `None` where "header or file length" is wrong.
     pub fn read(file: &[u8]) -> Option<Header> {
+        let class = Class::of(file)?;
+        let layout = class.layout();
         let ident_and_versions = file.len() <= MAX_BYTES
-            && file.len() >= HEADER_SIZE
+            && file.len() >= layout.header_size
             && file[0..4] == [0x7F, 0x45, 0x4C, 0x46]
-            && file[4] == 1 // class
             && file[5] == 1 // data
             && file[6] == 1 // ident version
             && u16_at(file, 16)? == 1 // e_type
             && u16_at(file, 18)? == 243 // e_machine
             && u32_at(file, 20)? == 1 // e_version
-            && u16_at(file, 40)? == 52; // e_ehsize
+            && usize::from(u16_at(file, layout.e_ehsize)?) == layout.header_size;
         if !ident_and_versions {
             return None;
         }
         Some(Header {
-            section_table: FileOffset(u32_at(file, 32)?),
-            section_entry_size: u16_at(file, 46)?,
-            section_count: u16_at(file, 48)?,
+            class,
+            section_table: FileOffset(class.number_at(file, layout.e_shoff)?),
+            section_entry_size: u16_at(file, layout.e_shentsize)?,
+            section_count: u16_at(file, layout.e_shnum)?,
         })
     }
 
     /// Check 5 at place 0: "e_shentsize 40, 1 to 32 rows of 40 bytes, wholly
-    /// inside the file".
+    /// inside the file"; of 64 bytes in class 2.
     fn section_table<'a>(&self, file: &'a [u8]) -> Option<&'a [u8]> {
         let count = usize::from(self.section_count);
-        if usize::from(self.section_entry_size) != SECTION_HEADER_SIZE
-            || !(1..=MAX_SECTIONS).contains(&count)
-        {
+        let size = self.class.layout().section_header_size;
+        if usize::from(self.section_entry_size) != size || !(1..=MAX_SECTIONS).contains(&count) {
             return None;
         }
-        let start = self.section_table.0 as usize;
-        file.get(start..start + count * SECTION_HEADER_SIZE)
+        let behind = file.get(usize::try_from(self.section_table.0).ok()?..)?;
+        behind.get(..count * size)
     }
 }
 
@@ -72,26 +73,28 @@ impl Header {
 #[derive(Clone, Copy, Debug)]
 pub struct Section {
     pub kind: u32,
-    pub flags: u32,
+    pub flags: u64,
     pub offset: FileOffset,
-    pub size: u32,
+    pub size: u64,
     pub link: u32,
     pub info: u32,
-    pub alignment: u32,
-    pub entry_size: u32,
+    pub alignment: u64,
+    pub entry_size: u64,
 }
 
 impl Section {
-    fn read(header: &[u8]) -> Option<Section> {
+    fn read(header: &[u8], class: Class) -> Option<Section> {
+        let layout = class.layout();
+        let number_at = |at| class.number_at(header, at);
         Some(Section {
             kind: u32_at(header, 4)?,
-            flags: u32_at(header, 8)?,
-            offset: FileOffset(u32_at(header, 16)?),
-            size: u32_at(header, 20)?,
-            link: u32_at(header, 24)?,
-            info: u32_at(header, 28)?,
-            alignment: u32_at(header, 32)?,
-            entry_size: u32_at(header, 36)?,
+            flags: number_at(layout.sh_flags)?,
+            offset: FileOffset(number_at(layout.sh_offset)?),
+            size: number_at(layout.sh_size)?,
+            link: u32_at(header, layout.sh_link)?,
+            info: u32_at(header, layout.sh_info)?,
+            alignment: number_at(layout.sh_addralign)?,
+            entry_size: number_at(layout.sh_entsize)?,
         })
     }
 
@@ -109,6 +112,7 @@ impl Section {
 /// An object that passed checks 4 and 5.
 #[derive(Debug)]
 pub struct Object<'a> {
+    class: Class,
     file: &'a [u8],
     sections: Vec<Section>,
 }
@@ -127,16 +131,24 @@ impl<'a> Object<'a> {
     /// the lowest section that breaks a rule.
     pub fn read(file: &'a [u8], header: Header) -> Result<Object<'a>, u32> {
         let table = header.section_table(file).ok_or(0_u32)?;
-        let sections = table
-            .chunks_exact(SECTION_HEADER_SIZE)
-            .filter_map(Section::read)
-            .collect();
-        let object = Object { file, sections };
+        let class = header.class;
+        let object = Object {
+            class,
+            file,
+            sections: table
+                .chunks_exact(class.layout().section_header_size)
+                .filter_map(|header| Section::read(header, class))
+                .collect(),
+        };
         let broken = |index: &usize| SECTION_RULES.iter().any(|holds| !holds(&object, *index));
         match (0..object.sections.len()).find(broken) {
             Some(index) => Err(index as u32),
             None => Ok(object),
         }
+    }
+
+    pub fn class(&self) -> Class {
+        self.class
     }
 
     pub fn sections(&self) -> &[Section] {
@@ -164,7 +176,7 @@ impl<'a> Object<'a> {
     /// The entries of the SYMTAB, if there is one.
     pub fn symbol_table(&self) -> Option<SymbolTable<'a>> {
         let section = &self.sections[self.lowest_symbol_table()?];
-        Some(SymbolTable::new(self.bytes_of(section)))
+        Some(SymbolTable::new(self.class, self.bytes_of(section)))
     }
 
     /// The counting RELA sections, upward.
@@ -173,7 +185,7 @@ impl<'a> Object<'a> {
         counting
             .map(|section| RelocationSection {
                 target: section.info as usize,
-                relocations: Relocation::read_all(self.bytes_of(section)),
+                relocations: Relocation::read_all(self.bytes_of(section), self.class),
             })
             .collect()
     }
@@ -210,8 +222,8 @@ fn section_0_is_null(object: &Object, index: usize) -> bool {
 /// "Except for NULL and NOBITS, offset + size stays inside the file."
 fn stays_inside_the_file(object: &Object, index: usize) -> bool {
     let section = &object.sections[index];
-    let end = u64::from(section.offset.0) + u64::from(section.size);
-    matches!(section.kind, NULL | NOBITS) || end <= object.file.len() as u64
+    let end = Whole::from(section.offset.0) + Whole::from(section.size);
+    matches!(section.kind, NULL | NOBITS) || end <= object.file.len() as Whole
 }
 
 /// "An allocated row has alignment 0, or an alignment with exactly one bit
@@ -224,14 +236,15 @@ fn allocated_section_is_well_formed(object: &Object, index: usize) -> bool {
 }
 
 /// "At most one SYMTAB: entry size 16, whole entries, at most 1,024. The
-/// higher row of two is at fault."
+/// higher row of two is at fault." Entry size 24 in class 2.
 fn symbol_table_is_well_formed(object: &Object, index: usize) -> bool {
     let section = &object.sections[index];
+    let symbol_size = object.class.layout().symbol_size as u64;
     section.kind != SYMTAB
         || (object.lowest_symbol_table() == Some(index)
-            && section.entry_size == SYMBOL_SIZE
-            && section.size.is_multiple_of(SYMBOL_SIZE)
-            && section.size / SYMBOL_SIZE <= MAX_SYMBOLS)
+            && section.entry_size == symbol_size
+            && section.size.is_multiple_of(symbol_size)
+            && section.size / symbol_size <= u64::from(MAX_SYMBOLS))
 }
 
 /// "A counting REL is refused."
@@ -242,15 +255,16 @@ fn is_no_counting_rel(object: &Object, index: usize) -> bool {
 
 /// "A counting RELA has entry size 12, whole entries, links to the SYMTAB (the
 /// lowest, if there are two), and targets a laid row that no lower counting
-/// RELA targets."
+/// RELA targets." Entry size 24 in class 2.
 fn counting_rela_is_well_formed(object: &Object, index: usize) -> bool {
     let section = &object.sections[index];
     if section.kind != RELA || !object.is_counting(section) {
         return true;
     }
+    let relocation_size = object.class.layout().relocation_size as u64;
     let lower = || counting_rela_sections(&object.sections[..index], object);
-    section.entry_size == RELOCATION_SIZE
-        && section.size.is_multiple_of(RELOCATION_SIZE)
+    section.entry_size == relocation_size
+        && section.size.is_multiple_of(relocation_size)
         && object.lowest_symbol_table() == Some(section.link as usize)
         && object.section(section.info).is_some_and(Section::is_loaded)
         && !lower().any(|other| other.info == section.info)
@@ -260,8 +274,9 @@ fn counting_rela_is_well_formed(object: &Object, index: usize) -> bool {
 /// "All counting RELA rows together hold at most 4,096 records; the row that
 /// passes this is at fault." Here: how many the rows up to this one hold.
 fn relocations_up_to(index: usize, object: &Object) -> u64 {
+    let relocation_size = object.class.layout().relocation_size as u64;
     counting_rela_sections(&object.sections[..=index], object)
-        .map(|section| u64::from(section.size / RELOCATION_SIZE))
+        .map(|section| section.size / relocation_size)
         .sum()
 }
 

@@ -1,6 +1,7 @@
 //! The order's format (check 2) and the window (check 3).
 
-use crate::numbers::{Address, Unread, Whole, ADDRESS_END};
+use crate::class::Class;
+use crate::numbers::{Address, Unread, Whole};
 use crate::object::MAX_SECTIONS;
 use crate::symbol::MAX_SYMBOLS;
 use crate::MAX_BYTES;
@@ -16,7 +17,7 @@ pub struct Placement {
 #[derive(Clone, Copy, PartialEq, Eq, Debug)]
 pub struct ExternalValue {
     pub symbol: u32,
-    pub value: u32,
+    pub value: u64,
 }
 
 /// An order whose bytes passed check 2.
@@ -28,12 +29,12 @@ pub struct Order {
 }
 
 impl Order {
-    /// Check 2: `None` where "order bytes malformed".
-    pub fn read(bytes: &[u8]) -> Option<Order> {
+    /// Check 2: `None` where "order bytes malformed". The class is the object's.
+    pub fn read(bytes: &[u8], class: Class) -> Option<Order> {
         let mut rest = Unread(bytes);
-        let base = rest.window_base()?;
-        let placements = rest.ascending_pairs(MAX_SECTIONS as u32)?;
-        let external_values = rest.ascending_pairs(MAX_SYMBOLS)?;
+        let base = rest.window_base(class)?;
+        let placements = rest.ascending_pairs(MAX_SECTIONS as u32, class)?;
+        let external_values = rest.ascending_pairs(MAX_SYMBOLS, class)?;
         rest.end()?;
         let placement = |(section, address)| Placement {
             section,
@@ -48,25 +49,26 @@ impl Order {
     }
 }
 
-/// "sections in a fixed order, each after its u32 count"
+/// "sections in a fixed order, each after its u32 count". "The order's base,
+/// addresses and values become u64" for an object of class 2.
 impl Unread<'_> {
     /// "window base (count 1; one u32)"
-    fn window_base(&mut self) -> Option<Address> {
+    fn window_base(&mut self, class: Class) -> Option<Address> {
         let count = self.next_u32()?;
-        let base = self.next_u32()?;
+        let base = self.next_number(class)?;
         (count == 1).then_some(Address(base))
     }
 
     /// A list of an index and a number each. "Both lists strictly ascending by
     /// index"
-    fn ascending_pairs(&mut self, limit: u32) -> Option<Vec<(u32, u32)>> {
+    fn ascending_pairs(&mut self, limit: u32, class: Class) -> Option<Vec<(u32, u64)>> {
         let count = self.next_u32()?;
         if count > limit {
             return None;
         }
         let mut pairs = Vec::new();
         for _ in 0..count {
-            pairs.push((self.next_u32()?, self.next_u32()?));
+            pairs.push((self.next_u32()?, self.next_number(class)?));
         }
         let ascending = pairs.windows(2).all(|two| two[0].0 < two[1].0);
         ascending.then_some(pairs)
@@ -82,18 +84,18 @@ pub struct Window {
 
 impl Window {
     /// Check 3: `None` where "window rule broken". "length 0 to 65,536, end at
-    /// most 2^32"
-    pub fn new(base: Address, image_length: usize) -> Option<Window> {
+    /// most 2^32", or 2^64
+    pub fn new(base: Address, image_length: usize, class: Class) -> Option<Window> {
         if !is_allowed_length(image_length) {
             return None;
         }
         let length = image_length as Whole;
-        let ends_in_time = Whole::from(base.0) + length <= ADDRESS_END;
+        let ends_in_time = Whole::from(base.0) + length <= class.address_end();
         ends_in_time.then_some(Window { base, length })
     }
 
     /// Whether `size` bytes from `address` on all lie in the window.
-    pub fn covers(&self, address: Address, size: u32) -> bool {
+    pub fn covers(&self, address: Address, size: u64) -> bool {
         let start = self.position(address);
         0 <= start && start + Whole::from(size) <= self.length
     }

@@ -1,7 +1,7 @@
 //! Placements against sections (check 6), external values against symbols
 //! (check 7), and "Placing" (check 8).
 
-use crate::numbers::{Address, Whole, ADDRESS_END};
+use crate::numbers::{Address, Whole};
 use crate::object::{Object, Section, MAX_SECTIONS};
 use crate::order::{Order, Window};
 use crate::symbol::UNDEFINED;
@@ -48,7 +48,7 @@ pub fn lowest_misplaced(object: &Object, addresses: Addresses, window: Window) -
     let (index, _) = object.allocated().find(|(index, section)| {
         let address = addresses[*index];
         !is_aligned(section, address)
-            || end(section, address) > ADDRESS_END
+            || end(section, address) > object.class().address_end()
             || (has_loaded_bytes(section) && !window.covers(address, section.size))
             || meets_lower_section(object, addresses, *index)
     })?;
@@ -60,7 +60,7 @@ fn is_aligned(section: &Section, address: Address) -> bool {
     address.0.is_multiple_of(section.alignment.max(1))
 }
 
-/// The first address behind a section. "the row ends at or below 2^32"
+/// The first address behind a section. "the row ends at or below 2^32", or 2^64
 fn end(section: &Section, address: Address) -> Whole {
     Whole::from(address.0) + Whole::from(section.size)
 }

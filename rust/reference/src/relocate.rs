@@ -1,9 +1,10 @@
 //! "How a record is read": the rules of one relocation (checks 9 to 14), and
 //! the bytes of a section after its relocations.
 
-use crate::numbers::{Whole, ADDRESS_END};
+use crate::class::Class;
+use crate::numbers::Whole;
 use crate::object::{RelocationSection, Section};
-use crate::relocation::{Calculation, Effect, Patch, Relocation};
+use crate::relocation::{effect_of, Calculation, Effect, Patch, Relocation};
 use crate::symbol::Symbols;
 
 /// One relocation with everything that its rules look at.
@@ -21,8 +22,12 @@ impl<'a> RelaEntry<'a> {
         &self.list.relocations[self.index]
     }
 
+    fn class(&self) -> Class {
+        self.symbols.object.class()
+    }
+
     fn effect(&self) -> Effect {
-        self.relocation().effect()
+        effect_of(self.relocation().kind, self.class())
     }
 
     /// What a non-marker does; `None` for a marker and a refused type.
@@ -63,9 +68,9 @@ impl<'a> RelaEntry<'a> {
         Some(self.symbols.value(self.relocation().symbol)? + self.addend())
     }
 
-    /// "S + A is reduced modulo 2^32, then called T."
+    /// "S + A is reduced modulo 2^32, then called T." In class 2, "modulo 2^64".
     fn t(&self) -> Option<Whole> {
-        Some(self.s_plus_a()?.rem_euclid(ADDRESS_END))
+        Some(self.s_plus_a()?.rem_euclid(self.class().address_end()))
     }
 
     /// "the distance is the whole number T - P"
@@ -88,7 +93,7 @@ impl<'a> RelaEntry<'a> {
     /// one PCREL_HI20 record whose offset equals that value, among the same
     /// RELA row's records."
     fn hi20_pair(&self) -> Option<RelaEntry<'a>> {
-        const PCREL_HI20: u8 = 23;
+        const PCREL_HI20: u32 = 23;
         let label = self.symbols.entry(self.relocation().symbol)?;
         let rela = *self;
         let all = (0..self.list.relocations.len()).map(|index| RelaEntry { index, ..rela });
@@ -175,7 +180,8 @@ pub fn instruction_form_is_wrong(rela: &RelaEntry) -> bool {
     rela.patch().is_some_and(|patch| {
         let bytes = object.bytes_of(rela.target());
         let found = &bytes[rela.offset() as usize..rela.end() as usize];
-        patch.form != Form::Any && (rela.place().rem_euclid(2) != 0 || !patch.form.matches(found))
+        let is_even = rela.place().rem_euclid(2) == 0;
+        patch.form != Form::Any && !(is_even && patch.form.matches(found, rela.class()))
     })
 }
 
@@ -184,17 +190,22 @@ pub fn has_not_one_pair(rela: &RelaEntry) -> bool {
     rela.asks_for_pair() && rela.hi20_pair().is_none()
 }
 
-/// Check 13: "distance odd or too far". A CALL reaches everything, but its
-/// distance "is even".
+/// Check 13: "distance odd or too far". A high half, alone or in a CALL, reaches
+/// as far as both halves together: its distance, or the address of HI20. The
+/// distance of a CALL "is even".
 pub fn distance_is_odd_or_too_far(rela: &RelaEntry) -> bool {
     use crate::fields::Field;
-    let (Some(patch), Some(distance)) = (rela.patch(), rela.distance()) else {
+    let (Some(patch), Some(distance), Some(t)) = (rela.patch(), rela.distance(), rela.t()) else {
         return false;
     };
     let odd = distance.rem_euclid(2) != 0;
-    match patch.field.reach() {
-        Some(reach) => odd || !reach.contains(&distance),
-        None => odd && patch.field == Field::UThenI,
+    match (patch.field, patch.calculation) {
+        (Field::UThenI, _) => odd || !rela.class().halves_reach(distance),
+        (Field::U, Calculation::Target) => !rela.class().halves_reach(t),
+        (Field::U, _) => !rela.class().halves_reach(distance),
+        (field, _) => field
+            .reach()
+            .is_some_and(|reach| odd || !reach.contains(&distance)),
     }
 }
 

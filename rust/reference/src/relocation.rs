@@ -1,42 +1,40 @@
 //! Relocations (document 01: records) and the one decision from a type number
 //! to what the type does.
 
+use crate::class::Class;
 use crate::fields::Field;
 use crate::instruction::Form;
-use crate::numbers::{i32_at, u32_at, SectionOffset};
-
-/// Document 01: entry size 12.
-pub const RELOCATION_SIZE: u32 = 12;
+use crate::numbers::SectionOffset;
 
 /// Document 01: record.
 #[derive(Clone, Copy, PartialEq, Eq, Debug)]
 pub struct Relocation {
     pub offset: SectionOffset,
     pub symbol: u32,
-    pub kind: u8,
+    /// The whole type number, which is above 255 at times in class 2.
+    pub kind: u32,
     /// A.
-    pub addend: i32,
+    pub addend: i64,
 }
 
 impl Relocation {
     /// The relocations of a RELA section that passed check 5.
-    pub fn read_all(bytes: &[u8]) -> Vec<Relocation> {
-        let entries = bytes.chunks_exact(RELOCATION_SIZE as usize);
-        entries.filter_map(Relocation::read).collect()
+    pub fn read_all(bytes: &[u8], class: Class) -> Vec<Relocation> {
+        let entries = bytes.chunks_exact(class.layout().relocation_size);
+        let read = |entry| Relocation::read(entry, class);
+        entries.filter_map(read).collect()
     }
 
-    fn read(entry: &[u8]) -> Option<Relocation> {
-        let info = u32_at(entry, 4)?;
+    fn read(entry: &[u8], class: Class) -> Option<Relocation> {
+        let layout = class.layout();
+        let info = class.number_at(entry, layout.r_info)?;
+        let types = 1 << layout.r_sym_bit;
         Some(Relocation {
-            offset: SectionOffset(u32_at(entry, 0)?),
-            symbol: info / 256,
-            kind: (info % 256) as u8,
-            addend: i32_at(entry, 8)?,
+            offset: SectionOffset(class.number_at(entry, 0)?),
+            symbol: (info / types) as u32,
+            kind: (info % types) as u32,
+            addend: class.signed_number_at(entry, layout.r_addend)?,
         })
-    }
-
-    pub fn effect(&self) -> Effect {
-        effect_of(self.kind)
     }
 }
 
@@ -62,7 +60,7 @@ pub struct Patch {
 /// The number of which the field takes all, a half, or both halves.
 #[derive(Clone, Copy, PartialEq, Eq, Debug)]
 pub enum Calculation {
-    /// T: S + A modulo 2^32.
+    /// T: S + A modulo 2^32, or 2^64.
     Target,
     /// T - P.
     Distance,
@@ -86,15 +84,18 @@ impl Calculation {
     }
 }
 
-/// "Every type number from 0 to 255 has a line in one decision"
-pub fn effect_of(kind: u8) -> Effect {
+/// "Every type number from 0 to 255 has a line in one decision". "Type numbers
+/// above 255 give 9. Type 2 (word64, T) is added for class 2 only".
+pub fn effect_of(kind: u32, class: Class) -> Effect {
     use Calculation::*;
     use Effect::*;
     use Field::*;
+    let is_64 = class == Class::Elf64;
     match kind {
         0 | 51 => Marker,                                  // NONE, RELAX
         43 => Align,                                       // ALIGN
         1 => patch(data(32), Target, Form::Any),           // 32
+        2 if is_64 => patch(data(64), Target, Form::Any),  // 64
         57 => patch(data(32), Distance, Form::Any),        // 32_PCREL
         16 => patch(B, Distance, Form::Branch),            // BRANCH
         17 => patch(J, Distance, Form::Jal),               // JAL
@@ -120,7 +121,7 @@ pub fn effect_of(kind: u8) -> Effect {
         54 => patch(data(8), Set, Form::Any),              // SET8
         55 => patch(data(16), Set, Form::Any),             // SET16
         56 => patch(data(32), Set, Form::Any),             // SET32
-        2..=15 | 20..=22 | 29..=32 | 41..=42 | 46..=50 | 58..=255 => Refused,
+        2..=15 | 20..=22 | 29..=32 | 41..=42 | 46..=50 | 58.. => Refused,
     }
 }
 

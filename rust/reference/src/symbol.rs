@@ -1,12 +1,11 @@
 //! Symbols, and S: the value of a symbol in a relocation (check 10).
 
-use crate::numbers::{u16_at, u32_at, Whole, ADDRESS_END};
+use crate::class::Class;
+use crate::numbers::{u16_at, Whole};
 use crate::object::Object;
 use crate::order::ExternalValue;
 use crate::placement::Addresses;
 
-/// Document 01: entry size 16.
-pub const SYMBOL_SIZE: u32 = 16;
 /// Document 01: at most 1,024 entries.
 pub const MAX_SYMBOLS: u32 = 1_024;
 
@@ -21,7 +20,7 @@ const IFUNC: u8 = 10;
 /// One entry of the symbol table.
 #[derive(Clone, Copy, PartialEq, Eq, Debug)]
 pub struct Symbol {
-    pub value: u32,
+    pub value: u64,
     pub binding: u8,
     pub kind: u8,
     pub section: u16,
@@ -29,23 +28,27 @@ pub struct Symbol {
 
 /// The bytes of a SYMTAB section that passed check 5.
 #[derive(Clone, Copy, Debug)]
-pub struct SymbolTable<'a>(&'a [u8]);
+pub struct SymbolTable<'a> {
+    class: Class,
+    entries: &'a [u8],
+}
 
 impl<'a> SymbolTable<'a> {
-    pub fn new(entries: &'a [u8]) -> SymbolTable<'a> {
-        SymbolTable(entries)
+    pub fn new(class: Class, entries: &'a [u8]) -> SymbolTable<'a> {
+        SymbolTable { class, entries }
     }
 
     /// The symbol with this index; `None` for "an index past the table".
     pub fn get(&self, index: u32) -> Option<Symbol> {
-        let start = index as usize * SYMBOL_SIZE as usize;
-        let entry = self.0.get(start..start + SYMBOL_SIZE as usize)?;
-        let info = entry[12];
+        let layout = self.class.layout();
+        let start = index as usize * layout.symbol_size;
+        let entry = self.entries.get(start..start + layout.symbol_size)?;
+        let info = entry[layout.st_info];
         Some(Symbol {
-            value: u32_at(entry, 4)?,
+            value: self.class.number_at(entry, layout.st_value)?,
             binding: info / 16,
             kind: info % 16,
-            section: u16_at(entry, 14)?,
+            section: u16_at(entry, layout.st_shndx)?,
         })
     }
 }
@@ -60,7 +63,8 @@ pub struct Symbols<'a> {
 }
 
 impl Symbols<'_> {
-    /// S, from 0 to 2^32 - 1; `None` where the symbol does "not resolve".
+    /// S, from 0 to 2^32 - 1, or to 2^64 - 1; `None` where the symbol does "not
+    /// resolve".
     pub fn value(&self, index: u32) -> Option<Whole> {
         // "0 for symbol 0, whatever its entry holds and even in an empty table"
         if index == 0 {
@@ -92,13 +96,15 @@ impl Symbols<'_> {
         }
     }
 
-    /// "placed address plus value modulo 2^32 for a symbol of an allocated row"
+    /// "placed address plus value modulo 2^32 for a symbol of an allocated row",
+    /// or modulo 2^64
     fn placed_value(&self, section: u16, symbol: Symbol) -> Option<Whole> {
         let section = u32::from(section);
         if !self.object.section(section)?.is_allocated() {
             return None;
         }
         let address = self.addresses[section as usize];
-        Some((Whole::from(address.0) + Whole::from(symbol.value)).rem_euclid(ADDRESS_END))
+        let sum = Whole::from(address.0) + Whole::from(symbol.value);
+        Some(sum.rem_euclid(self.object.class().address_end()))
     }
 }

@@ -1,10 +1,10 @@
-//! Three million damaged and random inputs: each is answered, a refusal changes no
-//! byte, and a done call changes only what it may.
+//! Three million damaged and random inputs of both classes: each is answered, a
+//! refusal changes no byte, and a done call changes only what it may.
 
 use std::panic::{catch_unwind, AssertUnwindSafe};
 
 use reference::journal::Standing;
-use reference::{install, judge, rollback, Answer};
+use reference::{install, judge, rollback, Answer, Class};
 use testing::damage::{damage, right_input, vector_inputs, Input};
 use testing::random::Random;
 
@@ -80,17 +80,19 @@ fn try_input(input: &Input, is_rollback: bool) -> u32 {
 fn millions_of_inputs() {
     let mut right = vector_inputs();
     right.extend((0..RIGHT_INPUTS).map(|seed| right_input(&mut Random::new(seed))));
-    let mut fits = [0_u64; 17];
+    // By what the object says of its class: none or another, 1, and 2.
+    let mut fits = [[0_u64; 17]; 3];
     let mut rollbacks = [0_u64; 17];
     for seed in 0..INPUTS {
         let random = &mut Random::new(seed + (1 << 32));
         let mut input = right[random.below(right.len())].clone();
         damage(random, &mut input);
         let is_rollback = random.one_in(8);
-        let counts = if is_rollback {
-            &mut rollbacks
-        } else {
-            &mut fits
+        let counts = match Class::of(&input.object) {
+            _ if is_rollback => &mut rollbacks,
+            None => &mut fits[0],
+            Some(Class::Elf32) => &mut fits[1],
+            Some(Class::Elf64) => &mut fits[2],
         };
         match catch_unwind(AssertUnwindSafe(|| try_input(&input, is_rollback))) {
             Ok(number) => counts[number as usize] += 1,
@@ -98,10 +100,14 @@ fn millions_of_inputs() {
         }
     }
     println!("fits: {fits:?}\ntakings-back: {rollbacks:?}");
-    for (number, count) in fits[..16].iter().enumerate() {
-        assert!(*count >= 100, "answer {number} occurs often in fits");
+    for fits in &fits[1..] {
+        for (number, count) in fits[..16].iter().enumerate() {
+            assert!(*count >= 100, "answer {number} occurs often in fits");
+        }
     }
-    assert_eq!(fits[16], 0);
+    // No class is 4, unless the ledger is unsound.
+    let others = [fits[0][1] + fits[0][4], fits[0].iter().sum()];
+    assert!(others[0] == others[1] && fits.iter().all(|fits| fits[16] == 0));
     for (number, count) in rollbacks.iter().enumerate() {
         let occurs = [0, 1, 3, 16].contains(&number);
         assert_eq!(*count > 0, occurs, "answer {number} in takings-back");

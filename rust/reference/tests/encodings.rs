@@ -1,12 +1,14 @@
 //! The lines of `crates/tests_encodings/stdout`, worked out anew: fields, halves,
 //! types, sums, ranges and forms over fixed inputs, in hexadecimal. The program
-//! `tests_encodings` writes the same lines from the proved functions.
+//! `tests_encodings` writes the same lines from the proved functions. Types and
+//! forms are those of class 1.
 
 use reference::fields::{extract, high_half, insert, low_half, Field, Layout};
 use reference::fields::{B, CB, CJ, I, J, S, U};
 use reference::instruction::Form;
 use reference::numbers::Whole;
 use reference::relocation::{effect_of, Calculation, Effect, Patch};
+use reference::Class;
 use testing::compared::Compared;
 
 const PROGRAM: Compared = Compared("tests_encodings");
@@ -145,7 +147,7 @@ fn place_in<T: PartialEq>(all: &[T], one: T) -> usize {
 }
 
 fn type_line(kind: u64) -> String {
-    match effect_of(kind as u8) {
+    match effect_of(kind as u32, Class::Elf32) {
         Effect::Marker => format!("t {kind:x} 0"),
         Effect::Align => format!("t {kind:x} 1"),
         Effect::Refused => format!("t {kind:x} 3"),
@@ -220,7 +222,7 @@ fn form_line(i: u64, a: u64, b: u64) -> String {
             Form::CompressedBranch | Form::CompressedJump => 2,
             _ => 4,
         };
-        if form.matches(&bytes[..count]) {
+        if form.matches(&bytes[..count], Class::Elf32) {
             " 1"
         } else {
             " 0"

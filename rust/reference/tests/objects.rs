@@ -5,7 +5,9 @@ use std::collections::BTreeSet;
 use std::fs;
 use std::path::{Path, PathBuf};
 
-use reference::{install, rollback, Answer};
+use reference::journal::Standing;
+use reference::object::{Header, Object};
+use reference::{install, rollback, Answer, Class};
 
 /// What the image holds before an install.
 const FILL: u8 = 0xA5;
@@ -19,8 +21,8 @@ const DONE: Answer = Answer {
 /// The journal's length without old bytes. Document 01: 136.
 const JOURNAL_HEAD: usize = 136;
 
-/// Every relocation type of document 01's table.
-const TYPES: [u8; 30] = [
+/// Every relocation type of document 01's table. Class 2 has type 2 besides.
+const TYPES: [u32; 30] = [
     0, 1, 16, 17, 18, 19, 23, 24, 25, 26, 27, 28, 33, 34, 35, 36, 37, 38, 39, 40, 43, 44, 45, 51,
     52, 53, 54, 55, 56, 57,
 ];
@@ -70,30 +72,18 @@ fn empty_journal(room: usize) -> Vec<u8> {
     vec![0; JOURNAL_HEAD + room]
 }
 
-fn word(bytes: &[u8], at: usize) -> usize {
-    u32::from_le_bytes(bytes[at..at + 4].try_into().expect("four bytes")) as usize
-}
-
-fn half(bytes: &[u8], at: usize) -> usize {
-    u16::from_le_bytes(bytes[at..at + 2].try_into().expect("two bytes")) as usize
-}
-
-/// The types of the relocations whose target section is allocated.
-fn relocation_types(object: &[u8]) -> BTreeSet<u8> {
-    let section = |index: usize| word(object, 32) + 40 * index;
-    let mut types = BTreeSet::new();
-    for index in 0..half(object, 48) {
-        let header = section(index);
-        let rela = word(object, header + 4) == 4;
-        if !rela || word(object, section(word(object, header + 28)) + 8) & 2 == 0 {
-            continue;
-        }
-        let (offset, size) = (word(object, header + 16), word(object, header + 20));
-        for relocation in (offset..offset + size).step_by(12) {
-            types.insert(object[relocation + 4]);
-        }
-    }
-    types
+/// The class of an object, and the types of the relocations whose target
+/// section is allocated.
+fn relocation_types(object: &[u8]) -> (Class, BTreeSet<u32>) {
+    let header = Header::read(object).expect("check 4 has passed");
+    let class = header.class;
+    let object = Object::read(object, header).expect("check 5 has passed");
+    let lists = object.relocation_sections();
+    let relocations = lists.iter().flat_map(|list| &list.relocations);
+    (
+        class,
+        relocations.map(|relocation| relocation.kind).collect(),
+    )
 }
 
 /// The install is done and lays ld's bytes; its rollback brings image and
@@ -111,8 +101,9 @@ fn try_case(case: &Case) -> Result<(), String> {
         let (ours, laid) = (image[at], case.laid[at]);
         return Err(format!("byte {at:#x} is {ours:02x}, ld lays {laid:02x}"));
     }
-    if word(&journal, 0) != 1 {
-        return Err(format!("the journal counts {}", word(&journal, 0)));
+    let standing = Standing::read(&journal, image.len()).map(|standing| standing.spans.len());
+    if standing != Some(1) {
+        return Err(format!("the journal counts {standing:?}"));
     }
 
     let answer = rollback(&mut image, &mut journal);
@@ -138,13 +129,15 @@ fn installs_what_ld_lays() {
 
 #[test]
 fn covers_every_relocation_type() {
-    let mut seen = BTreeSet::new();
-    for case in cases() {
-        seen.extend(relocation_types(&case.object));
-    }
-    let missing: Vec<u8> = TYPES
-        .into_iter()
-        .filter(|kind| !seen.contains(kind))
+    let types: Vec<_> = cases()
+        .iter()
+        .map(|case| relocation_types(&case.object))
         .collect();
-    assert!(missing.is_empty(), "not seen: {missing:?}");
+    for (class, own) in [(Class::Elf32, None), (Class::Elf64, Some(2))] {
+        let of_class = types.iter().filter(|(other, _)| *other == class);
+        let seen: BTreeSet<u32> = of_class.flat_map(|(_, types)| types).copied().collect();
+        let all = TYPES.into_iter().chain(own);
+        let missing: Vec<u32> = all.filter(|kind| !seen.contains(kind)).collect();
+        assert!(missing.is_empty(), "{class:?}, not seen: {missing:?}");
+    }
 }

@@ -1,6 +1,6 @@
 //! `tools/order` on what readelf says of shipped objects: it writes the shipped
 //! orders, and refuses what cannot be right. The texts in `orders/` are the output
-//! of `readelf -SsW` (clang-hidden: llvm-readelf). It needs python3. With readelf,
+//! of `readelf -SsW` (clang-hidden, rv64-clang-hidden: llvm-readelf). It needs python3. With readelf,
 //! all objects: `cargo test --test orders -- --ignored`.
 
 use std::collections::BTreeMap;
@@ -8,7 +8,18 @@ use std::fs::{self, File};
 use std::path::{Path, PathBuf};
 use std::process::{Command, Output, Stdio};
 
-const TEXTS: [&str; 3] = ["gcc-sections", "clang-hidden", "nothing"];
+use reference::numbers::Address;
+use reference::order::{Order, Placement};
+use reference::Class;
+
+const TEXTS: [&str; 6] = [
+    "gcc-sections",
+    "clang-hidden",
+    "nothing",
+    "rv64-gcc-sections",
+    "rv64-clang-hidden",
+    "rv64-nothing",
+];
 
 fn root() -> PathBuf {
     Path::new(env!("CARGO_MANIFEST_DIR")).join("../..")
@@ -142,6 +153,29 @@ fn places_one_after_another() {
     assert_eq!(String::from_utf8_lossy(&shown.stdout), expected);
 }
 
+/// The same in class 2, above 2^32.
+#[test]
+fn places_one_after_another_in_class_2() {
+    let out = Scratch::new("rest-64");
+    let arguments = "--window 0xffffffffffff0000 --place .sdata.odd=0xffffffffffff0100 --from 0xffffffffffff0001 --nobits 0x300000001 --value outer=0xfedcba9876543210";
+    let arguments: Vec<&str> = arguments.split(' ').collect();
+    let text = text_of("rv64-gcc-sections");
+    let done = from_text(&text, &out.0, &arguments);
+    assert!(done.status.success(), "{done:?}");
+    let bytes = fs::read(&out.0).expect("the order");
+    let order = Order::read(&bytes, Class::Elf64).expect("an order of class 2");
+    assert_eq!(order.base, Address(0xFFFF_FFFF_FFFF_0000));
+    let (nobits, loaded): (Vec<_>, Vec<_>) = order
+        .placements
+        .iter()
+        .partition(|placement| placement.address.0 < 1 << 34);
+    assert!(!nobits.is_empty() && loaded.len() > nobits.len());
+    let above = |placement: &&Placement| placement.address.0 > 0xFFFF_FFFF_FFFF_0000;
+    assert!(loaded.iter().all(above), "{order:?}");
+    let value = order.external_values.iter().map(|external| external.value);
+    assert_eq!(value.collect::<Vec<_>>(), [0xFEDC_BA98_7654_3210]);
+}
+
 /// Arguments after `--window 0`, and a part of the message.
 const REFUSED: [(&str, &str); 12] = [
     ("--from 0", "no value for the undefined\n  outer (@23)"),
@@ -189,10 +223,26 @@ fn refused(text: &Path, arguments: &str, message: &str) {
     assert!(!out.0.exists(), "{arguments:?}: an order was written");
 }
 
+/// The same of an object of class 2.
+const REFUSED_64: [(&str, &str); 3] = [
+    ("--from 0", "no value for the undefined\n  outer (@"),
+    (
+        "--from 0 --value outer=0x10000000000000000",
+        "0x10000000000000000: not a number",
+    ),
+    (
+        "--from 0xffffffffffffffff --value outer=0",
+        "above 32 placements, 1,024 values or the address",
+    ),
+];
+
 #[test]
 fn refuses_what_cannot_be_right() {
     for (arguments, message) in REFUSED {
         refused(&text_of("gcc-sections"), arguments, message);
+    }
+    for (arguments, message) in REFUSED_64 {
+        refused(&text_of("rv64-gcc-sections"), arguments, message);
     }
     // two sections of one name, a line that is lost, a text that is none
     let sections = fs::read_to_string(text_of("gcc-sections")).expect("the text");

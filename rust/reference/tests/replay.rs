@@ -5,7 +5,7 @@ use reference::calls::{read, Call};
 use reference::history::History;
 use reference::{install, replay, rollback, Answer};
 use testing::answer;
-use testing::build::Fit;
+use testing::build::{Class, Fit};
 use testing::lists::{histories, list, malformed, some_list, wound_list, Listed};
 use testing::random::Random;
 use testing::sample::{self, start};
@@ -96,6 +96,26 @@ fn calls_are_made_in_their_order() {
     assert!(state.replay(&list(&[Listed::TakeBack, Listed::TakeBack, fit()])));
     assert_eq!(state.answers, [answer(16, 0), answer(16, 0), answer(0, 0)]);
     assert_eq!(&state.image[64..72], CODE);
+}
+
+/// Fits of both classes stand in one image, and are taken back one by one.
+#[test]
+fn fits_of_both_classes() {
+    let other = good_fit().of(Class::Elf64);
+    let other = Listed::Fit(sample::Call {
+        object: other.object(),
+        order: other.order(),
+    });
+    for calls in [[fit(), other.clone()], [other, fit()]] {
+        let back = [Listed::TakeBack, Listed::TakeBack, Listed::TakeBack];
+        let calls = [&calls[..], &back].concat();
+        let mut state = State::new(5);
+        assert!(state.replay(&list(&calls)));
+        let done = Answer::DONE;
+        assert_eq!(state.answers, [done, done, done, done, answer(16, 0)]);
+        assert_eq!(state.image, State::new(0).image);
+        assert_eq!(state.journal, State::new(0).journal);
+    }
 }
 
 /// An order that is malformed, an object that is not one, and no room: the

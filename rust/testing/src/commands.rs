@@ -6,9 +6,11 @@
 /// The length of a command.
 const COMMAND: usize = 13;
 
-/// Where the order of a pair is, and the end of a space for pairs.
+/// Where the order of a pair is, and the end of a space for pairs. An order of
+/// class 2 with as many placements and external values as there may be, and one
+/// more of these, has 12,704 bytes.
 const ORDER: usize = 65_600;
-const PAIRS: usize = 74_200;
+const PAIRS: usize = 78_400;
 
 /// What the program holds, and the commands so far.
 pub struct Commands {
@@ -49,6 +51,7 @@ impl Commands {
     /// Asks about an object and an order, which is behind it, for an image of
     /// this length.
     pub fn ask_pair(&mut self, letter: u8, object: &[u8], order: &[u8], image_length: usize) {
+        assert!(object.len() <= ORDER, "the order is behind the object");
         self.store(0, object);
         self.store(ORDER, order);
         let lengths = [object.len(), order.len(), image_length];

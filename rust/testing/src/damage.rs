@@ -4,7 +4,7 @@ use crate::build::Fit;
 use crate::random::Random;
 use crate::sample::call;
 use crate::vectors::{bytes, lines};
-use reference::install;
+use reference::{install, Class};
 
 /// Everything that a fit is asked with.
 #[derive(Clone, Debug)]
@@ -89,13 +89,13 @@ fn part<'i>(random: &mut Random, input: &'i mut Input) -> &'i mut Vec<u8> {
 }
 
 fn some_bytes(random: &mut Random) -> Vec<u8> {
-    let length = random.pick(&[0, 1, 16, 51, 52, 92, 135, 136, 300]);
+    let length = random.pick(&[0, 1, 16, 51, 52, 63, 64, 92, 128, 135, 136, 300]);
     random.bytes(length)
 }
 
-/// A number at or beside a limit of the rules.
-fn boundary(random: &mut Random, near: usize) -> u32 {
-    const LIMITS: [u32; 20] = [
+/// A number at or beside a limit of the rules, and of both classes.
+fn boundary(random: &mut Random, near: usize) -> u64 {
+    const LIMITS: [u64; 27] = [
         0,
         1,
         2,
@@ -104,24 +104,31 @@ fn boundary(random: &mut Random, near: usize) -> u32 {
         9,
         12,
         16,
+        24,
         31,
         32,
         40,
         52,
+        64,
         243,
         1_024,
         4_094,
         4_096,
         65_536,
-        1 << 31,
         0xFFF1,
+        1 << 31,
+        (1 << 31) - 2_048,
+        1 << 32,
+        1 << 63,
+        (1 << 63) | 1,
+        u64::MAX - 65_535,
         0,
     ];
     let limit = match random.below(3) {
-        0 => near as u32,
+        0 => near as u64,
         _ => random.pick(&LIMITS),
     };
-    limit.wrapping_add(random.pick(&[0, 0, 1, u32::MAX]))
+    limit.wrapping_add(random.pick(&[0, 0, 1, u64::MAX]))
 }
 
 /// One bit, one byte, one number, or the length.
@@ -132,68 +139,149 @@ pub fn wound_bytes(random: &mut Random, bytes: &mut Vec<u8>) {
         1 if length > 0 => bytes[random.below(length)] = random.u64() as u8,
         2 | 3 if length >= 4 => {
             let at = random.below(length / 4) * 4;
-            put(bytes, at, boundary(random, length), 4);
+            let count = random.pick(&[4, 8]);
+            put(bytes, at, boundary(random, length), count);
         }
         4 => bytes.truncate(length.saturating_sub(random.below(20))),
         _ => bytes.resize(length + random.below(20), random.u64() as u8),
     }
 }
 
+/// A field of the header, or its class.
 fn wound_header(random: &mut Random, object: &mut [u8]) {
-    let at = random.pick(&[0, 4, 5, 6, 16, 18, 20, 32, 36, 40, 46, 48]);
+    let layout = class_of(object).layout();
+    if random.one_in(8) {
+        put(object, 4, random.pick(&[0, 1, 2, 3, 255]), 1);
+        return;
+    }
+    let at = random.pick(&[
+        0,
+        4,
+        5,
+        6,
+        16,
+        18,
+        20,
+        layout.e_shoff,
+        layout.e_shoff + 4,
+        layout.e_ehsize,
+        layout.e_shentsize,
+        layout.e_shnum,
+    ]);
     let value = boundary(random, object.len());
     put(object, at, value, 2);
 }
 
+/// What the object says of itself, or class 1 where it says neither.
+fn class_of(object: &[u8]) -> Class {
+    Class::of(object).unwrap_or(Class::Elf32)
+}
+
+/// Where an object's section headers are, as far as it can be told.
+struct Table {
+    class: Class,
+    start: usize,
+    count: usize,
+}
+
+impl Table {
+    fn of(object: &[u8]) -> Table {
+        let class = class_of(object);
+        let layout = class.layout();
+        Table {
+            class,
+            start: get(object, layout.e_shoff, class.address_bytes()),
+            count: get(object, layout.e_shnum, 2),
+        }
+    }
+
+    /// Where a section header begins; past all bytes where it is nowhere.
+    fn header(&self, row: usize) -> usize {
+        let size = self.class.layout().section_header_size;
+        self.start.saturating_add(size * row)
+    }
+
+    /// Where a field of a section header is.
+    fn field(&self, row: usize, field: usize) -> usize {
+        self.header(row).saturating_add(field)
+    }
+}
+
 /// One field of one section header.
 fn wound_table(random: &mut Random, object: &mut [u8]) {
-    let (table, count) = (get(object, 32, 4), get(object, 48, 2));
-    let row = random.below(count.max(1));
-    let field = random.pick(&[4, 8, 16, 20, 24, 28, 32, 36]);
-    let near = random.pick(&[object.len(), count, row]);
+    let table = Table::of(object);
+    let (layout, long) = (table.class.layout(), table.class.address_bytes());
+    let row = random.below(table.count.max(1));
+    let (field, count) = random.pick(&[
+        (4, 4),
+        (layout.sh_flags, long),
+        (layout.sh_offset, long),
+        (layout.sh_size, long),
+        (layout.sh_link, 4),
+        (layout.sh_info, 4),
+        (layout.sh_addralign, long),
+        (layout.sh_entsize, long),
+    ]);
+    let near = random.pick(&[object.len(), table.count, row]);
     let value = boundary(random, near);
-    put(object, table + 40 * row + field, value, 4);
+    put(object, table.field(row, field), value, count);
 }
 
 /// One field of one relocation, of the symbol beside it, or of its section's
 /// bytes.
 pub fn wound_relocation(random: &mut Random, object: &mut [u8]) {
-    let (table, count) = (get(object, 32, 4), get(object, 48, 2));
-    let rela = |row: &usize| get(object, table + 40 * row + 4, 4) == 4;
-    let rows: Vec<usize> = (0..count.min(32)).filter(rela).collect();
+    let table = Table::of(object);
+    let (layout, long) = (table.class.layout(), table.class.address_bytes());
+    let rela = |row: &usize| get(object, table.field(*row, 4), 4) == 4;
+    let rows: Vec<usize> = (0..table.count.min(32)).filter(rela).collect();
     let Some(row) = (!rows.is_empty()).then(|| random.pick(&rows)) else {
         return;
     };
-    let header = table + 40 * row;
-    let (offset, size) = (get(object, header + 16, 4), get(object, header + 20, 4));
-    let entry = offset + 12 * random.below((size / 12).max(1));
-    match random.below(6) {
-        0 => put(object, entry + 4, random.u32() % 64, 1),
-        1 => put(object, entry + 5, random.u32() % 16, 3),
-        2 => put(object, entry + 8, boundary(random, size), 4),
-        3 => put(object, entry + 8, random.u32() % 64, 4),
+    let number = |field: usize| get(object, table.field(row, field), long);
+    let (start, size) = (number(layout.sh_offset), number(layout.sh_size));
+    let each = layout.relocation_size;
+    let entry = start.saturating_add(each * random.below((size / each).max(1)));
+    let at = |field: usize| entry.saturating_add(field);
+    let (info, addend) = (at(layout.r_info), at(layout.r_addend));
+    let symbol = at(layout.r_info + layout.r_sym_bit as usize / 8);
+    match random.below(9) {
+        0 => put(object, info, random.u64() % 64, 1),
+        1 => put(object, symbol, random.u64() % 16, 3),
+        2 => put(object, addend, boundary(random, size), long),
+        3 => put(object, addend, random.u64() % 64, long),
         4 => {
-            let moved = get(object, entry, 4) + random.below(9);
-            put(object, entry, (moved as u32).wrapping_sub(4), 4);
+            let moved = get(object, entry, long).wrapping_add(random.below(9));
+            put(object, entry, moved.wrapping_sub(4) as u64, long);
         }
-        _ => {
+        5 => {
             // The same relocation twice: two pairs, or an overlap.
-            let copy: Vec<u8> = (0..12).map(|at| get(object, entry + at, 1) as u8).collect();
-            for (at, byte) in copy.into_iter().enumerate() {
-                put(object, entry + 12 + at, u32::from(byte), 1);
+            let copy: Vec<u8> = (0..each)
+                .map(|byte| get(object, at(byte), 1) as u8)
+                .collect();
+            for (byte, value) in copy.into_iter().enumerate() {
+                put(object, at(each + byte), u64::from(value), 1);
             }
+        }
+        // The second byte of the info: a type above 255, or another symbol.
+        6 => put(object, info.saturating_add(1), random.u64() % 4, 1),
+        _ => {
+            // A step further: padding beside its boundary, or a jump too far.
+            let further = get(object, addend, long).wrapping_add(2);
+            put(object, addend, further as u64, long);
         }
     }
 }
 
+/// The number of so many bytes at a place; 0 where they are not all there.
 pub fn get(bytes: &[u8], at: usize, count: usize) -> usize {
-    let found = bytes.get(at..at + count).unwrap_or_default();
-    let fold = |number: usize, byte: &u8| number * 256 + usize::from(*byte);
+    let found = bytes.get(at..at.saturating_add(count)).unwrap_or_default();
+    let fold = |number: usize, byte: &u8| number << 8 | usize::from(*byte);
     found.iter().rev().fold(0, fold)
 }
 
-pub fn put(bytes: &mut [u8], at: usize, value: u32, count: usize) {
-    if let Some(place) = bytes.get_mut(at..at + count) {
+/// Makes so many bytes at a place a number's lowest, where they are all there.
+pub fn put(bytes: &mut [u8], at: usize, value: u64, count: usize) {
+    if let Some(place) = bytes.get_mut(at..at.saturating_add(count)) {
         place.copy_from_slice(&value.to_le_bytes()[..count]);
     }
 }

@@ -50,8 +50,8 @@ pub fn some_list(random: &mut Random, image_length: usize) -> Vec<Listed> {
 pub fn wound_list(random: &mut Random, list: &mut Vec<u8>) {
     match random.below(4) {
         0 => {
-            let count = random.pick(&[0, 1, 2, 45, u32::MAX]);
-            put(list, 0, count, 4);
+            let count: u32 = random.pick(&[0, 1, 2, 45, u32::MAX]);
+            put(list, 0, u64::from(count), 4);
         }
         _ => wound_bytes(random, list),
     }
@@ -66,7 +66,7 @@ pub fn malformed(good: &Call) -> Vec<(String, Vec<u8>)> {
     let mut no_list = |what: String, bytes: Vec<u8>| found.push((what, bytes));
     let with_count = |count: u32, behind: &[u8]| {
         let mut bytes = [&two[..], behind].concat();
-        put(&mut bytes, 0, count, 4);
+        put(&mut bytes, 0, u64::from(count), 4);
         bytes
     };
 
@@ -91,9 +91,18 @@ pub fn malformed(good: &Call) -> Vec<(String, Vec<u8>)> {
         "a call left over".into(),
         with_count(2, &Listed::TakeBack.bytes()),
     );
-    for kind in [0, 3, 1 << 8, 1 << 16, 1 << 24, 0x101, 0x0100_0002, u32::MAX] {
+    for kind in [
+        0_u32,
+        3,
+        1 << 8,
+        1 << 16,
+        1 << 24,
+        0x101,
+        0x0100_0002,
+        u32::MAX,
+    ] {
         for mut call in calls.iter().map(Listed::bytes) {
-            put(&mut call, 0, kind, 4);
+            put(&mut call, 0, u64::from(kind), 4);
             no_list(format!("kind {kind:#x}"), with_count(3, &call));
             no_list(
                 format!("first kind {kind:#x}"),
@@ -115,7 +124,7 @@ pub fn malformed(good: &Call) -> Vec<(String, Vec<u8>)> {
         ];
         for length in far.chain(near) {
             let mut call = calls[0].bytes();
-            put(&mut call, at, length, 4);
+            put(&mut call, at, u64::from(length), 4);
             let what = format!("{name} of {length:#x} bytes");
             no_list(what, with_count(3, &call));
         }
@@ -139,7 +148,7 @@ pub struct Given {
 /// repository, where they are there.
 pub fn histories() -> Vec<Given> {
     let mut given = read_histories("history", lines("histories.txt"));
-    if let Some(shared) = shared_lines("histories.txt") {
+    if let Some(shared) = shared_lines("histories-after-1.txt") {
         given.extend(read_histories("shared history", shared));
     }
     given

@@ -1,7 +1,8 @@
-//! Random fits: most are done, some break one rule.
+//! Random fits of both classes: most are done, some break one rule.
 
 use crate::build::{journal, object, order, Relocation, Section, Symbol, ABSOLUTE, GLOBAL, WEAK};
 use crate::random::Random;
+use reference::Class;
 
 /// What a fit is asked with, besides image and ledger.
 #[derive(Clone, Debug)]
@@ -11,7 +12,10 @@ pub struct Call {
 }
 
 /// Every section is made of items of this many bytes.
-const ITEM: u32 = 8;
+const ITEM: u64 = 8;
+
+/// How far the two halves lead in class 2.
+const HALVES: (i64, i64) = (-2_147_485_696, 2_147_481_599);
 
 /// What a section header will stand for; a number says which loaded section.
 #[derive(Clone, Copy, PartialEq)]
@@ -26,9 +30,9 @@ enum Row {
 /// A loaded section before its bytes are made.
 #[derive(Clone, Copy)]
 struct Shape {
-    alignment: u32,
-    address: u32,
-    size: u32,
+    alignment: u64,
+    address: u64,
+    size: u64,
 }
 
 /// One item's bytes and its relocations.
@@ -39,14 +43,15 @@ struct Item {
 }
 
 struct Sampler<'r> {
+    class: Class,
     random: &'r mut Random,
-    /// Whether some low halves have no pair, and some padding misses its
-    /// boundary.
+    /// Whether some low halves have no pair, some padding misses its boundary,
+    /// and some halves lead one step too far.
     is_faulty: bool,
     symbols: Vec<Symbol>,
     /// S of each symbol; `None` where it does not resolve.
-    values: Vec<Option<u32>>,
-    external_values: Vec<(u32, u32)>,
+    values: Vec<Option<u64>>,
+    external_values: Vec<(u32, u64)>,
 }
 
 /// A random call for an image of this length.
@@ -55,18 +60,12 @@ pub fn call(random: &mut Random, image_length: usize) -> Call {
 }
 
 fn sample(random: &mut Random, image_length: usize, is_faulty: bool) -> Call {
-    let length = image_length as u32;
-    let highest_base = (1_u64 << 32) - u64::from(length);
-    let base = match random.below(4) {
-        0 => 0,
-        1 => 0x2000_0000,
-        2 if is_faulty => (highest_base + 1) as u32,
-        2 => (highest_base - 1) as u32,
-        _ => (random.u64() % highest_base) as u32,
-    };
-    let shapes = shapes(random, base, length);
+    let class = random.pick(&Class::ALL);
+    let base = base(random, class, image_length, is_faulty);
+    let shapes = shapes(random, class, base, image_length);
     let rows = rows(random, shapes.len());
     let mut sampler = Sampler {
+        class,
         random,
         is_faulty,
         symbols: vec![Symbol::default()],
@@ -75,6 +74,22 @@ fn sample(random: &mut Random, image_length: usize, is_faulty: bool) -> Call {
     };
     sampler.add_symbols(&rows, &shapes);
     sampler.finish(base, &rows, &shapes)
+}
+
+/// A window's base: often at 0 or at the end of the address space; in class 2
+/// also where addresses begin to have another number of bits.
+fn base(random: &mut Random, class: Class, image_length: usize, is_faulty: bool) -> u64 {
+    let highest = class.address_end() - image_length as i128;
+    let near = random.below(image_length + 1) as u64;
+    match random.below(6) {
+        0 => 0,
+        1 => 0x2000_0000,
+        2 if is_faulty => (highest + 1) as u64,
+        2 => (highest - 1) as u64,
+        3 if class == Class::Elf64 => random.pick(&[1 << 31, 1 << 32, 1 << 63]) - near,
+        4 if class == Class::Elf64 => (i128::from(random.u32()) % highest) as u64,
+        _ => (i128::from(random.u64()) % highest) as u64,
+    }
 }
 
 /// An image and a ledger in which no fit stands; often with little room, and
@@ -100,6 +115,10 @@ pub fn some_call(random: &mut Random, image_length: usize) -> Call {
         let at = random.below(call.object.len());
         call.object[at] ^= 1 << random.below(8);
     }
+    if random.one_in(40) {
+        // The other class.
+        call.object[4] ^= 3;
+    }
     if random.one_in(12) {
         let at = random.below(call.order.len());
         call.order[at] ^= 1 << random.below(8);
@@ -108,24 +127,25 @@ pub fn some_call(random: &mut Random, image_length: usize) -> Call {
 }
 
 /// Sections one behind the other in the window, until it is full.
-fn shapes(random: &mut Random, base: u32, length: u32) -> Vec<Shape> {
+fn shapes(random: &mut Random, class: Class, base: u64, image_length: usize) -> Vec<Shape> {
     let mut shapes = Vec::new();
-    let mut next = u64::from(base) + random.below(12) as u64;
+    let window_end = i128::from(base) + image_length as i128;
+    let end = window_end.min(class.address_end() - 16);
+    let mut next = u128::from(base) + random.below(12) as u128;
     for _ in 0..random.below(5) {
         let alignment = random.pick(&[0, 1, 2, 2, 4, 4, 8, 16]);
-        let step = u64::from(alignment.max(2));
-        let address = next.next_multiple_of(step);
-        let size = ITEM * random.below(6) as u32 + random.pick(&[0, 0, 0, 1, 2, 5]);
-        next = address + u64::from(size);
-        if next > u64::from(base) + u64::from(length) || next > 0xFFFF_FFF0 {
+        let address = next.next_multiple_of(u128::from(alignment.max(2)));
+        let size = ITEM * random.below(6) as u64 + random.pick(&[0, 0, 0, 1, 2, 5]);
+        next = address + u128::from(size);
+        if next as i128 > end {
             break;
         }
         shapes.push(Shape {
             alignment,
-            address: address as u32,
+            address: address as u64,
             size,
         });
-        next += random.below(9) as u64;
+        next += random.below(9) as u128;
     }
     shapes
 }
@@ -148,7 +168,31 @@ fn index_of(rows: &[Row], row: Row) -> Option<u32> {
 }
 
 impl Sampler<'_> {
-    fn add(&mut self, symbol: Symbol, value: Option<u32>) -> u32 {
+    fn is_64(&self) -> bool {
+        self.class == Class::Elf64
+    }
+
+    /// A number modulo 2^32 or 2^64.
+    fn reduced(&self, number: u64) -> u64 {
+        match self.class {
+            Class::Elf32 => number % (1 << 32),
+            Class::Elf64 => number,
+        }
+    }
+
+    /// Any value, in class 2 often one of few bits or near an end.
+    fn value(&mut self) -> u64 {
+        let any = self.random.u64();
+        let value = match self.random.below(4) {
+            0 => any,
+            1 => any % (1 << 32),
+            2 => (1 << 31) - 2_048 + any % 4_096,
+            _ => 0_u64.wrapping_sub(any % 4_096),
+        };
+        self.reduced(if self.is_64() { value } else { any })
+    }
+
+    fn add(&mut self, symbol: Symbol, value: Option<u64>) -> u32 {
         self.symbols.push(symbol);
         self.values.push(value);
         self.symbols.len() as u32 - 1
@@ -157,14 +201,17 @@ impl Sampler<'_> {
     fn add_symbols(&mut self, rows: &[Row], shapes: &[Shape]) {
         for (which, shape) in shapes.iter().enumerate() {
             let section = index_of(rows, Row::Loaded(which)).unwrap_or(0);
-            let value = self.random.below(64) as u32;
+            let value = self.random.below(64) as u64;
             let symbol = Symbol::new(0, section as u16, value);
-            self.add(symbol, Some(shape.address.wrapping_add(value)));
+            self.add(
+                symbol,
+                Some(self.reduced(shape.address.wrapping_add(value))),
+            );
         }
-        let absolute = self.random.u32();
+        let absolute = self.value();
         self.add(Symbol::new(GLOBAL, ABSOLUTE, absolute), Some(absolute));
         for info in [GLOBAL, WEAK] {
-            let value = self.random.u32();
+            let value = self.value();
             let symbol = self.add(Symbol::new(info, 0, 0), Some(value));
             self.external_values.push((symbol, value));
         }
@@ -173,7 +220,7 @@ impl Sampler<'_> {
         self.add(Symbol::new(GLOBAL + 6, ABSOLUTE, 0), None);
     }
 
-    fn finish(mut self, base: u32, rows: &[Row], shapes: &[Shape]) -> Call {
+    fn finish(mut self, base: u64, rows: &[Row], shapes: &[Shape]) -> Call {
         let made: Vec<Item> = (0..shapes.len())
             .map(|which| self.section(index_of(rows, Row::Loaded(which)), shapes[which]))
             .collect();
@@ -193,8 +240,9 @@ impl Sampler<'_> {
                 }
                 Row::Nobits => {
                     // Half the address space away from the window.
-                    placements.push((index, (base ^ 0x8000_0000) & !15));
-                    Section::nobits(4, self.random.below(16) as u32)
+                    let half = (self.class.address_end() / 2) as u64;
+                    placements.push((index, (base ^ half) & !15));
+                    Section::nobits(4, self.random.below(16) as u64)
                 }
                 Row::Symbols => Section::symbols(&self.symbols),
                 Row::Text => Section {
@@ -205,8 +253,8 @@ impl Sampler<'_> {
             });
         }
         Call {
-            object: object(&sections),
-            order: order(base, &placements, &self.external_values),
+            object: object(self.class, &sections),
+            order: order(self.class, base, &placements, &self.external_values),
         }
     }
 
@@ -227,19 +275,22 @@ impl Sampler<'_> {
         whole
     }
 
-    fn item(&mut self, section: u16, shape: Shape, offset: u32) -> Item {
+    fn item(&mut self, section: u16, shape: Shape, offset: u64) -> Item {
         let place = shape.address + offset;
         match self.random.below(9) {
             0 => self.jump(offset, place, 17, 0x6F, 1_048_576),
             1 => self.jump(offset, place, 16, 0x63, 4_096),
             2 => self.compressed_jump(offset, place),
-            3 => self.call(offset),
+            3 => self.call(offset, place),
             4 => self.absolute_half(offset),
-            5 => self.pair(section, offset),
+            5 => self.pair(section, offset, place),
             6 => self.stack(offset),
             7 => self.marker(offset, place, shape.size),
             _ => {
-                let kind = self.random.pick(&[1, 57]);
+                let kind = match self.is_64() {
+                    true => self.random.pick(&[1, 2, 57]),
+                    false => self.random.pick(&[1, 57]),
+                };
                 let relocation = self.anywhere(offset, kind);
                 self.with(&[], vec![relocation])
             }
@@ -253,7 +304,7 @@ impl Sampler<'_> {
     }
 
     /// A symbol that resolves, with its value.
-    fn symbol(&mut self) -> (u32, u32) {
+    fn symbol(&mut self) -> (u32, u64) {
         loop {
             let symbol = self.random.below(self.values.len());
             if let Some(value) = self.values[symbol] {
@@ -262,56 +313,92 @@ impl Sampler<'_> {
         }
     }
 
-    fn anywhere(&mut self, offset: u32, kind: u8) -> Relocation {
+    fn anywhere(&mut self, offset: u64, kind: u32) -> Relocation {
         let (symbol, _) = self.symbol();
-        let addend = self.random.pick(&[0, 1, -1, 2_047, -2_048, i32::MIN]);
+        let lowest = match self.is_64() {
+            true => i64::MIN,
+            false => i64::from(i32::MIN),
+        };
+        let addend = self.random.pick(&[0, 1, -1, 2_047, -2_048, lowest]);
         Relocation::new(offset, kind, symbol, addend)
     }
 
     /// An addend for which T is this target.
-    fn towards(&mut self, offset: u32, kind: u8, target: u32) -> Relocation {
+    fn towards(&mut self, offset: u64, kind: u32, target: u64) -> Relocation {
         let (symbol, value) = self.symbol();
-        Relocation::new(offset, kind, symbol, target.wrapping_sub(value) as i32)
+        let addend = i128::from(target) - i128::from(value);
+        Relocation::new(offset, kind, symbol, self.class.signed(addend) as i64)
+    }
+
+    /// A target that both halves lead to from an address: in class 1 any, and in
+    /// class 2 one that is not too far, unless the call is faulty.
+    fn halves_target(&mut self, from: u64) -> u64 {
+        if !self.is_64() {
+            return u64::from(self.random.u32());
+        }
+        let (lowest, highest) = HALVES;
+        let distance = match self.random.below(6) {
+            0 => lowest,
+            1 => highest,
+            2 if self.is_faulty => lowest - 1,
+            3 if self.is_faulty => highest + 1,
+            _ => lowest + i64::from(self.random.u32()),
+        };
+        from.wrapping_add_signed(distance)
+    }
+
+    /// A high half, of a distance or of an address.
+    fn high_half(&mut self, offset: u64, kind: u32, from: u64) -> Relocation {
+        match self.is_64() {
+            true => {
+                let target = self.halves_target(from);
+                self.towards(offset, kind, target)
+            }
+            false => self.anywhere(offset, kind),
+        }
     }
 
     /// An instruction of this opcode, and otherwise any bits.
     fn instruction(&mut self, opcode: u32) -> u32 {
-        let funct3_is_0 = matches!(opcode, 0x13 | 0x67);
+        let funct3_is_0 = matches!(opcode, 0x13 | 0x1B | 0x67);
         let kept = if funct3_is_0 { !0x707F } else { !0x7F };
         self.random.u32() & kept | opcode
     }
 
     /// An even distance that a field of this reach takes, if the target is an
     /// address at all.
-    fn target(&mut self, place: u32, reach: i64) -> u32 {
+    fn target(&mut self, place: u64, reach: i64) -> u64 {
         let distance = match self.random.below(4) {
             0 => -reach,
             1 => reach - 2,
             _ => self.random.below(reach as usize) as i64 * 2 - reach,
         };
-        u32::try_from(i64::from(place) + distance).unwrap_or(place)
+        let target = place.checked_add_signed(distance);
+        let target = target.filter(|target| i128::from(*target) < self.class.address_end());
+        target.unwrap_or(place)
     }
 
-    fn jump(&mut self, offset: u32, place: u32, kind: u8, opcode: u32, reach: i64) -> Item {
+    fn jump(&mut self, offset: u64, place: u64, kind: u32, opcode: u32, reach: i64) -> Item {
         let target = self.target(place, reach);
         let relocation = self.towards(offset, kind, target);
         let word = self.instruction(opcode);
         self.with(&[word], vec![relocation])
     }
 
-    fn compressed_jump(&mut self, offset: u32, place: u32) -> Item {
-        let (kind, funct3, reach) =
-            self.random
-                .pick(&[(44, 6, 256), (44, 7, 256), (45, 1, 2_048), (45, 5, 2_048)]);
+    fn compressed_jump(&mut self, offset: u64, place: u64) -> Item {
+        let all = [(44, 6, 256), (44, 7, 256), (45, 5, 2_048), (45, 1, 2_048)];
+        // C.JAL is of class 1 alone.
+        let has_last = !self.is_64() || self.is_faulty;
+        let (kind, funct3, reach) = self.random.pick(&all[..3 + usize::from(has_last)]);
         let target = self.target(place, reach);
         let relocation = self.towards(offset, kind, target);
         let word = self.random.u32() & !0xE003 | (funct3 << 13) | 1;
         self.with(&[word], vec![relocation])
     }
 
-    fn call(&mut self, offset: u32) -> Item {
+    fn call(&mut self, offset: u64, place: u64) -> Item {
         let kind = self.random.pick(&[18, 19]);
-        let target = self.random.u32() & !1;
+        let target = self.halves_target(place) & !1;
         let relocation = self.towards(offset, kind, target);
         let register = 1 + self.random.below(31) as u32;
         let first = self.instruction(0x17) & !0xF80 | (register << 7);
@@ -319,29 +406,39 @@ impl Sampler<'_> {
         self.with(&[first, second], vec![relocation])
     }
 
-    fn absolute_half(&mut self, offset: u32) -> Item {
-        let (kind, opcode) =
-            self.random
-                .pick(&[(26, 0x37), (27, 0x13), (27, 0x03), (28, 0x23), (28, 0x27)]);
+    fn absolute_half(&mut self, offset: u64) -> Item {
+        let all = [
+            (26, 0x37),
+            (27, 0x13),
+            (27, 0x03),
+            (28, 0x23),
+            (28, 0x27),
+            (27, 0x1B),
+        ];
+        let (kind, opcode) = self.random.pick(&all[..5 + usize::from(self.is_64())]);
         let word = self.instruction(opcode);
-        let relocation = self.anywhere(offset, kind);
+        let relocation = match kind {
+            26 => self.high_half(offset, kind, 0),
+            _ => self.anywhere(offset, kind),
+        };
         self.with(&[word], vec![relocation])
     }
 
-    fn pair(&mut self, section: u16, offset: u32) -> Item {
+    fn pair(&mut self, section: u16, offset: u64, place: u64) -> Item {
         if self.is_faulty && self.random.one_in(2) {
             return self.no_pair(section, offset);
         }
-        let (kind, opcode) = self.random.pick(&[(24, 0x67), (24, 0x07), (25, 0x23)]);
+        let all = [(24, 0x67), (24, 0x07), (25, 0x23), (24, 0x1B)];
+        let (kind, opcode) = self.random.pick(&all[..3 + usize::from(self.is_64())]);
         let label = self.add(Symbol::new(0, section, offset), None);
         let words = [self.instruction(0x17), self.instruction(opcode)];
-        let high = self.anywhere(offset, 23);
+        let high = self.high_half(offset, 23, place);
         let low = Relocation::new(offset + 4, kind, label, 0);
         self.with(&words, vec![high, low])
     }
 
     /// A low half with no high half at its label, or with two.
-    fn no_pair(&mut self, section: u16, offset: u32) -> Item {
+    fn no_pair(&mut self, section: u16, offset: u64) -> Item {
         let place = offset + 4;
         let label = self.add(Symbol::new(0, section, place), None);
         let words = [self.instruction(0x03), self.instruction(0x17)];
@@ -353,8 +450,8 @@ impl Sampler<'_> {
     }
 
     /// ADD, SUB and SET of one width at one place.
-    fn stack(&mut self, offset: u32) -> Item {
-        let widths: [&[u8]; 5] = [
+    fn stack(&mut self, offset: u64) -> Item {
+        let widths: [&[u32]; 5] = [
             &[52, 53],
             &[33, 37, 54],
             &[34, 38, 55],
@@ -371,22 +468,23 @@ impl Sampler<'_> {
         self.with(&[], relocations)
     }
 
-    fn marker(&mut self, offset: u32, place: u32, size: u32) -> Item {
+    fn marker(&mut self, offset: u64, place: u64, size: u64) -> Item {
         let room = (size - offset).min(4_094);
-        let fits = |addend: &u32| {
+        let fits = |addend: &u64| {
             let boundary = (addend + 2).next_power_of_two();
-            (u64::from(place) + u64::from(*addend)) % u64::from(boundary) == 0
+            (place + addend).is_multiple_of(boundary)
         };
         let misses = self.is_faulty && self.random.one_in(2);
-        let is_wanted = |addend: &u32| fits(addend) != misses;
-        let paddings: Vec<u32> = (0..=room).step_by(2).filter(is_wanted).collect();
-        let any = self.random.u32();
-        let mut relocations = vec![Relocation::new(offset, 51, any >> 8, any as i32)];
+        let is_wanted = |addend: &u64| fits(addend) != misses;
+        let paddings: Vec<u64> = (0..=room).step_by(2).filter(is_wanted).collect();
+        let any = self.random.u64() as i64;
+        let symbol = self.random.u32() >> 8;
+        let mut relocations = vec![Relocation::new(offset, 51, symbol, any)];
         if !paddings.is_empty() {
-            let addend = self.random.pick(&paddings) as i32;
-            relocations.push(Relocation::new(offset, 43, any >> 8, addend));
+            let addend = self.random.pick(&paddings) as i64;
+            relocations.push(Relocation::new(offset, 43, symbol, addend));
         }
-        relocations.push(Relocation::new(offset, 0, any >> 8, any as i32));
+        relocations.push(Relocation::new(offset, 0, symbol, any));
         self.with(&[], relocations)
     }
 
@@ -398,13 +496,13 @@ impl Sampler<'_> {
             return;
         };
         match any % 8 {
-            0 => last.kind = (any >> 8) as u8,
+            0 => last.kind = (any >> 8) % 512,
             1 => last.symbol = unresolved as u32,
             2 => last.symbol = any >> 8,
             3 => last.addend = last.addend.wrapping_add(1),
             4 => last.addend = last.addend.wrapping_add(8_192),
-            5 => last.offset = last.offset.wrapping_sub(any >> 29),
-            6 => last.offset += 1 + (any >> 30),
+            5 => last.offset = last.offset.wrapping_sub(u64::from(any >> 29)),
+            6 => last.offset += 1 + u64::from(any >> 30),
             _ => item.bytes[(any >> 29) as usize] ^= (any >> 8) as u8,
         }
     }

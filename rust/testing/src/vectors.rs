@@ -12,8 +12,8 @@ pub fn lines(name: &str) -> Vec<Line> {
     read_lines("../../vectors", name).expect("the vectors are in the repository")
 }
 
-/// The same of the file that is shared beside the repository, where it is
-/// there.
+/// The same of a file that is shared beside the repository, where it is there.
+/// There the names say for which tickets a file is.
 pub fn shared_lines(name: &str) -> Option<Vec<Line>> {
     read_lines("../../../shared/vectors", name).ok()
 }

@@ -11,6 +11,11 @@ pub fn u32_at<const LENGTH: usize>(entry: &[u8; LENGTH], at: usize) -> u32 {
     u32::from_le_bytes([entry[at], entry[at + 1], entry[at + 2], entry[at + 3]])
 }
 
+#[inline(always)]
+pub fn u64_at<const LENGTH: usize>(entry: &[u8; LENGTH], at: usize) -> u64 {
+    u64::from(u32_at(entry, at + 4)) << 32 | u64::from(u32_at(entry, at))
+}
+
 /// The number of two bytes at a place that is known only now.
 #[inline(always)]
 pub fn half_at(bytes: &[u8], at: usize) -> Option<u16> {

@@ -4,20 +4,25 @@
 //! question leaves open.
 
 use super::bytes::{double_word_at, half_at};
+use super::class::Class;
 use super::forms::{is_call, missing_forms};
-use super::object::Relocation;
-use super::relocations::{Before, Entry, List};
+use super::relocations::{wrong_distance, Before, Entry, List};
 use super::symbols::Symbols;
-use super::types::{Rules, Way, RULES};
+use super::types::{Rules, Way};
 
-const PCREL_HI20: u8 = 23;
-const HIGHEST_PADDING: i32 = 4_094;
+const PCREL_HI20: u32 = 23;
+const HIGHEST_PADDING: i64 = 4_094;
 
 /// The number of the first broken rule, or 0.
 #[cold]
 #[inline(never)]
-pub fn first_broken(list: &List, symbols: &mut Symbols, entry: Entry, before: &Before) -> u32 {
-    let rules = &RULES[usize::from(entry.kind)];
+pub fn first_broken<C: Class>(
+    list: &List<C>,
+    symbols: &mut Symbols<C>,
+    entry: Entry,
+    before: &Before,
+) -> u32 {
+    let rules = entry.rules::<C>();
     let offset = i64::from(entry.offset);
     match rules.way {
         Way::Refused => return 9,
@@ -35,23 +40,27 @@ pub fn first_broken(list: &List, symbols: &mut Symbols, entry: Entry, before: &B
     if !form_holds(list, &entry, rules) {
         return 11;
     }
-    let distance = i64::from(value.wrapping_add_signed(entry.addend)) - list.address - offset;
-    match (distance + rules.reach) & rules.outside {
+    match wrong_distance::<C>(value, entry, list.place(entry), rules) {
         0 => 0,
         _ => 13,
     }
 }
 
 /// Checks 10, 11 and 12 of a PCREL_LO12.
-fn broken_pair(list: &List, symbols: &Symbols, entry: &Entry, rules: &Rules) -> u32 {
+fn broken_pair<C: Class>(
+    list: &List<C>,
+    symbols: &Symbols<C>,
+    entry: &Entry,
+    rules: &Rules,
+) -> u32 {
     let Some(label) = symbols.label(entry.symbol, list.target) else {
         return 10;
     };
     if !form_holds(list, entry, rules) {
         return 11;
     }
-    let is_pair = |other: &&Relocation| {
-        let other = Entry::read(other);
+    let is_pair = |other: &&C::Relocation| {
+        let other = C::relocation(other);
         other.kind == PCREL_HI20 && other.offset == label
     };
     match list.relocations.iter().filter(is_pair).count() {
@@ -61,30 +70,31 @@ fn broken_pair(list: &List, symbols: &Symbols, entry: &Entry, rules: &Rules) -> 
 }
 
 /// Checks 9 and 14 of ALIGN, which has no other.
-fn broken_padding(list: &List, entry: &Entry, before: &Before) -> u32 {
+fn broken_padding<C: Class>(list: &List<C>, entry: &Entry, before: &Before) -> u32 {
     let offset = i64::from(entry.offset);
-    let end = offset + i64::from(entry.addend);
     if offset < before.offset
         || !(0..=HIGHEST_PADDING).contains(&entry.addend)
         || entry.addend & 1 != 0
-        || end > list.size
+        || offset + entry.addend > list.size
     {
         return 9;
     }
-    let boundary = i64::from((entry.addend as u32 + 2).next_power_of_two());
-    match (list.address + end) & (boundary - 1) {
+    let boundary = (entry.addend as u64 + 2).next_power_of_two();
+    // A section may end at the end of memory.
+    match list.place(*entry).wrapping_add(entry.addend as u64) & (boundary - 1) {
         0 => 0,
         _ => 14,
     }
 }
 
 /// Check 11. The bytes touched lie in the section.
-fn form_holds(list: &List, entry: &Entry, rules: &Rules) -> bool {
+fn form_holds<C: Class>(list: &List<C>, entry: &Entry, rules: &Rules) -> bool {
     let offset = entry.offset as usize;
-    let is_even = (list.address + i64::from(entry.offset)) & 1 == 0;
+    let is_even = list.place(*entry) & 1 == 0;
     let is_form = match rules.way {
         Way::Call => double_word_at(list.bytes, offset).is_some_and(is_call),
-        _ => half_at(list.bytes, offset).is_some_and(|half| missing_forms(half) & rules.form == 0),
+        _ => half_at(list.bytes, offset)
+            .is_some_and(|half| missing_forms::<C>(half) & rules.form == 0),
     };
     rules.form == 0 || (is_even && is_form)
 }

@@ -1,5 +1,7 @@
 //! The instruction forms that types ask for (check 11).
 
+use super::class::Class;
+
 /// The forms of instructions, a bit each.
 pub mod form {
     pub const LUI: u8 = 1;
@@ -13,7 +15,7 @@ pub mod form {
 }
 
 /// The forms of the word whose bits 15 to 12 and 6 to 0 are these.
-const fn forms_of(bits: usize) -> u8 {
+const fn forms_of(bits: usize, is_64: bool) -> u8 {
     let funct3 = bits >> 7 & 7;
     let of_opcode = match bits & 0x7F {
         0x37 => form::LUI,
@@ -22,31 +24,36 @@ const fn forms_of(bits: usize) -> u8 {
         0x63 => form::BRANCH,
         0x03 | 0x07 => form::LOW_I,
         0x13 | 0x67 if funct3 == 0 => form::LOW_I,
+        0x1B if funct3 == 0 && is_64 => form::LOW_I,
         0x23 | 0x27 => form::LOW_S,
         _ => 0,
     };
     let compressed = match (bits & 3, bits >> 8) {
         (1, 6 | 7) => form::COMPRESSED_BRANCH,
-        (1, 1 | 5) => form::COMPRESSED_JUMP,
+        (1, 5) => form::COMPRESSED_JUMP,
+        (1, 1) if !is_64 => form::COMPRESSED_JUMP,
         _ => 0,
     };
     of_opcode | compressed
 }
 
-static MISSING_FORMS: [u8; 2_048] = {
+const fn all_missing(is_64: bool) -> [u8; 2_048] {
     let mut missing = [0; 2_048];
     let mut bits = 0;
     while bits < 2_048 {
-        missing[bits] = !forms_of(bits);
+        missing[bits] = !forms_of(bits, is_64);
         bits += 1;
     }
     missing
-};
+}
+
+pub static MISSING_FORMS_32: [u8; 2_048] = all_missing(false);
+pub static MISSING_FORMS_64: [u8; 2_048] = all_missing(true);
 
 /// Every form that the instruction with these lowest 16 bits does not have.
 #[inline(always)]
-pub fn missing_forms(half: u16) -> u8 {
-    MISSING_FORMS[usize::from(half & 0x7F | half >> 5 & 0x780)]
+pub fn missing_forms<C: Class>(half: u16) -> u8 {
+    C::MISSING_FORMS[usize::from(half & 0x7F | half >> 5 & 0x780)]
 }
 
 /// "CALL 0x17 with rd not 0, then 0x67 with funct3 0 and rs1 equal to that rd"

@@ -1,21 +1,22 @@
 //! Laying: the sections are copied, and then the relocations applied in file
 //! order. All checks have passed, so that nothing here can be refused.
 
-use super::object::{indexes, Object, Relocation};
+use super::class::{Class, Word};
+use super::object::{indexes, Object};
 use super::placing::Addresses;
 use super::relocations::Entry;
 use super::symbols::Symbols;
-use super::types::{Effect, Laying, EFFECTS};
+use super::types::{Effect, Laying};
 
 /// What is laid, and where.
-pub struct Plan<'a> {
-    pub object: &'a Object<'a>,
+pub struct Plan<'a, C: Class> {
+    pub object: &'a Object<'a, C>,
     pub addresses: &'a Addresses,
-    pub symbols: &'a Symbols<'a>,
-    pub base: u32,
+    pub symbols: &'a Symbols<'a, C>,
+    pub base: u64,
 }
 
-impl Plan<'_> {
+impl<C: Class> Plan<'_, C> {
     pub fn lay(&self, image: &mut [u8]) {
         for index in indexes(self.object.loaded) {
             let bytes = self.object.bytes_of(self.object.section(index));
@@ -28,7 +29,7 @@ impl Plan<'_> {
                 let list = List {
                     relocations,
                     symbols: self.symbols,
-                    address: self.addresses[target],
+                    address: self.addresses[target] as u32,
                 };
                 list.apply(self.place_of(target, image));
             }
@@ -38,18 +39,19 @@ impl Plan<'_> {
     /// The part of the image that a section with bytes is laid into.
     fn place_of<'i>(&self, index: usize, image: &'i mut [u8]) -> &'i mut [u8] {
         let start = (self.addresses[index] - self.base) as usize;
-        &mut image[start..start + self.object.section(index).size()]
+        &mut image[start..start + self.object.section(index).size() as usize]
     }
 }
 
 /// One RELA section, and what it patches.
-struct List<'a> {
-    relocations: &'a [Relocation],
-    symbols: &'a Symbols<'a>,
+struct List<'a, C: Class> {
+    relocations: &'a [C::Relocation],
+    symbols: &'a Symbols<'a, C>,
+    /// The lowest bits of the section's address.
     address: u32,
 }
 
-impl List<'_> {
+impl<C: Class> List<'_, C> {
     /// In file order, each on what those before it left.
     fn apply(&self, section: &mut [u8]) {
         let mut rest = self.relocations;
@@ -61,7 +63,7 @@ impl List<'_> {
             let Some((special, behind)) = rest.split_first() else {
                 return;
             };
-            self.apply_special(Entry::read(special), section);
+            self.apply_special(Entry::read::<C>(special), section);
             rest = behind;
         }
     }
@@ -72,13 +74,13 @@ impl List<'_> {
     #[inline(never)]
     fn apply_plain<'r, const PAIRS: bool>(
         &self,
-        relocations: &'r [Relocation],
+        relocations: &'r [C::Relocation],
         section: &mut [u8],
-    ) -> &'r [Relocation] {
+    ) -> &'r [C::Relocation] {
         let mut rest = relocations;
         while let Some((relocation, behind)) = rest.split_first() {
-            let entry = Entry::read(relocation);
-            let effect = &EFFECTS[usize::from(entry.kind)];
+            let entry = Entry::read::<C>(relocation);
+            let effect = &C::EFFECTS[usize::from(entry.kind)];
             let offset = entry.offset as usize;
             match effect.laying {
                 Laying::Plain => {}
@@ -125,18 +127,19 @@ impl List<'_> {
     /// The pair's T - P, modulo 2^32.
     #[inline(always)]
     fn pair_number(&self, entry: Entry) -> u32 {
-        let pair = Entry::read(&self.relocations[self.symbols.known_pair(entry.symbol)]);
+        let pair = self.symbols.known_pair(entry.symbol);
+        let pair = Entry::read::<C>(&self.relocations[pair]);
         self.s_plus_a(pair).wrapping_sub(self.place(pair))
     }
 
     /// S + A, modulo 2^32.
     #[inline(always)]
     fn s_plus_a(&self, entry: Entry) -> u32 {
-        let value = self.symbols.known_value(entry.symbol);
-        value.wrapping_add_signed(entry.addend)
+        let value = self.symbols.known_value(entry.symbol).whole();
+        (value as u32).wrapping_add(entry.addend as u32)
     }
 
-    /// P.
+    /// P, modulo 2^32.
     #[inline(always)]
     fn place(&self, entry: Entry) -> u32 {
         self.address.wrapping_add(entry.offset)
@@ -146,7 +149,7 @@ impl List<'_> {
     /// bytes of its section.
     #[inline(never)]
     fn apply_special(&self, entry: Entry, section: &mut [u8]) {
-        let effect = &EFFECTS[usize::from(entry.kind)];
+        let effect = &C::EFFECTS[usize::from(entry.kind)];
         let offset = entry.offset as usize;
         let place = &mut section[offset..offset + usize::from(effect.width)];
         let mut word = [0; 8];
@@ -163,13 +166,15 @@ impl List<'_> {
         place.copy_from_slice(&word.to_le_bytes()[..place.len()]);
     }
 
-    /// V + S + A or V - S - A in 64 bits, where S + A is not reduced first.
+    /// S + A, V + S + A or V - S - A in 64 bits, where S + A is not reduced
+    /// first.
     fn wide_number(&self, entry: Entry, effect: &Effect, present: u64) -> u64 {
-        let value = i64::from(self.symbols.known_value(entry.symbol));
-        let sum = value + i64::from(entry.addend);
+        let value = self.symbols.known_value(entry.symbol).whole();
+        let sum = value.wrapping_add_signed(entry.addend);
+        let present = present & i64::from(effect.present) as u64;
         match effect.negated {
-            0 => present.wrapping_add_signed(sum),
-            _ => present.wrapping_sub(sum as u64),
+            0 => present.wrapping_add(sum),
+            _ => present.wrapping_sub(sum),
         }
     }
 }

@@ -2,6 +2,7 @@
 //! stand in the file.
 
 use super::bytes::{u16_at, u32_at};
+use super::class::{Class, Header};
 use super::MAX_BYTES;
 
 const NULL: u32 = 0;
@@ -10,68 +11,67 @@ const RELA: u32 = 4;
 const NOBITS: u32 = 8;
 const REL: u32 = 9;
 
-const HEADER_SIZE: usize = 52;
-const SECTION_HEADER_SIZE: usize = 40;
-const SYMBOL_SIZE: usize = 16;
-const RELOCATION_SIZE: usize = 12;
-
 /// The most sections; a set of them is the bits of one number.
 pub const MAX_SECTIONS: usize = 32;
-const MAX_SYMBOLS: usize = 1_024;
-const MAX_RELOCATIONS: usize = 4_096;
+const MAX_SYMBOLS: u64 = 1_024;
+const MAX_RELOCATIONS: u64 = 4_096;
 
-pub type Header = [u8; HEADER_SIZE];
-pub type Symbol = [u8; SYMBOL_SIZE];
-/// Three numbers: offset, symbol and type, and addend.
-pub type Relocation = [[u8; 4]; 3];
-
-/// Check 4: `None` where the header or the file's length is wrong.
-pub fn read_header(file: &[u8]) -> Option<&Header> {
-    let header: &Header = file.first_chunk()?;
+/// Check 4: `None` where the header or the file's length is wrong. The class is
+/// known.
+pub fn read_header<C: Class>(file: &[u8]) -> Option<Header> {
+    // What both classes have at one place.
+    let start: &[u8; 24] = file.first_chunk()?;
     let is_right = file.len() <= MAX_BYTES
-        && header[..7] == [0x7F, b'E', b'L', b'F', 1, 1, 1]
-        && u16_at(header, 16) == 1 // e_type
-        && u16_at(header, 18) == 243 // e_machine
-        && u32_at(header, 20) == 1 // e_version
-        && u16_at(header, 40) == 52; // e_ehsize
-    is_right.then_some(header)
+        && start[..4] == [0x7F, b'E', b'L', b'F']
+        && start[5..7] == [1, 1]
+        && u16_at(start, 16) == 1 // e_type
+        && u16_at(start, 18) == 243 // e_machine
+        && u32_at(start, 20) == 1; // e_version
+    is_right.then(|| C::header(file)).flatten()
 }
 
 /// One section header, where it stands.
-#[derive(Clone, Copy)]
-pub struct Section<'a>(&'a [u8; SECTION_HEADER_SIZE]);
+pub struct Section<'a, C: Class>(&'a C::Section);
 
-impl Section<'_> {
+impl<C: Class> Clone for Section<'_, C> {
+    fn clone(&self) -> Self {
+        *self
+    }
+}
+
+impl<C: Class> Copy for Section<'_, C> {}
+
+impl<C: Class> Section<'_, C> {
     fn kind(self) -> u32 {
-        u32_at(self.0, 4)
+        C::section_word(self.0, 4)
     }
 
-    fn flags(self) -> u32 {
-        u32_at(self.0, 8)
+    fn flags(self) -> u64 {
+        C::section_number(self.0, 8)
     }
 
-    pub fn offset(self) -> usize {
-        u32_at(self.0, 16) as usize
+    fn offset(self) -> u64 {
+        C::section_number(self.0, C::OFFSET)
     }
 
-    pub fn size(self) -> usize {
-        u32_at(self.0, 20) as usize
+    pub fn size(self) -> u64 {
+        C::section_number(self.0, C::SIZE)
     }
 
     fn link(self) -> usize {
-        u32_at(self.0, 24) as usize
+        C::section_word(self.0, C::LINK) as usize
     }
 
     pub fn info(self) -> usize {
-        u32_at(self.0, 28) as usize
+        C::section_word(self.0, C::INFO) as usize
     }
 
-    pub fn alignment(self) -> u32 {
-        u32_at(self.0, 32)
+    pub fn alignment(self) -> u64 {
+        C::section_number(self.0, C::ALIGNMENT)
     }
 
-    fn entry_size(self) -> usize {
-        u32_at(self.0, 36) as usize
+    fn entry_size(self) -> u64 {
+        C::section_number(self.0, C::ENTRY_SIZE)
     }
 
     fn is_allocated(self) -> bool {
@@ -80,9 +80,9 @@ impl Section<'_> {
 }
 
 /// An object that passed checks 4 and 5.
-pub struct Object<'a> {
+pub struct Object<'a, C: Class> {
     pub file: &'a [u8],
-    headers: &'a [[u8; SECTION_HEADER_SIZE]],
+    headers: &'a [C::Section],
     /// The sections that are allocated, a bit each.
     pub allocated: u32,
     /// Those that are allocated and have bytes in the file, a bit each.
@@ -92,13 +92,13 @@ pub struct Object<'a> {
     symbol_table: Option<usize>,
 }
 
-impl<'a> Object<'a> {
+impl<'a, C: Class> Object<'a, C> {
     /// The error is the place: 0 for the table, and otherwise the lowest
     /// section that breaks a rule.
-    pub fn read(file: &'a [u8], header: &Header) -> Result<Object<'a>, u32> {
+    pub fn read(file: &'a [u8], header: &Header) -> Result<Object<'a, C>, u32> {
         let mut object = Object {
             file,
-            headers: section_headers(file, header).ok_or(0_u32)?,
+            headers: section_headers::<C>(file, header).ok_or(0_u32)?,
             allocated: 0,
             loaded: 0,
             relocation_sections: 0,
@@ -118,11 +118,11 @@ impl<'a> Object<'a> {
         Ok(object)
     }
 
-    fn sections(&self) -> impl Iterator<Item = Section<'a>> + use<'a> {
+    fn sections(&self) -> impl Iterator<Item = Section<'a, C>> + use<'a, C> {
         self.headers.iter().map(Section)
     }
 
-    pub fn section(&self, index: usize) -> Section<'a> {
+    pub fn section(&self, index: usize) -> Section<'a, C> {
         Section(&self.headers[index])
     }
 
@@ -136,7 +136,10 @@ impl<'a> Object<'a> {
                 let target = 1 << section.info();
                 holds = holds && self.is_right_rela(section) && targets & target == 0;
                 targets |= target;
-                relocations += section.size() / RELOCATION_SIZE;
+                // A section outside the file is not counted: it is refused.
+                if holds {
+                    relocations += section.size() / C::RELOCATION_SIZE as u64;
+                }
                 holds = holds && relocations <= MAX_RELOCATIONS;
                 self.relocation_sections |= 1 << index;
             }
@@ -148,10 +151,11 @@ impl<'a> Object<'a> {
     }
 
     /// The rules that are not about relocations.
-    fn is_well_formed(&self, index: usize, section: Section) -> bool {
+    fn is_well_formed(&self, index: usize, section: Section<C>) -> bool {
         let kind = section.kind();
+        let end = section.offset().checked_add(section.size());
         let is_in_file =
-            matches!(kind, NULL | NOBITS) || section.offset() + section.size() <= self.file.len();
+            matches!(kind, NULL | NOBITS) || end.is_some_and(|end| end <= self.file.len() as u64);
         let alignment = section.alignment();
         let is_aligned = alignment & alignment.wrapping_sub(1) == 0;
         let may_be_allocated = is_aligned && !matches!(kind, SYMTAB | RELA | REL);
@@ -161,56 +165,62 @@ impl<'a> Object<'a> {
             && (kind != SYMTAB || self.is_right_symbol_table(index, section))
     }
 
-    fn is_right_symbol_table(&self, index: usize, section: Section) -> bool {
+    fn is_right_symbol_table(&self, index: usize, section: Section<C>) -> bool {
+        let each = C::SYMBOL_SIZE as u64;
         self.symbol_table == Some(index)
-            && section.entry_size() == SYMBOL_SIZE
-            && section.size().is_multiple_of(SYMBOL_SIZE)
-            && section.size() <= SYMBOL_SIZE * MAX_SYMBOLS
+            && section.entry_size() == each
+            && section.size().is_multiple_of(each)
+            && section.size() <= each * MAX_SYMBOLS
     }
 
     /// A section that counts must be a RELA section with whole entries, and
     /// patch a loaded section.
-    fn is_right_rela(&self, section: Section) -> bool {
+    fn is_right_rela(&self, section: Section<C>) -> bool {
+        let each = C::RELOCATION_SIZE as u64;
         section.kind() == RELA
-            && section.entry_size() == RELOCATION_SIZE
-            && section.size().is_multiple_of(RELOCATION_SIZE)
+            && section.entry_size() == each
+            && section.size().is_multiple_of(each)
             && self.symbol_table == Some(section.link())
             && is_in(self.loaded, section.info())
     }
 
-    pub fn symbols(&self) -> &'a [Symbol] {
+    pub fn symbols(&self) -> &'a [C::Symbol] {
         match self.symbol_table {
-            Some(index) => self.bytes_of(self.section(index)).as_chunks().0,
+            Some(index) => C::symbols(self.bytes_of(self.section(index))),
             None => &[],
         }
     }
 
     /// The RELA sections that count, upward: the section that each patches, and
     /// its relocations.
-    pub fn relocation_sections(&self) -> impl Iterator<Item = (usize, &'a [Relocation])> + '_ {
+    pub fn relocation_sections(&self) -> impl Iterator<Item = (usize, &'a [C::Relocation])> + '_ {
         indexes(self.relocation_sections).map(|index| {
             let section = self.section(index);
-            let words: &[[u8; 4]] = self.bytes_of(section).as_chunks().0;
-            (section.info(), words.as_chunks().0)
+            (section.info(), C::relocations(self.bytes_of(section)))
         })
     }
 
-    pub fn bytes_of(&self, section: Section) -> &'a [u8] {
-        &self.file[section.offset()..section.offset() + section.size()]
+    pub fn bytes_of(&self, section: Section<C>) -> &'a [u8] {
+        &self.bytes_from(section)[..section.size() as usize]
+    }
+
+    /// The file from the first byte of a section in it on.
+    pub fn bytes_from(&self, section: Section<C>) -> &'a [u8] {
+        &self.file[section.offset() as usize..]
     }
 }
 
 /// Check 5 at place 0.
-fn section_headers<'a>(file: &'a [u8], header: &Header) -> Option<&'a [[u8; SECTION_HEADER_SIZE]]> {
-    let count = usize::from(u16_at(header, 48));
-    if usize::from(u16_at(header, 46)) != SECTION_HEADER_SIZE
+fn section_headers<'a, C: Class>(file: &'a [u8], header: &Header) -> Option<&'a [C::Section]> {
+    let count = usize::from(header.section_count);
+    if usize::from(header.section_entry_size) != C::SECTION_SIZE
         || !(1..=MAX_SECTIONS).contains(&count)
     {
         return None;
     }
-    let start = u32_at(header, 32) as usize;
-    let table = file.get(start..start + count * SECTION_HEADER_SIZE)?;
-    Some(table.as_chunks().0)
+    let start = usize::try_from(header.section_table).ok()?;
+    let table = file.get(start..)?.get(..count * C::SECTION_SIZE)?;
+    Some(C::sections(table))
 }
 
 /// Whether a set of sections holds this index, which may be any number.

@@ -2,14 +2,14 @@
 //! one among them at a label, found by halving. Every PCREL_LO12 is looked up
 //! anew, also where another one named the same label.
 
-use super::object::Relocation;
+use super::class::{Class, Raw};
 
-const PCREL_HI20: u8 = 23;
+const PCREL_HI20: u32 = 23;
 const MOST: usize = 4_096;
 
 /// The PCREL_HI20 relocations of one RELA section, in file order.
-pub struct HighHalves {
-    offsets: [u32; MOST],
+pub struct HighHalves<C: Class> {
+    offsets: [C::Word; MOST],
     /// Which of the section's relocations each is.
     places: [u16; MOST],
     count: usize,
@@ -18,27 +18,30 @@ pub struct HighHalves {
     ascending: usize,
 }
 
-impl HighHalves {
+impl<C: Class> HighHalves<C> {
     /// Before any are found.
-    pub const NONE: HighHalves = HighHalves {
-        offsets: [0; MOST],
-        places: [0; MOST],
-        count: 0,
-        ascending: 0,
-    };
+    pub fn none() -> HighHalves<C> {
+        HighHalves {
+            offsets: [C::Word::default(); MOST],
+            places: [0; MOST],
+            count: 0,
+            ascending: 0,
+        }
+    }
 
     /// Finds those of a list.
-    pub fn find(&mut self, relocations: &[Relocation]) {
+    pub fn find(&mut self, relocations: &[C::Relocation]) {
         let mut count = 0;
         for (place, relocation) in (0_u16..).zip(relocations) {
             // What is written for another type is written over by the next.
-            self.offsets[count % MOST] = u32::from_le_bytes(relocation[0]);
+            let Raw { offset, kind, .. } = C::relocation(relocation);
+            self.offsets[count % MOST] = offset;
             self.places[count % MOST] = place;
-            count += usize::from(relocation[1][0] == PCREL_HI20);
+            count += usize::from(kind == PCREL_HI20);
         }
         self.count = count;
         let offsets = &self.offsets[..count];
-        let falls = |two: &[u32]| two[1] < two[0];
+        let falls = |two: &[C::Word]| two[1] < two[0];
         self.ascending = match offsets.windows(2).position(falls) {
             Some(before) => before + 1,
             None => count,
@@ -48,7 +51,7 @@ impl HighHalves {
     /// The place of the only one at this offset; `None` where there is none, or
     /// more than one.
     #[inline(always)]
-    pub fn only_at(&self, offset: u32) -> Option<usize> {
+    pub fn only_at(&self, offset: C::Word) -> Option<usize> {
         let offsets = &self.offsets[..self.count];
         if self.ascending < offsets.len() {
             return self.only_at_unsorted(offset);
@@ -61,7 +64,7 @@ impl HighHalves {
     /// The same where not all offsets ascend: the ascending ones are halved,
     /// and the others counted one by one.
     #[cold]
-    fn only_at_unsorted(&self, offset: u32) -> Option<usize> {
+    fn only_at_unsorted(&self, offset: C::Word) -> Option<usize> {
         let (sorted, rest) = self.offsets[..self.count].split_at(self.ascending);
         let first = sorted.partition_point(|other| *other < offset);
         let in_sorted = sorted[first..].partition_point(|other| *other == offset);

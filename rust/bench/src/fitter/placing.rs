@@ -1,16 +1,16 @@
 //! Placements against sections (check 6), and "Placing" (check 8).
 
+use super::class::Class;
 use super::journal::Span;
 use super::object::{indexes, is_in, Object, MAX_SECTIONS};
 use super::order::Order;
-use super::ADDRESS_END;
 
 /// The address of each allocated section.
-pub type Addresses = [u32; MAX_SECTIONS];
+pub type Addresses = [u64; MAX_SECTIONS];
 
 /// Check 6: the addresses, or the lowest section that is only allocated or only
 /// placed.
-pub fn addresses(object: &Object, order: &Order) -> Result<Addresses, u32> {
+pub fn addresses<C: Class>(object: &Object<C>, order: &Order<C>) -> Result<Addresses, u32> {
     let mut addresses = [0; MAX_SECTIONS];
     let (mut placed, mut beyond) = (0_u32, None);
     for (section, address) in order.placements() {
@@ -30,54 +30,50 @@ pub fn addresses(object: &Object, order: &Order) -> Result<Addresses, u32> {
     }
 }
 
-/// The addresses that the image covers.
+/// The addresses that the image covers. The window has passed check 3.
 #[derive(Clone, Copy)]
 pub struct Window {
-    start: u64,
-    end: u64,
-}
-
-impl Window {
-    /// The window has passed check 3.
-    pub fn new(base: u32, image_length: usize) -> Window {
-        let start = u64::from(base);
-        Window {
-            start,
-            end: start + image_length as u64,
-        }
-    }
+    pub base: u64,
+    pub length: u64,
 }
 
 /// Check 8: the span of what will be loaded, or the lowest section that is
-/// wrongly placed.
-pub fn check(object: &Object, addresses: &Addresses, window: Window) -> Result<Span, u32> {
+/// wrongly placed. A section's range goes from its first address to its last, so
+/// that no end is past all addresses.
+pub fn check<C: Class>(
+    object: &Object<C>,
+    addresses: &Addresses,
+    window: Window,
+) -> Result<Span, u32> {
     let mut ranges = [(0, 0); MAX_SECTIONS];
     let mut count = 0;
     let (mut lowest, mut highest) = (u64::MAX, 0);
     for index in indexes(object.allocated) {
         let section = object.section(index);
-        let start = u64::from(addresses[index]);
-        let end = start + section.size() as u64;
-        let step = u64::from(section.alignment().max(1));
-        let mut holds = start & (step - 1) == 0 && end <= ADDRESS_END;
-        if start < end {
-            let meets = |other: &(u64, u64)| start < other.1 && other.0 < end;
+        let (start, size) = (addresses[index], section.size());
+        let mut holds = start & section.alignment().saturating_sub(1) == 0;
+        if size > 0 {
+            let room = C::LAST_ADDRESS - start;
+            let last = start + room.min(size - 1);
+            holds &= size - 1 <= room;
+            let meets = |other: &(u64, u64)| start <= other.1 && other.0 <= last;
             holds &= !ranges[..count].iter().any(meets);
-            ranges[count] = (start, end);
+            ranges[count] = (start, last);
             count += 1;
             if is_in(object.loaded, index) {
-                holds &= window.start <= start && end <= window.end;
-                (lowest, highest) = (lowest.min(start), highest.max(end));
+                let behind = last.wrapping_sub(window.base);
+                holds &= window.base <= start && behind < window.length;
+                (lowest, highest) = (lowest.min(start), highest.max(last));
             }
         }
         if !holds {
             return Err(index as u32);
         }
     }
-    Ok(match lowest < highest {
+    Ok(match lowest <= highest {
         true => Span {
-            start: (lowest - window.start) as usize,
-            length: (highest - lowest) as usize,
+            start: (lowest - window.base) as usize,
+            length: (highest - lowest) as usize + 1,
         },
         false => Span {
             start: 0,

@@ -1,46 +1,79 @@
 //! Checks 9 to 14, as one question for each relocation: do all its rules hold?
 
 use super::bytes::{double_word_at, half_at};
+use super::class::{Class, Word};
 use super::exact;
 use super::forms::{is_call, missing_forms};
-use super::object::{Object, Relocation};
+use super::object::Object;
 use super::pairs::HighHalves;
 use super::placing::Addresses;
 use super::symbols::Symbols;
-use super::types::{Rules, Way, RULES};
+use super::types::{Rules, Way};
 use super::{refusal, Answer};
 
 /// One RELA section, and what it patches.
-pub struct List<'a> {
-    pub relocations: &'a [Relocation],
+pub struct List<'a, C: Class> {
+    pub relocations: &'a [C::Relocation],
     /// The index of the section that is patched.
     pub target: usize,
     /// The file from the first byte of that section on.
     pub bytes: &'a [u8],
     pub size: i64,
-    pub address: i64,
+    pub address: u64,
+}
+
+impl<C: Class> List<'_, C> {
+    /// P. It goes around the end of memory only where the offset is past the
+    /// section.
+    #[inline(always)]
+    pub fn place(&self, entry: Entry) -> u64 {
+        self.address.wrapping_add(u64::from(entry.offset))
+    }
 }
 
 /// One relocation, as it is read.
 #[derive(Clone, Copy)]
 pub struct Entry {
+    /// An offset past 2^32 is past every section, as the last one before it is.
     pub offset: u32,
+    /// Types above 255 are refused, as 255 is.
     pub kind: u8,
     pub symbol: usize,
-    pub addend: i32,
+    pub addend: i64,
 }
 
 impl Entry {
     #[inline(always)]
-    pub fn read(relocation: &Relocation) -> Entry {
-        let [offset, info, addend] = relocation.map(u32::from_le_bytes);
+    pub fn read<C: Class>(relocation: &C::Relocation) -> Entry {
+        let raw = C::relocation(relocation);
         Entry {
-            offset,
-            kind: info as u8,
-            symbol: (info >> 8) as usize,
-            addend: addend as i32,
+            offset: raw.offset.whole().min(u64::from(u32::MAX)) as u32,
+            kind: raw.kind.min(255) as u8,
+            symbol: raw.symbol as usize,
+            addend: raw.addend,
         }
     }
+
+    /// What the type asks for.
+    #[inline(always)]
+    pub fn rules<C: Class>(&self) -> &'static Rules {
+        &C::RULES[usize::from(self.kind)]
+    }
+}
+
+/// The bits that are wrong in the distance from a place to S + A: none where it
+/// is in reach, and even if it must be.
+#[inline(always)]
+pub fn wrong_distance<C: Class>(value: C::Word, entry: Entry, place: u64, rules: &Rules) -> i64 {
+    let t = C::Word::cut(value.whole().wrapping_add_signed(entry.addend));
+    if !C::IS_64 {
+        return (C::distance(t, place) + rules.reach) & rules.outside;
+    }
+    let from = place & i64::from(rules.from_place) as u64;
+    let distance = C::distance(t, from);
+    // The sign of the distance is that of the whole one, unless it went around.
+    let around = (distance ^ -i64::from(t.whole() < from)) & i64::MIN;
+    distance.wrapping_add(rules.reach) & rules.outside | around & i64::from(rules.is_whole)
 }
 
 /// What a relocation's rules ask about those before it.
@@ -114,16 +147,20 @@ enum Reached {
 }
 
 /// Checks all relocations: by RELA section, then in file order.
-pub fn check(object: &Object, addresses: &Addresses, symbols: &mut Symbols) -> Result<(), Answer> {
+pub fn check<C: Class>(
+    object: &Object<C>,
+    addresses: &Addresses,
+    symbols: &mut Symbols<C>,
+) -> Result<(), Answer> {
     let mut first = 0;
     for (target, relocations) in object.relocation_sections() {
         let section = object.section(target);
         let list = List {
             relocations,
             target,
-            bytes: &object.file[section.offset()..],
+            bytes: object.bytes_from(section),
             size: section.size() as i64,
-            address: i64::from(addresses[target]),
+            address: addresses[target],
         };
         check_list(&list, symbols).map_err(|(number, place)| refusal(number, first + place))?;
         first += relocations.len() as u32;
@@ -132,7 +169,7 @@ pub fn check(object: &Object, addresses: &Addresses, symbols: &mut Symbols) -> R
 }
 
 /// The error is the number, and the place in this list.
-fn check_list(list: &List, symbols: &mut Symbols) -> Result<(), (u32, u32)> {
+fn check_list<C: Class>(list: &List<C>, symbols: &mut Symbols<C>) -> Result<(), (u32, u32)> {
     match check_from(list, symbols, 0, Before::START, None)? {
         Reached::End => Ok(()),
         Reached::Pair(index, before) => check_with_pairs(list, symbols, index, before),
@@ -142,36 +179,36 @@ fn check_list(list: &List, symbols: &mut Symbols) -> Result<(), (u32, u32)> {
 /// Goes on at the first relocation with a pair. The high halves take room on
 /// the stack, which a list without pairs does not pay for.
 #[inline(never)]
-fn check_with_pairs(
-    list: &List,
-    symbols: &mut Symbols,
+fn check_with_pairs<C: Class>(
+    list: &List<C>,
+    symbols: &mut Symbols<C>,
     start: usize,
     before: Before,
 ) -> Result<(), (u32, u32)> {
-    let mut high_halves = HighHalves::NONE;
+    let mut high_halves = HighHalves::none();
     high_halves.find(list.relocations);
     check_from(list, symbols, start, before, Some(&high_halves)).map(|_| ())
 }
 
-fn check_from(
-    list: &List,
-    symbols: &mut Symbols,
+fn check_from<C: Class>(
+    list: &List<C>,
+    symbols: &mut Symbols<C>,
     start: usize,
     mut before: Before,
-    high_halves: Option<&HighHalves>,
+    high_halves: Option<&HighHalves<C>>,
 ) -> Result<Reached, (u32, u32)> {
     let mut rest = &list.relocations[start..];
     loop {
         rest = match high_halves {
-            None => pass::<false>(list, rest, symbols, &mut before, None),
-            Some(_) => pass::<true>(list, rest, symbols, &mut before, high_halves),
+            None => pass::<C, false>(list, rest, symbols, &mut before, None),
+            Some(_) => pass::<C, true>(list, rest, symbols, &mut before, high_halves),
         };
         let Some((relocation, behind)) = rest.split_first() else {
             return Ok(Reached::End);
         };
         let index = list.relocations.len() - rest.len();
-        let entry = Entry::read(relocation);
-        let rules = &RULES[usize::from(entry.kind)];
+        let entry = Entry::read::<C>(relocation);
+        let rules = entry.rules::<C>();
         if rules.way == Way::Pair && high_halves.is_none() {
             return Ok(Reached::Pair(index, before));
         }
@@ -190,19 +227,19 @@ fn check_from(
 /// and where a symbol is named for the first time. A list without pairs has a
 /// copy of this function that knows none.
 #[inline(never)]
-fn pass<'r, const PAIRS: bool>(
-    list: &List,
-    relocations: &'r [Relocation],
-    symbols: &mut Symbols,
+fn pass<'r, C: Class, const PAIRS: bool>(
+    list: &List<C>,
+    relocations: &'r [C::Relocation],
+    symbols: &mut Symbols<C>,
     before: &mut Before,
-    high_halves: Option<&HighHalves>,
-) -> &'r [Relocation] {
+    high_halves: Option<&HighHalves<C>>,
+) -> &'r [C::Relocation] {
     let mut now = *before;
     let mut rest = relocations;
     while let Some((relocation, behind)) = rest.split_first() {
-        let entry = Entry::read(relocation);
+        let entry = Entry::read::<C>(relocation);
         let offset = i64::from(entry.offset);
-        let rules = &RULES[usize::from(entry.kind)];
+        let rules = entry.rules::<C>();
         let holds = match rules.way {
             Way::Plain => holds(list, symbols, entry, rules, &now),
             Way::Call => is_call_at(list, entry) && holds(list, symbols, entry, rules, &now),
@@ -229,7 +266,13 @@ fn pass<'r, const PAIRS: bool>(
 /// Whether all rules hold of a plain relocation. They are worked out beside
 /// each other, without a branch for each.
 #[inline(always)]
-fn holds(list: &List, symbols: &Symbols, entry: Entry, rules: &Rules, before: &Before) -> bool {
+fn holds<C: Class>(
+    list: &List<C>,
+    symbols: &Symbols<C>,
+    entry: Entry,
+    rules: &Rules,
+    before: &Before,
+) -> bool {
     let Some(half) = half_at(list.bytes, entry.offset as usize) else {
         return false;
     };
@@ -237,29 +280,28 @@ fn holds(list: &List, symbols: &Symbols, entry: Entry, rules: &Rules, before: &B
         return false;
     };
     let offset = i64::from(entry.offset);
-    let place = list.address + offset;
-    let distance = i64::from(value.wrapping_add_signed(entry.addend)) - place;
-    let wrong = (distance + rules.reach) & rules.outside
-        | i64::from(missing_forms(half) & rules.form)
-        | place & i64::from(rules.even);
+    let place = list.place(entry);
+    let wrong = wrong_distance::<C>(value, entry, place, rules)
+        | i64::from(missing_forms::<C>(half) & rules.form)
+        | place as i64 & i64::from(rules.even);
     wrong == 0 && before.room(offset, rules, list.size) >= 0
 }
 
 /// Whether both instructions of a call are there.
 #[inline(always)]
-fn is_call_at(list: &List, entry: Entry) -> bool {
+fn is_call_at<C: Class>(list: &List<C>, entry: Entry) -> bool {
     double_word_at(list.bytes, entry.offset as usize).is_some_and(is_call)
 }
 
 /// Whether all rules hold of a PCREL_LO12; then its pair is remembered.
 #[inline(always)]
-fn pair_holds(
-    list: &List,
-    symbols: &mut Symbols,
+fn pair_holds<C: Class>(
+    list: &List<C>,
+    symbols: &mut Symbols<C>,
     entry: Entry,
     rules: &Rules,
     before: &Before,
-    high_halves: &HighHalves,
+    high_halves: &HighHalves<C>,
 ) -> bool {
     let Some(half) = half_at(list.bytes, entry.offset as usize) else {
         return false;
@@ -268,10 +310,10 @@ fn pair_holds(
         return false;
     };
     let offset = i64::from(entry.offset);
-    let place = list.address + offset;
-    let wrong = i64::from(entry.addend)
-        | i64::from(missing_forms(half) & rules.form)
-        | place & i64::from(rules.even);
+    let place = list.place(entry);
+    let wrong = entry.addend
+        | i64::from(missing_forms::<C>(half) & rules.form)
+        | place as i64 & i64::from(rules.even);
     if wrong != 0 || before.room(offset, rules, list.size) < 0 {
         return false;
     }

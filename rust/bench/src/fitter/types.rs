@@ -1,6 +1,6 @@
-//! What each type number asks for, as two tables of 256 lines: what the checks
-//! look at, and what is laid. Every line has the same shape, and a number that
-//! changes nothing where a type does not ask for something.
+//! What each type number asks for, as two tables of 256 lines for each class:
+//! what the checks look at, and what is laid. Every line has the same shape, and
+//! a number that changes nothing where a type does not ask for something.
 
 use super::forms::form;
 
@@ -26,14 +26,18 @@ pub struct Rules {
     /// The same number above 2^32 for types that may share one place, and a
     /// negative number for all others.
     pub share: i64,
-    /// The distance is at least minus this, and below it. It is a power of two,
-    /// or 0 for a type that reaches everything.
+    /// The distance is at least minus this. It is 0 for a type that reaches
+    /// everything.
     pub reach: i64,
     /// The bits that are 0 in the sum of distance and reach: all that a sum in
     /// reach does not have, and the lowest where the distance must be even.
     pub outside: i64,
-    /// How many bytes are touched. No section has as many as a refused type.
-    pub width: u32,
+    /// How many bytes are touched.
+    pub width: u8,
+    /// -1 where the distance is from P on, and 0 where it is from 0 on.
+    pub from_place: i8,
+    /// -1 where the distance must not go around the end of memory.
+    pub is_whole: i8,
     /// A bit of [`form`]: what must stand at the place.
     pub form: u8,
     /// 1 where the place's address must be even.
@@ -75,7 +79,8 @@ pub enum Laying {
     Call,
     /// As the line says, with x from the pair.
     Pair,
-    /// ADD64 and SUB64, with the low word as the line says.
+    /// ADD64 and SUB64, and in class 2 the type 64, with the low word as the line
+    /// says.
     Wide,
     CompressedBranch,
     CompressedJump,
@@ -87,26 +92,26 @@ const REFUSED: Rules = Rules {
     share: -1 << 32,
     reach: 0,
     outside: 0,
-    width: 1 << 20,
+    width: 0,
+    from_place: -1,
+    is_whole: 0,
     form: 0,
     even: 0,
     way: Way::Refused,
 };
 
 const MARKER: Rules = Rules {
-    width: 0,
     way: Way::Marker,
     ..REFUSED
 };
 
 const ALIGN: Rules = Rules {
-    width: 0,
     way: Way::Align,
     ..REFUSED
 };
 
 /// A field that is data, and that no other relocation may share.
-const fn data(width: u32) -> Rules {
+const fn data(width: u8) -> Rules {
     Rules {
         width,
         way: Way::Plain,
@@ -118,11 +123,11 @@ const fn data(width: u32) -> Rules {
 const fn shared(bits: u32) -> Rules {
     Rules {
         share: (bits as i64) << 32,
-        ..data(bits.div_ceil(8))
+        ..data(bits.div_ceil(8) as u8)
     }
 }
 
-const fn instruction(width: u32, form: u8) -> Rules {
+const fn instruction(width: u8, form: u8) -> Rules {
     Rules {
         form,
         even: 1,
@@ -130,11 +135,22 @@ const fn instruction(width: u32, form: u8) -> Rules {
     }
 }
 
-const fn jump(width: u32, form: u8, reach: i64) -> Rules {
+/// The distance is below the reach too, which is a power of two.
+const fn jump(width: u8, form: u8, reach: i64) -> Rules {
     Rules {
         reach,
         outside: !(2 * reach - 1) | 1,
+        is_whole: -1,
         ..instruction(width, form)
+    }
+}
+
+/// In class 2 both halves together lead to 2^32 distances.
+const fn of_halves(rules: Rules) -> Rules {
+    Rules {
+        reach: (1 << 31) + 2_048,
+        outside: rules.outside | !0xFFFF_FFFF,
+        ..rules
     }
 }
 
@@ -148,6 +164,18 @@ const fn low_of_pair(form: u8) -> Rules {
     Rules {
         way: Way::Pair,
         ..instruction(4, form)
+    }
+}
+
+const fn rules_of_64(kind: u8) -> Rules {
+    match kind {
+        2 => data(8),
+        18 | 19 | 23 => of_halves(rules_of(kind)),
+        26 => Rules {
+            from_place: 0,
+            ..of_halves(rules_of(kind))
+        },
+        _ => rules_of(kind),
     }
 }
 
@@ -327,22 +355,40 @@ const fn effect_of(kind: u8) -> Effect {
     }
 }
 
-pub static RULES: [Rules; 256] = {
+const fn effect_of_64(kind: u8) -> Effect {
+    match kind {
+        2 => wide(set(32)),
+        _ => effect_of(kind),
+    }
+}
+
+const fn all_rules(is_64: bool) -> [Rules; 256] {
     let mut lines = [REFUSED; 256];
     let mut kind = 0;
     while kind < 256 {
-        lines[kind] = rules_of(kind as u8);
+        lines[kind] = match is_64 {
+            true => rules_of_64(kind as u8),
+            false => rules_of(kind as u8),
+        };
         kind += 1;
     }
     lines
-};
+}
 
-pub static EFFECTS: [Effect; 256] = {
+const fn all_effects(is_64: bool) -> [Effect; 256] {
     let mut lines = [NOTHING; 256];
     let mut kind = 0;
     while kind < 256 {
-        lines[kind] = effect_of(kind as u8);
+        lines[kind] = match is_64 {
+            true => effect_of_64(kind as u8),
+            false => effect_of(kind as u8),
+        };
         kind += 1;
     }
     lines
-};
+}
+
+pub static RULES_32: [Rules; 256] = all_rules(false);
+pub static RULES_64: [Rules; 256] = all_rules(true);
+pub static EFFECTS_32: [Effect; 256] = all_effects(false);
+pub static EFFECTS_64: [Effect; 256] = all_effects(true);

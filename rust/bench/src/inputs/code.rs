@@ -1,23 +1,23 @@
 //! Code and its relocations, in the making.
 
-use testing::build::{journal, object, order, Relocation, Section, Symbol};
+use testing::build::{journal, object, order, Class, Relocation, Section, Symbol};
 use testing::damage::Input;
 
 use super::IMAGE;
 
-pub const ABSOLUTE_32: u8 = 1;
-pub const BRANCH: u8 = 16;
-pub const JAL: u8 = 17;
-pub const CALL: u8 = 18;
-pub const PCREL_HI20: u8 = 23;
-pub const PCREL_LO12_I: u8 = 24;
-pub const PCREL_LO12_S: u8 = 25;
-pub const HI20: u8 = 26;
-pub const LO12_I: u8 = 27;
-pub const LO12_S: u8 = 28;
-pub const ADD32: u8 = 35;
-pub const SUB32: u8 = 39;
-pub const RELAX: u8 = 51;
+pub const ABSOLUTE_32: u32 = 1;
+pub const BRANCH: u32 = 16;
+pub const JAL: u32 = 17;
+pub const CALL: u32 = 18;
+pub const PCREL_HI20: u32 = 23;
+pub const PCREL_LO12_I: u32 = 24;
+pub const PCREL_LO12_S: u32 = 25;
+pub const HI20: u32 = 26;
+pub const LO12_I: u32 = 27;
+pub const LO12_S: u32 = 28;
+pub const ADD32: u32 = 35;
+pub const SUB32: u32 = 39;
+pub const RELAX: u32 = 51;
 
 pub const AUIPC_RA: u32 = 0x97;
 pub const JALR_RA: u32 = 0x80E7;
@@ -29,9 +29,9 @@ pub const ADDI_A0: u32 = 0x50513;
 pub const SW_A0: u32 = 0xA5_2023;
 
 /// The window's base, and the address of the code.
-pub const BASE: u32 = 0x2000_0000;
+pub const BASE: u64 = 0x2000_0000;
 /// The last word of the window, so that the span is the whole image.
-pub const LAST: u32 = BASE + IMAGE as u32 - 4;
+pub const LAST: u64 = BASE + IMAGE as u64 - 4;
 
 #[derive(Default)]
 pub struct Code {
@@ -41,8 +41,8 @@ pub struct Code {
 
 impl Code {
     /// The offset of the next word.
-    pub fn end(&self) -> u32 {
-        self.bytes.len() as u32
+    pub fn end(&self) -> u64 {
+        self.bytes.len() as u64
     }
 
     pub fn plain(&mut self, word: u32) {
@@ -50,13 +50,13 @@ impl Code {
     }
 
     /// An instruction or a data word, with a relocation at it.
-    pub fn word(&mut self, word: u32, kind: u8, symbol: u32, addend: i32) {
+    pub fn word(&mut self, word: u32, kind: u32, symbol: u32, addend: i64) {
         self.plain(word);
         self.again(kind, symbol, addend);
     }
 
     /// One more relocation at the last word.
-    pub fn again(&mut self, kind: u8, symbol: u32, addend: i32) {
+    pub fn again(&mut self, kind: u32, symbol: u32, addend: i64) {
         let offset = self.end() - 4;
         let relocation = Relocation::new(offset, kind, symbol, addend);
         self.relocations.push(relocation);
@@ -71,7 +71,7 @@ impl Code {
 
     /// An install of this code, and of one word at the window's end, into an
     /// image in which nothing stands.
-    pub fn input(self, symbols: &[Symbol], external_values: &[(u32, u32)]) -> Input {
+    pub fn input(self, class: Class, symbols: &[Symbol], external_values: &[(u32, u64)]) -> Input {
         let sections = [
             Section::default(),
             Section::loaded(4, &self.bytes),
@@ -79,20 +79,21 @@ impl Code {
             Section::symbols(symbols),
             Section::relocations(1, 3, &self.relocations),
         ];
-        whole_image(&sections, &[(1, BASE), (2, LAST)], external_values)
+        whole_image(class, &sections, &[(1, BASE), (2, LAST)], external_values)
     }
 }
 
 /// An install of these sections at these addresses, into an image in which
 /// nothing stands.
 pub fn whole_image(
+    class: Class,
     sections: &[Section],
-    placements: &[(u32, u32)],
-    external_values: &[(u32, u32)],
+    placements: &[(u32, u64)],
+    external_values: &[(u32, u64)],
 ) -> Input {
     Input {
-        object: object(sections),
-        order: order(BASE, placements, external_values),
+        object: object(class, sections),
+        order: order(class, BASE, placements, external_values),
         image: vec![0xA5; IMAGE],
         journal: journal(IMAGE),
     }

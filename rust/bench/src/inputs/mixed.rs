@@ -1,7 +1,7 @@
 //! Without PCREL_LO12: calls, jumps, branches, absolute halves, data words, and
 //! differences of two labels.
 
-use testing::build::{Symbol, GLOBAL};
+use testing::build::{Class, Symbol, GLOBAL};
 use testing::damage::Input;
 use testing::random::Random;
 
@@ -47,20 +47,20 @@ const ITEMS: [Kind; 9] = [
     Kind::Difference,
 ];
 
-pub fn input(count: usize, arrangement: Arrangement) -> Input {
-    code(count, arrangement).input(&symbols(), &external_values())
+pub fn input(class: Class, count: usize, arrangement: Arrangement) -> Input {
+    code(count, arrangement).input(class, &symbols(), &external_values())
 }
 
 /// The same, but for a jump at the end that is one step too long.
-pub fn too_far_at_last(count: usize) -> Input {
+pub fn too_far_at_last(class: Class, count: usize) -> Input {
     let mut code = code(count - 1, Arrangement::Shuffled);
-    let too_far = 1_048_576 + code.end() as i32;
+    let too_far = 1_048_576 + code.end() as i64;
     code.word(JAL_RA, JAL, 1, too_far);
-    code.input(&symbols(), &external_values())
+    code.input(class, &symbols(), &external_values())
 }
 
-fn label_at(index: u32) -> u32 {
-    128 * index
+fn label_at(index: u32) -> u64 {
+    128 * u64::from(index)
 }
 
 fn symbols() -> Vec<Symbol> {
@@ -70,9 +70,9 @@ fn symbols() -> Vec<Symbol> {
     symbols
 }
 
-fn external_values() -> Vec<(u32, u32)> {
+fn external_values() -> Vec<(u32, u64)> {
     (0..EACH)
-        .map(|index| (1 + EACH + index, 0x4000_0000 + 0x1234 * index))
+        .map(|index| (1 + EACH + index, 0x4000_0000 + 0x1234 * u64::from(index)))
         .collect()
 }
 
@@ -112,7 +112,7 @@ fn add(code: &mut Code, kind: Kind, turn: u32) {
         }
         Kind::Jump => code.word(JAL_RA, JAL, label, 0),
         Kind::Branch => {
-            let ahead = code.end() as i32 + 64 - label_at(turn % EACH) as i32;
+            let ahead = code.end() as i64 + 64 - label_at(turn % EACH) as i64;
             code.word(BEQ, BRANCH, label, ahead);
         }
         Kind::High => code.word(LUI_A0, HI20, external, 4),

@@ -1,7 +1,8 @@
 //! Many symbols, real objects, an object without relocations, and a rollback.
 
-use testing::build::{journal, Relocation, Section, Symbol, GLOBAL};
-use testing::damage::{get, Input};
+use reference::object::{Header, Object};
+use testing::build::{journal, Class, Relocation, Section, Symbol, GLOBAL};
+use testing::damage::Input;
 use testing::given::objects;
 
 use super::code::*;
@@ -13,21 +14,23 @@ const MOST_SYMBOLS: u32 = 1_023;
 
 /// Labels and externals in turn, with a value for every external, of which few
 /// are named by a relocation.
-pub fn many_symbols(count: usize) -> Input {
+pub fn many_symbols(class: Class, count: usize) -> Input {
     let is_label = |symbol: u32| symbol % 2 == 1;
     let mut symbols = vec![Symbol::default()];
     symbols.extend((1..=MOST_SYMBOLS).map(|symbol| match is_label(symbol) {
-        true => Symbol::new(0, 1, 4 * (symbol % 16)),
+        true => Symbol::new(0, 1, 4 * u64::from(symbol % 16)),
         false => Symbol::new(GLOBAL, 0, 0),
     }));
     let externals = (1..=MOST_SYMBOLS).filter(|symbol| !is_label(*symbol));
-    let external_values: Vec<(u32, u32)> = externals.map(|symbol| (symbol, 16 * symbol)).collect();
+    let external_values: Vec<(u32, u64)> = externals
+        .map(|symbol| (symbol, 16 * u64::from(symbol)))
+        .collect();
     let mut code = Code::default();
     let apart = MOST_SYMBOLS / count as u32;
     for place in 0..count as u32 {
         code.word(0, ABSOLUTE_32, 1 + apart * place, 4);
     }
-    code.input(&symbols, &external_values)
+    code.input(class, &symbols, &external_values)
 }
 
 /// How many sections have bytes where an object has as many sections as it
@@ -36,7 +39,7 @@ const MOST_LOADED: u32 = 15;
 
 /// As many sections as an object may have, at addresses that neither rise nor
 /// fall.
-pub fn many_sections() -> Input {
+pub fn many_sections(class: Class) -> Input {
     let relocated = [Relocation::new(0, ABSOLUTE_32, 1, 4)];
     let table = MOST_LOADED + 1;
     let mut sections = vec![Section::default()];
@@ -46,26 +49,30 @@ pub fn many_sections() -> Input {
         .extend((1..=MOST_LOADED).map(|target| Section::relocations(target, table, &relocated)));
     let address = |section: u32| match 7 * section % MOST_LOADED {
         0 => LAST,
-        place => BASE + 64 * (place - 1),
+        place => BASE + 64 * u64::from(place - 1),
     };
-    let placements: Vec<(u32, u32)> = (1..=MOST_LOADED)
+    let placements: Vec<(u32, u64)> = (1..=MOST_LOADED)
         .map(|section| (section, address(section)))
         .collect();
-    whole_image(&sections, &placements, &[])
+    whole_image(class, &sections, &placements, &[])
 }
 
 /// An install of nothing but bytes, nearly as many as an object may have.
-pub fn no_relocations() -> Input {
+pub fn no_relocations(class: Class) -> Input {
     let mut code = Code::default();
     for word in 0..16_000 {
         code.plain(word);
     }
-    code.input(&[Symbol::default()], &[])
+    code.input(class, &[Symbol::default()], &[])
 }
 
-/// A real object of the repository, by its name.
-pub fn real(name: &str) -> Row {
-    let found = objects().into_iter().find(|object| object.name == name);
+/// A real object of the repository, by its name in class 1.
+pub fn real(class: Class, name: &str) -> Row {
+    let own_name = match class {
+        Class::Elf32 => name.into(),
+        Class::Elf64 => format!("rv64-{name}"),
+    };
+    let found = objects().into_iter().find(|object| object.name == own_name);
     let given = found.expect("the object is in the repository");
     let input = Input {
         object: given.object,
@@ -84,7 +91,7 @@ pub fn take_back() -> Row {
         order,
         mut image,
         mut journal,
-    } = mixed::input(MOST, Arrangement::Shuffled);
+    } = mixed::input(Class::Elf32, MOST, Arrangement::Shuffled);
     let answer = reference::install(&object, &order, &mut image, &mut journal);
     assert_eq!(answer, reference::Answer::DONE);
     let input = Input {
@@ -100,17 +107,14 @@ pub fn take_back() -> Row {
 }
 
 /// Offset and type of every relocation of an object that is done: of each RELA
-/// section whose target is allocated.
-pub fn relocations(object: &[u8]) -> Vec<(usize, u8)> {
-    let (table, count) = (get(object, 32, 4), get(object, 48, 2));
-    let field = |section: usize, at: usize| get(object, table + 40 * section + at, 4);
-    let counts =
-        |section: &usize| field(*section, 4) == 4 && field(field(*section, 28), 8) & 2 != 0;
-    let entries = (0..count).filter(counts).flat_map(|section| {
-        let (start, size) = (field(section, 16), field(section, 20));
-        (start..start + size).step_by(12)
-    });
-    entries
-        .map(|entry| (get(object, entry, 4), get(object, entry + 4, 1) as u8))
+/// section whose target is allocated. No object has none.
+pub fn relocations(object: &[u8]) -> Vec<(u64, u32)> {
+    let Some(header) = Header::read(object) else {
+        return Vec::new();
+    };
+    let object = Object::read(object, header).expect("an object that is done");
+    let lists = object.relocation_sections();
+    let all = lists.iter().flat_map(|list| &list.relocations);
+    all.map(|relocation| (relocation.offset.0, relocation.kind))
         .collect()
 }

@@ -1,7 +1,7 @@
 //! Half PCREL_LO12 and half PCREL_HI20, and what makes the search for pairs
 //! hard. Where no room is left for another pair, RELAX fills up.
 
-use testing::build::{Relocation, Symbol};
+use testing::build::{Class, Relocation, Symbol};
 use testing::damage::Input;
 
 use super::code::*;
@@ -9,20 +9,20 @@ use super::code::*;
 /// As many pairs as there is room for beside 4,096 relocations and few labels.
 const MOST_PAIRS: usize = 1_984;
 /// What all high halves are about.
-const TARGET: u32 = 0x4000_1234;
+const TARGET: u64 = 0x4000_1234;
 /// The symbol of the target, and the first label after it.
 const TARGET_SYMBOL: u32 = 1;
 const FIRST_LABEL: u32 = 2;
 
 /// Symbol 0, the target, and labels at these offsets in the code.
-fn symbols(labels: impl Iterator<Item = u32>) -> Vec<Symbol> {
+fn symbols(labels: impl Iterator<Item = u64>) -> Vec<Symbol> {
     let mut symbols = vec![Symbol::default(), Symbol::absolute(TARGET)];
     symbols.extend(labels.map(|offset| Symbol::new(0, 1, offset)));
     symbols
 }
 
 fn high(code: &mut Code, addend: usize) {
-    code.word(AUIPC_A0, PCREL_HI20, TARGET_SYMBOL, addend as i32);
+    code.word(AUIPC_A0, PCREL_HI20, TARGET_SYMBOL, addend as i64);
 }
 
 /// A low half, now of a load and now of a store.
@@ -44,39 +44,40 @@ fn far_code(count: usize) -> (Code, Vec<Symbol>) {
         low(&mut code, pair, pair % LABELS);
     }
     code.fill_up(count);
-    let apart = 8 * (pairs / LABELS) as u32;
-    let labels = (0..LABELS as u32).map(|label| apart * label);
+    let apart = 8 * (pairs / LABELS) as u64;
+    let labels = (0..LABELS as u64).map(|label| apart * label);
     (code, symbols(labels))
 }
 
-pub fn far(count: usize) -> Input {
+pub fn far(class: Class, count: usize) -> Input {
     let (code, symbols) = far_code(count);
-    code.input(&symbols, &[])
+    code.input(class, &symbols, &[])
 }
 
 /// Every relocation keeps its rules but the last, whose offset falls.
-pub fn falling(count: usize) -> Input {
+pub fn falling(class: Class, count: usize) -> Input {
     let (mut code, symbols) = far_code(count - 1);
     code.relocations.push(Relocation::new(0, RELAX, 0, 0));
-    code.input(&symbols, &[])
+    code.input(class, &symbols, &[])
 }
 
 /// A PCREL_LO12 names the label of the PCREL_HI20 before it. Every pair has a
-/// label of its own, so that there is room for 1,000 pairs.
-pub fn near(count: usize) -> Input {
+/// label of its own, so that there is room for 1,000 pairs, or for 800 of class
+/// 2.
+pub fn near(class: Class, count: usize) -> Input {
     let pairs = count / 2;
     let mut code = Code::default();
     for pair in 0..pairs {
         high(&mut code, pair);
         low(&mut code, pair, pair);
     }
-    let labels = (0..pairs).map(|pair| 8 * pair as u32);
-    code.input(&symbols(labels), &[])
+    let labels = (0..pairs).map(|pair| 8 * pair as u64);
+    code.input(class, &symbols(labels), &[])
 }
 
 /// Half of all are RELAX at the offset of one PCREL_HI20, before it and behind
 /// it, and all others name it, by many labels.
-pub fn crowded(count: usize) -> Input {
+pub fn crowded(class: Class, count: usize) -> Input {
     const LABELS: usize = 64;
     let mut code = Code::default();
     code.plain(AUIPC_A0);
@@ -86,5 +87,5 @@ pub fn crowded(count: usize) -> Input {
     for turn in 0..count - code.relocations.len() {
         low(&mut code, turn, turn % LABELS);
     }
-    code.input(&symbols([0; LABELS].into_iter()), &[])
+    code.input(class, &symbols([0; LABELS].into_iter()), &[])
 }

@@ -3,7 +3,7 @@
 //! a section or of the file.
 
 use bench::inputs::Call;
-use testing::build::{object, Fit, Relocation, Section, Symbol};
+use testing::build::{object, Class, Fit, Relocation, Section, Symbol};
 use testing::damage::Input;
 use testing::random::Random;
 
@@ -11,18 +11,20 @@ use crate::{answer, compare, Counts};
 
 const CASES: u64 = 20_000;
 
-const ABSOLUTE_32: u8 = 1;
-const PCREL_HI20: u8 = 23;
-const PCREL_LO12_I: u8 = 24;
-const RELAX: u8 = 51;
+const ABSOLUTE_32: u32 = 1;
+const PCREL_HI20: u32 = 23;
+const PCREL_LO12_I: u32 = 24;
+const RELAX: u32 = 51;
 
 const AUIPC: u32 = 0x517;
 const ADDI: u32 = 0x50513;
 
+/// Compares so many cases, now of class 1 and now of class 2.
 fn compare_all(cases: u64, make: impl Fn(&mut Random) -> Fit) -> Counts {
     let mut counts = Counts::default();
     for seed in 0..cases {
-        let input = Input::from(&make(&mut Random::new(seed)));
+        let class = Class::ALL[(seed % 2) as usize];
+        let input = Input::from(&make(&mut Random::new(seed)).of(class));
         let outcome = compare(&input, Call::Fit);
         let outcome = outcome.unwrap_or_else(|wrong| panic!("seed {seed}: {wrong}"));
         counts[outcome.answer.0 as usize] += 1;
@@ -31,13 +33,65 @@ fn compare_all(cases: u64, make: impl Fn(&mut Random) -> Fit) -> Counts {
     counts
 }
 
+/// The answer in both classes.
+fn answer_of_both(fit: &Fit) -> (u32, u32) {
+    let [first, second] = Class::ALL.map(|class| answer(&Input::from(&fit.clone().of(class))));
+    assert_eq!(first, second, "class 1 and class 2");
+    first
+}
+
+/// Far halves and jumps: T and P anywhere, often just in reach or just out of it.
+fn distances(random: &mut Random) -> Fit {
+    let place = match random.below(4) {
+        0 => 0x1000,
+        1 => random.u64() & !0xFFF,
+        2 => 0_u64.wrapping_sub(0x1000),
+        _ => 1 << random.pick(&[31, 32, 63]),
+    };
+    let (kind, words, reach) = random.pick(&[
+        (16, [0x63, 0], 4_096_i64),
+        (17, [0x6F, 0], 1 << 20),
+        (18, [0x97, 0x80E7], (1 << 31) + 2_048),
+        (19, [0x97, 0x80E7], (1 << 31) + 2_048),
+        (23, [AUIPC, 0], (1 << 31) + 2_048),
+        (26, [0x37, 0], (1 << 31) + 2_048),
+        (44, [0xC101, 0], 256),
+        (45, [0xA001, 0], 2_048),
+    ]);
+    let from = if kind == 26 { 0 } else { place };
+    let around = random.below(8) as i64 - 4;
+    let distance = match random.below(5) {
+        0 => around - reach,
+        1 => around + reach,
+        2 => around + reach - 4_096,
+        3 => random.u64() as i64,
+        _ => random.below(reach as usize) as i64 - reach / 2,
+    };
+    let target: u64 = from.wrapping_add_signed(distance);
+    let addend = random.pick(&[0, 1, -1, i64::MIN, 1 << 32]);
+    let bytes = words.map(u32::to_le_bytes).concat();
+    let symbols = [Symbol::absolute(target.wrapping_sub(addend as u64))];
+    let list = [Relocation::new(0, kind, 1, addend)];
+    let mut fit = Fit::code(place, &bytes, &symbols, &list);
+    fit.image.truncate(64 + bytes.len());
+    fit
+}
+
+#[test]
+fn far_and_near() {
+    let counts = compare_all(CASES, distances);
+    for number in [0, 13] {
+        assert!(counts[number] >= 2_000, "answer {number} occurs");
+    }
+}
+
 /// High and low halves in any order, with labels at some of the high halves and
 /// beside them. Then some relocations change places, or appear twice.
 fn pairs(random: &mut Random) -> Fit {
-    let count = 1 + random.below(24) as u32;
+    let count = 1 + random.below(24) as u64;
     let mut bytes = Vec::new();
     let mut list = Vec::new();
-    let mut symbols = vec![Symbol::absolute(random.u32())];
+    let mut symbols = vec![Symbol::absolute(u64::from(random.u32() >> 2))];
     for place in 0..count {
         let offset = 4 * place;
         let is_high = random.one_in(2) || place == 0;
@@ -53,7 +107,7 @@ fn pairs(random: &mut Random) -> Fit {
         }
     }
     if random.one_in(8) {
-        symbols.push(Symbol::new(0, 1, 4 * random.below(32) as u32));
+        symbols.push(Symbol::new(0, 1, 4 * random.below(32) as u64));
     }
     let labels = symbols.len() - 1;
     for relocation in list.iter_mut().filter(|one| one.kind == PCREL_LO12_I) {
@@ -74,7 +128,10 @@ fn wound(random: &mut Random, list: &mut Vec<Relocation>) {
         1 => list.insert(one, list[other]),
         2 => list[one].offset = list[other].offset,
         3 => list[one].kind = list[other].kind,
-        _ => list[one].offset = random.pick(&[u32::MAX, 1 << 31, 65_536, 0]),
+        _ => {
+            let far = [0xFFFF_FFFF, 1 << 31, 1 << 32, (1 << 32) + 4, u64::MAX - 3];
+            list[one].offset = random.pick(&far);
+        }
     }
 }
 
@@ -110,8 +167,35 @@ fn pairs_behind_a_falling_offset() {
         (vec![low(2), high(8), high(12)], (12, 0)),
     ] {
         let fit = Fit::code(0x1000, &words, &symbols, &list);
-        assert_eq!(answer(&Input::from(&fit)), expected, "{list:?}");
+        assert_eq!(answer_of_both(&fit), expected, "{list:?}");
     }
+}
+
+/// Labels and offsets past 2^32, which all are past the section.
+#[test]
+fn pairs_past_the_section() {
+    const FAR: u64 = (1 << 32) + 8;
+    let words: Vec<u8> = [AUIPC, ADDI, AUIPC]
+        .iter()
+        .flat_map(|word| word.to_le_bytes())
+        .collect();
+    let with = |label: u64, highs: &[u64]| {
+        let symbols = [Symbol::absolute(8), Symbol::new(0, 1, label)];
+        let mut list = vec![Relocation::new(4, PCREL_LO12_I, 2, 0)];
+        let high = |offset: &u64| Relocation::new(*offset, PCREL_HI20, 1, 0);
+        list.extend(highs.iter().map(high));
+        let fit = Fit::code(0x1000, &words, &symbols, &list);
+        answer(&Input::from(&fit.of(Class::Elf64)))
+    };
+    assert_eq!(with(8, &[8]), (0, 0));
+    assert_eq!(with(8, &[FAR]), (12, 0));
+    assert_eq!(with(FAR, &[8]), (12, 0));
+    assert_eq!(with(FAR, &[FAR]), (9, 1));
+    assert_eq!(with(FAR, &[FAR, FAR]), (12, 0));
+    assert_eq!(with(FAR, &[FAR, FAR + 1]), (9, 1));
+    assert_eq!(with(FAR, &[FAR + 1, FAR]), (9, 1));
+    assert_eq!(with(u64::MAX, &[u64::MAX]), (9, 1));
+    assert_eq!(with(u64::MAX, &[u64::MAX - 1]), (12, 0));
 }
 
 /// Data of all widths at few places, with markers between.
@@ -129,10 +213,10 @@ fn places(random: &mut Random) -> Fit {
             0 => RELAX,
             1 => 0,
             2 => 43,
-            3 if random.one_in(4) => random.pick(&[ABSOLUTE_32, 57]),
+            3 if random.one_in(4) => random.pick(&[ABSOLUTE_32, 2, 57]),
             _ => kind,
         };
-        let addend = if now == 43 { 0 } else { random.u32() as i32 };
+        let addend = if now == 43 { 0 } else { random.u64() as i64 };
         list.push(Relocation::new(offset, now, 1, addend));
         if random.one_in(16) {
             offset = offset.saturating_sub(random.pick(&[1, 4]));
@@ -140,7 +224,7 @@ fn places(random: &mut Random) -> Fit {
     }
     let size = offset as usize + random.pick(&[0, 1, 2, 4, 8, 12]);
     let bytes = random.bytes(size);
-    Fit::code(0x1000, &bytes, &[Symbol::absolute(random.u32())], &list)
+    Fit::code(0x1000, &bytes, &[Symbol::absolute(random.u64())], &list)
 }
 
 #[test]
@@ -167,19 +251,22 @@ fn instructions() {
                 [0x97, word | 0x8000],
             ];
             for words in words {
-                let input = Input::from(&at_instruction(kind, words));
-                let outcome = compare(&input, Call::Fit);
-                let outcome = outcome.unwrap_or_else(|wrong| panic!("{kind}, {words:x?}: {wrong}"));
-                counts[outcome.answer.0 as usize] += 1;
+                for class in Class::ALL {
+                    let input = Input::from(&at_instruction(kind, words).of(class));
+                    let outcome = compare(&input, Call::Fit);
+                    let outcome = outcome
+                        .unwrap_or_else(|wrong| panic!("{kind}, {words:x?}, {class:?}: {wrong}"));
+                    counts[outcome.answer.0 as usize] += 1;
+                }
             }
         }
     }
     println!("{counts:?}");
-    assert!(counts[0] >= 1_000 && counts[11] >= 10_000);
+    assert!(counts[0] >= 2_000 && counts[11] >= 20_000);
 }
 
 /// One relocation at these words, and a high half behind them.
-fn at_instruction(kind: u8, words: [u32; 2]) -> Fit {
+fn at_instruction(kind: u32, words: [u32; 2]) -> Fit {
     let bytes: Vec<u8> = [words[0], words[1], AUIPC]
         .iter()
         .flat_map(|word| word.to_le_bytes())
@@ -203,9 +290,9 @@ fn symbol_0() {
             Relocation::new(8, PCREL_HI20, 0, 0),
         ];
         fit.sections[3] = Section::relocations(1, 2, &list);
-        assert_eq!(answer(&Input::from(&fit)), expected, "type {kind}");
+        assert_eq!(answer_of_both(&fit), expected, "type {kind}");
         fit.sections[2] = Section::symbols(&[Symbol::new(0, 1, 8)]);
-        assert_eq!(answer(&Input::from(&fit)), expected, "type {kind}");
+        assert_eq!(answer_of_both(&fit), expected, "type {kind}");
     }
 }
 
@@ -234,23 +321,25 @@ fn the_last_bytes_of_a_file() {
     ] {
         let list = [Relocation::new(0, kind, 1, 0)];
         let fit = Fit::code(0x1000, &bytes, &[Symbol::absolute(0x1010)], &list);
-        let mut input = Input::from(&fit);
-        input.object = with_section_last(&fit, &bytes);
-        assert_eq!(answer(&input), (number, 0), "type {kind}, {bytes:x?}");
+        for fit in Class::ALL.map(|class| fit.clone().of(class)) {
+            let mut input = Input::from(&fit);
+            input.object = with_section_last(&fit, &bytes);
+            assert_eq!(answer(&input), (number, 0), "type {kind}, {bytes:x?}");
+        }
     }
 }
 
 /// The object of this install with the bytes of section 1 at its end.
 fn with_section_last(fit: &Fit, bytes: &[u8]) -> Vec<u8> {
     let mut sections = fit.sections.clone();
-    let at = object(&sections).len() - bytes.len();
+    let at = object(fit.class, &sections).len() - bytes.len();
     sections[1] = Section {
-        offset: Some(at as u32),
-        size: Some(bytes.len() as u32),
+        offset: Some(at as u64),
+        size: Some(bytes.len() as u64),
         bytes: Vec::new(),
         ..sections[1].clone()
     };
-    let mut file = object(&sections);
+    let mut file = object(fit.class, &sections);
     assert_eq!(file.len(), at);
     file.extend(bytes);
     file

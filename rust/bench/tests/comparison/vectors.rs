@@ -1,7 +1,7 @@
 //! Every line of the vectors, and every real object.
 
 use bench::inputs::Call;
-use testing::build::journal;
+use testing::build::{journal, Class};
 use testing::damage::Input;
 use testing::given::objects;
 use testing::lists::{histories, Listed};
@@ -78,7 +78,11 @@ fn lists_of_calls() {
 #[test]
 fn real_objects() {
     let objects = objects();
-    assert!(objects.len() >= 63, "{} objects", objects.len());
+    for class in Class::ALL {
+        let own = objects.iter().map(|given| Class::of(&given.object));
+        let count = own.filter(|own| *own == Some(class)).count();
+        assert!(count >= 63, "{count} objects, {class:?}");
+    }
     for given in objects {
         let name = given.name;
         let fail = |wrong| panic!("{name}: {wrong}");

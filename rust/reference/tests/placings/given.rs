@@ -17,6 +17,7 @@ fn case(given: Given) -> Case {
         image_length: given.image_length,
         stated,
         values: Vec::new(),
+        fit: None,
     }
 }
 

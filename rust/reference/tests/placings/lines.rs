@@ -12,16 +12,17 @@ use crate::Case;
 /// The 32 addresses, and the value of each symbol and of three numbers past
 /// the table; `None` for one that does not resolve.
 pub struct Placed {
-    pub addresses: [u32; 32],
-    pub values: Vec<Option<u32>>,
+    pub addresses: [u64; 32],
+    pub values: Vec<Option<u64>>,
 }
 
-/// Checks 2 to 8: number and place of the first broken one, or what follows
-/// from the pair.
+/// Checks 4, 2, 3 and 5 to 8: number and place of the first broken one, or what
+/// follows from the pair.
 pub fn place(case: &Case) -> Result<Placed, (u32, u32)> {
-    let order = Order::read(&case.order).ok_or((2, 0))?;
-    let window = Window::new(order.base, case.image_length).ok_or((3, 0))?;
     let header = Header::read(&case.object).ok_or((4, 0))?;
+    let class = header.class;
+    let order = Order::read(&case.order, class).ok_or((2, 0))?;
+    let window = Window::new(order.base, case.image_length, class).ok_or((3, 0))?;
     let object = Object::read(&case.object, header).map_err(|place| (5, place))?;
     broken_at(6, lowest_differing_section(&object, &order))?;
     broken_at(7, lowest_wrong_external(&object, &order))?;
@@ -35,7 +36,7 @@ pub fn place(case: &Case) -> Result<Placed, (u32, u32)> {
     let end = (0..).find(|index| symbols.entry(*index).is_none());
     let value = |index| {
         let value = symbols.value(index)?;
-        Some(u32::try_from(value).expect("from 0 to 2^32 - 1"))
+        Some(u64::try_from(value).expect("from 0 to 2^64 - 1"))
     };
     Ok(Placed {
         addresses: addresses.map(|address| address.0),

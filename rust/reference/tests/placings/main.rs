@@ -12,7 +12,7 @@ mod symbols;
 use std::collections::BTreeMap;
 
 use lines::{answer, line, place};
-use testing::build::Fit;
+use testing::build::{Class, Fit};
 use testing::commands::Commands;
 use testing::compared::{assert_stated, Compared};
 
@@ -29,7 +29,9 @@ pub struct Case {
     /// Number and place of the first broken check of 2 to 8.
     pub stated: Option<(u32, u32)>,
     /// Symbols and their values; `None` for one that does not resolve.
-    pub values: Vec<(u32, Option<u32>)>,
+    pub values: Vec<(u32, Option<u64>)>,
+    /// What it was made of, unless its bytes were changed since.
+    pub fit: Option<Fit>,
 }
 
 impl Case {
@@ -41,15 +43,29 @@ impl Case {
             image_length: fit.image.len(),
             stated: Some(stated),
             values: Vec::new(),
+            fit: Some(fit.clone()),
         }
+    }
+
+    /// The same in class 2, with the same answer.
+    fn in_class_2(&self) -> Option<Case> {
+        let fit = self.fit.clone()?.of(Class::Elf64);
+        let name = format!("{}, in class 2", self.name);
+        Some(Case::new(name, &fit, self.stated?))
     }
 }
 
 fn cases() -> Vec<Case> {
     let mut cases = Vec::new();
     cases.extend(placements::cases());
-    cases.extend(placing::cases());
     cases.extend(symbols::cases());
+    let in_class_2: Vec<Case> = cases.iter().filter_map(Case::in_class_2).collect();
+    cases.extend(in_class_2);
+    for class in Class::ALL {
+        cases.extend(placements::in_order(class));
+        cases.extend(placing::cases(class));
+    }
+    cases.extend(symbols::cases_of_class_2());
     cases.extend(given::cases());
     cases.extend(random::cases());
     cases

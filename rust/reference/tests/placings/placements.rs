@@ -4,7 +4,7 @@
 use crate::Case;
 use testing::build::*;
 
-const BASE: u32 = 0x1000;
+const BASE: u64 = 0x1000;
 const DONE: (u32, u32) = (0, 0);
 /// The section number of a common symbol.
 const COMMON: u16 = 0xFFF2;
@@ -50,8 +50,8 @@ fn six() -> Fit {
 }
 
 /// Sections with addresses; those of sections 1, 3 and 5 keep check 8.
-fn at_rows(rows: &[u32]) -> Vec<(u32, u32)> {
-    let address = |row: u32| BASE + (row % 8) * 8 - 8;
+fn at_rows(rows: &[u32]) -> Vec<(u32, u64)> {
+    let address = |row: u32| BASE + u64::from(row % 8) * 8 - 8;
     rows.iter().map(|row| (*row, address(*row))).collect()
 }
 
@@ -131,7 +131,8 @@ fn full_cases() -> Vec<Case> {
     ];
     let case = |(name, not_allocated, rows, stated): (_, _, Vec<u32>, _)| {
         let mut fit = full(not_allocated);
-        fit.placements = rows.iter().map(|row| (*row, BASE + *row)).collect();
+        let address = |row: &u32| BASE + u64::from(*row);
+        fit.placements = rows.iter().map(|row| (*row, address(row))).collect();
         Case::new(format!("32 rows: {name}"), &fit, stated)
     };
     table.map(case).into()
@@ -141,7 +142,7 @@ fn full_cases() -> Vec<Case> {
 fn allocation_cases() -> Vec<Case> {
     let table = [
         ("flag 2", PROGBITS, 2, true),
-        ("all flags", PROGBITS, u32::MAX, true),
+        ("all flags", PROGBITS, u64::MAX, true),
         ("all other flags", PROGBITS, !2, false),
         ("no flag", PROGBITS, 0, false),
         ("flag 4", PROGBITS, 4, false),
@@ -208,8 +209,8 @@ fn externals() -> Vec<(&'static str, Vec<u32>, (u32, u32))> {
     ]
 }
 
-fn values(symbols: &[u32]) -> Vec<(u32, u32)> {
-    let value = |symbol: u32| symbol.wrapping_mul(0x9E37_79B1);
+fn values(symbols: &[u32]) -> Vec<(u32, u64)> {
+    let value = |symbol: u32| u64::from(symbol).wrapping_mul(0x9E37_79B9_7F4A_7C15);
     symbols
         .iter()
         .map(|symbol| (*symbol, value(*symbol)))
@@ -258,23 +259,37 @@ fn table_cases() -> Vec<Case> {
     table.map(case).into()
 }
 
-/// All of checks 2 to 8 broken, then mended one after the other.
-fn in_order() -> Vec<Case> {
-    let mut fit = six();
+/// All of checks 2 to 8 broken, then mended one after the other: "the checks
+/// run 1, 4, 2, 3, 5 for both classes".
+pub fn in_order(class: Class) -> Vec<Case> {
+    let mut fit = six().of(class);
     fit.sections[1].alignment = 3;
     fit.placements = vec![(2, 5)];
     fit.external_values = vec![(3, 0)];
     fit.image = vec![0; 65_537];
-    let mut case = Case::new("nothing mended", &fit, (2, 0));
-    case.object[0] = 0;
-    case.order.push(0);
-    let mut cases = vec![case.clone()];
-    case.order.pop();
-    case.stated = Some((3, 0));
-    cases.push(case.clone());
-    case.image_length = 64;
-    case.stated = Some((4, 0));
-    cases.push(case);
+    let whole = Case::new("", &fit, (4, 0));
+    let with = |name: &str, stated, change: &dyn Fn(&mut Case)| {
+        let mut case = whole.clone();
+        change(&mut case);
+        Case {
+            name: format!("{class:?}: {name}"),
+            stated: Some(stated),
+            fit: None,
+            ..case
+        }
+    };
+    let mut cases = vec![
+        with("nothing mended", (4, 0), &|case| {
+            case.object[0] = 0;
+            case.order.push(0);
+        }),
+        with("4 mended", (2, 0), &|case| case.order.push(0)),
+        with("4 and 2 mended", (3, 0), &|_| ()),
+        with("2 and 3 mended", (4, 0), &|case| {
+            case.object[0] = 0;
+            case.image_length = 64;
+        }),
+    ];
     fit.image.truncate(64);
     cases.push(Case::new("2 to 4 mended", &fit, (5, 1)));
     fit.sections[1].alignment = 4;
@@ -294,6 +309,5 @@ pub fn cases() -> Vec<Case> {
     cases.extend(allocation_cases());
     cases.extend(external_cases());
     cases.extend(table_cases());
-    cases.extend(in_order());
     cases
 }

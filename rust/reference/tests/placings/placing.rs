@@ -1,26 +1,23 @@
 //! Check 8, each sentence of "Placing" just kept and just broken, with the
-//! answer.
+//! answer. `top` is the last address, 2^32 - 1 or 2^64 - 1.
 
 use crate::Case;
 use testing::build::*;
 
-const BASE: u32 = 0x1000;
+const BASE: u64 = 0x1000;
 const DONE: (u32, u32) = (0, 0);
-/// The last address.
-const TOP: u32 = u32::MAX;
-
 /// A window, sections with their addresses, and the answer.
-type Row = (&'static str, (u32, usize), Vec<(Section, u32)>, (u32, u32));
+type Row = (&'static str, (u64, usize), Vec<(Section, u64)>, (u32, u32));
 
 fn bytes(size: usize) -> Section {
     Section::loaded(1, &vec![7; size])
 }
 
-fn room(size: u32) -> Section {
+fn room(size: u64) -> Section {
     Section::nobits(1, size)
 }
 
-fn aligned(alignment: u32, size: usize) -> Section {
+fn aligned(alignment: u64, size: usize) -> Section {
     Section::loaded(alignment, &vec![7; size])
 }
 
@@ -33,9 +30,9 @@ fn note(size: usize) -> Section {
 }
 
 /// "an address is a multiple of the row's alignment (0 counts as 1)"
-fn alignments() -> Vec<Row> {
+fn alignments(top: u64) -> Vec<Row> {
     let window = (BASE, 100);
-    let half = 1 << 31;
+    let half = top / 2 + 1;
     let one = |name, section, address, answer| (name, window, vec![(section, address)], answer);
     vec![
         one("alignment 0", aligned(0, 1), BASE + 3, DONE),
@@ -49,32 +46,42 @@ fn alignments() -> Vec<Row> {
         one("alignment 16, half", aligned(16, 1), BASE + 8, (8, 1)),
         one("alignment 4,096", aligned(4_096, 1), BASE, DONE),
         one("alignment 8,192", aligned(8_192, 1), BASE, (8, 1)),
-        one("empty, aligned", aligned(16, 0), 0xFFFF_FFF0, DONE),
-        one("empty, half", aligned(16, 0), 0xFFFF_FFF8, (8, 1)),
+        one("empty, aligned", aligned(16, 0), top - 15, DONE),
+        one("empty, half", aligned(16, 0), top - 7, (8, 1)),
         one("NOBITS, aligned", Section::nobits(8, 4), 0x28, DONE),
         one("NOBITS, half", Section::nobits(8, 4), 0x2C, (8, 1)),
-        one("alignment 2^31 at 0", Section::nobits(half, 1), 0, DONE),
-        one("alignment 2^31", Section::nobits(half, 1), half, DONE),
         one(
-            "alignment 2^31 at 2^30",
+            "the highest alignment at 0",
             Section::nobits(half, 1),
-            1 << 30,
+            0,
+            DONE,
+        ),
+        one(
+            "the highest alignment",
+            Section::nobits(half, 1),
+            half,
+            DONE,
+        ),
+        one(
+            "the highest alignment at half of it",
+            Section::nobits(half, 1),
+            half / 2,
             (8, 1),
         ),
         one(
-            "alignment 2^31 at 2^31 + 1",
+            "the highest alignment one above it",
             Section::nobits(half, 1),
             half + 1,
             (8, 1),
         ),
         one(
-            "alignment 2^31 at the top",
+            "the highest alignment at the top",
             Section::nobits(half, 1),
-            TOP,
+            top,
             (8, 1),
         ),
         (
-            "alignment 2^31, loaded",
+            "the highest alignment, loaded",
             (half, 8),
             vec![(aligned(half, 8), half)],
             DONE,
@@ -88,47 +95,47 @@ fn alignments() -> Vec<Row> {
     ]
 }
 
-/// "the row ends at or below 2^32"
-fn ends() -> Vec<Row> {
+/// "the row ends at or below 2^32", or 2^64
+fn ends(top: u64) -> Vec<Row> {
     let one = |name, section, address, answer| (name, (BASE, 9), vec![(section, address)], answer);
-    let top = |name, section, address, answer| {
-        let window = (0xFFFF_FF00, 256);
+    let at_top = |name, section, address, answer| {
+        let window = (top - 255, 256);
         (name, window, vec![(section, address)], answer)
     };
     vec![
-        one("ends at 2^32", room(16), 0xFFFF_FFF0, DONE),
-        one("ends one past 2^32", room(17), 0xFFFF_FFF0, (8, 1)),
-        one("2^32 - 1 bytes at 0", room(TOP), 0, DONE),
-        one("2^32 - 1 bytes at 1", room(TOP), 1, DONE),
-        one("2^32 - 1 bytes at 2", room(TOP), 2, (8, 1)),
-        one("2^32 - 1 bytes at the top", room(TOP), TOP, (8, 1)),
-        one("2^31 bytes at 2^31", room(1 << 31), 1 << 31, DONE),
-        one("2^31 + 1 bytes", room((1 << 31) + 1), 1 << 31, (8, 1)),
-        one("no byte at the top", room(0), TOP, DONE),
-        one("a byte at the top", room(1), TOP, DONE),
-        one("two bytes at the top", room(2), TOP, (8, 1)),
-        top("a whole window", bytes(256), 0xFFFF_FF00, DONE),
-        top("loaded byte at the top", bytes(1), TOP, DONE),
-        top("loaded bytes at the top", bytes(2), TOP, (8, 1)),
-        top("no loaded byte at the top", bytes(0), TOP, DONE),
-        top("from the end around", bytes(257), 0xFFFF_FF00, (8, 1)),
+        one("ends at the end", room(16), top - 15, DONE),
+        one("ends one past it", room(17), top - 15, (8, 1)),
+        one("all but one at 0", room(top), 0, DONE),
+        one("all but one at 1", room(top), 1, DONE),
+        one("all but one at 2", room(top), 2, (8, 1)),
+        one("all but one at the top", room(top), top, (8, 1)),
+        one("the upper half", room(top / 2 + 1), top / 2 + 1, DONE),
+        one("one more", room(top / 2 + 2), top / 2 + 1, (8, 1)),
+        one("no byte at the top", room(0), top, DONE),
+        one("a byte at the top", room(1), top, DONE),
+        one("two bytes at the top", room(2), top, (8, 1)),
+        at_top("a whole window", bytes(256), top - 255, DONE),
+        at_top("loaded byte at the top", bytes(1), top, DONE),
+        at_top("loaded bytes at the top", bytes(2), top, (8, 1)),
+        at_top("no loaded byte at the top", bytes(0), top, DONE),
+        at_top("from the end around", bytes(257), top - 255, (8, 1)),
         (
             "the last 16 bytes",
-            (0xFFFF_0000, 65_536),
-            vec![(bytes(16), 0xFFFF_FFF0)],
+            (top - 65_535, 65_536),
+            vec![(bytes(16), top - 15)],
             DONE,
         ),
         (
             "the last 16 bytes and one",
-            (0xFFFF_0000, 65_536),
-            vec![(bytes(17), 0xFFFF_FFF0)],
+            (top - 65_535, 65_536),
+            vec![(bytes(17), top - 15)],
             (8, 1),
         ),
     ]
 }
 
 /// "a laid row of size above 0 lies in the window"
-fn windows() -> Vec<Row> {
+fn windows(top: u64) -> Vec<Row> {
     let note = Section {
         kind: 7,
         ..bytes(1)
@@ -136,7 +143,7 @@ fn windows() -> Vec<Row> {
     let one =
         |name, section, address, answer| (name, (BASE, 100), vec![(section, address)], answer);
     let other = |name, window, section, address, answer| {
-        let sections: Vec<(Section, u32)> = vec![(section, address)];
+        let sections: Vec<(Section, u64)> = vec![(section, address)];
         (name, window, sections, answer)
     };
     vec![
@@ -150,11 +157,11 @@ fn windows() -> Vec<Row> {
         one("longer than it", bytes(101), BASE, (8, 1)),
         one("around it", bytes(102), BASE - 1, (8, 1)),
         one("at 0", bytes(1), 0, (8, 1)),
-        one("at the top", bytes(1), TOP, (8, 1)),
+        one("at the top", bytes(1), top, (8, 1)),
         one("at 2^31", bytes(1), 1 << 31, (8, 1)),
         one("2^16 further", bytes(1), BASE + 65_536, (8, 1)),
         one("empty, at 0", bytes(0), 0, DONE),
-        one("empty, at the top", bytes(0), TOP, DONE),
+        one("empty, at the top", bytes(0), top, DONE),
         one("empty, just before it", bytes(0), BASE - 1, DONE),
         one("empty, at its end", bytes(0), BASE + 100, DONE),
         one("empty, behind its end", bytes(0), BASE + 101, DONE),
@@ -169,22 +176,22 @@ fn windows() -> Vec<Row> {
         other("a window of 1", (BASE, 1), bytes(1), BASE, DONE),
         other("a window from 0", (0, 4), bytes(4), 0, DONE),
         other("behind one from 0", (0, 4), bytes(1), 4, (8, 1)),
-        other("the top and one from 0", (0, 4), bytes(1), TOP, (8, 1)),
-        other("a window at the top", (TOP, 1), bytes(1), TOP, DONE),
-        other("none at the top", (TOP, 0), bytes(1), TOP, (8, 1)),
-        other("before the top", (TOP, 1), bytes(1), TOP - 1, (8, 1)),
-        other("0 and the top", (TOP, 1), bytes(1), 0, (8, 1)),
+        other("the top and one from 0", (0, 4), bytes(1), top, (8, 1)),
+        other("a window at the top", (top, 1), bytes(1), top, DONE),
+        other("none at the top", (top, 0), bytes(1), top, (8, 1)),
+        other("before the top", (top, 1), bytes(1), top - 1, (8, 1)),
+        other("0 and the top", (top, 1), bytes(1), 0, (8, 1)),
         other("the longest window", (0, 65_536), bytes(1), 65_535, DONE),
         other("behind the longest", (0, 65_536), bytes(1), 65_536, (8, 1)),
         other("too long a window", (0, 65_537), bytes(1), 0, (3, 0)),
-        other("a window past the top", (TOP, 2), bytes(1), TOP, (3, 0)),
+        other("a window past the top", (top, 2), bytes(1), top, (3, 0)),
     ]
 }
 
 /// "two rows of size above 0 share no address, the higher row being at fault"
 fn overlaps() -> Vec<Row> {
-    let rows = |name, sections: &[(Section, u32)], answer| {
-        let place = |(section, at): &(Section, u32)| (section.clone(), BASE + at);
+    let rows = |name, sections: &[(Section, u64)], answer| {
+        let place = |(section, at): &(Section, u64)| (section.clone(), BASE + at);
         let placed = sections.iter().map(place).collect();
         (name, (BASE, 100), placed, answer)
     };
@@ -245,7 +252,7 @@ fn overlaps() -> Vec<Row> {
 }
 
 /// The ends of the address space, and sections that have no address.
-fn far_overlaps() -> Vec<Row> {
+fn far_overlaps(top: u64) -> Vec<Row> {
     let none = Section {
         kind: NULL,
         ..bytes(8)
@@ -255,37 +262,37 @@ fn far_overlaps() -> Vec<Row> {
         (
             "the last and the first addresses",
             (0, 16),
-            vec![(last.clone(), 0xFFFF_FFF0), (bytes(16), 0)],
+            vec![(last.clone(), top - 15), (bytes(16), 0)],
             DONE,
         ),
         (
             "the last addresses twice",
             (0, 16),
-            vec![(last.clone(), 0xFFFF_FFF0), (room(1), TOP)],
+            vec![(last.clone(), top - 15), (room(1), top)],
             (8, 2),
         ),
         (
             "all but the last, and the last",
-            (TOP, 1),
-            vec![(room(TOP), 0), (bytes(1), TOP)],
+            (top, 1),
+            vec![(room(top), 0), (bytes(1), top)],
             DONE,
         ),
         (
             "all but the first, and the last",
-            (TOP, 1),
-            vec![(room(TOP), 1), (bytes(1), TOP)],
+            (top, 1),
+            vec![(room(top), 1), (bytes(1), top)],
             (8, 2),
         ),
         (
             "past the end, and over the first addresses",
             (0, 16),
-            vec![(bytes(16), 0), (room(32), 0xFFFF_FFF0)],
+            vec![(bytes(16), 0), (room(32), top - 15)],
             (8, 2),
         ),
         (
             "past the end, and below it",
             (0, 16),
-            vec![(room(32), 0xFFFF_FFF0), (last, 0xFFFF_FFF0)],
+            vec![(room(32), top - 15), (last, top - 15)],
             (8, 1),
         ),
         (
@@ -305,8 +312,8 @@ fn far_overlaps() -> Vec<Row> {
 
 /// 31 sections of two bytes one behind the other; then one of them moves.
 fn many() -> Vec<Row> {
-    let line: Vec<(Section, u32)> = (0..31).map(|at| (bytes(2), BASE + 2 * at)).collect();
-    let moved = |section: usize, address: u32| {
+    let line: Vec<(Section, u64)> = (0..31).map(|at| (bytes(2), BASE + 2 * at)).collect();
+    let moved = |section: usize, address: u64| {
         let mut sections = line.clone();
         sections[section - 1].1 = address;
         sections
@@ -343,13 +350,14 @@ fn many() -> Vec<Row> {
     ]
 }
 
-pub fn cases() -> Vec<Case> {
+pub fn cases(class: Class) -> Vec<Case> {
+    let top = (class.address_end() - 1) as u64;
     let tables = [
-        alignments(),
-        ends(),
-        windows(),
+        alignments(top),
+        ends(top),
+        windows(top),
         overlaps(),
-        far_overlaps(),
+        far_overlaps(top),
         many(),
     ];
     let case = |(name, (base, length), sections, stated): Row| {
@@ -359,7 +367,11 @@ pub fn cases() -> Vec<Case> {
             let section = &sections[*index as usize];
             section.flags != 0 && section.kind != NULL
         });
-        Case::new(format!("placing: {name}"), &fit, stated)
+        Case::new(
+            format!("placing, {class:?}: {name}"),
+            &fit.of(class),
+            stated,
+        )
     };
     tables.into_iter().flatten().map(case).collect()
 }

@@ -3,7 +3,7 @@
 use reference::order::Order;
 
 use crate::Case;
-use testing::build;
+use testing::build::{self, Class};
 use testing::damage::{get, put};
 use testing::random::Random;
 use testing::sample::call;
@@ -15,10 +15,11 @@ const EDITS: u64 = 10;
 /// A pair whose order is taken apart.
 #[derive(Clone)]
 struct Pair {
+    class: Class,
     object: Vec<u8>,
-    base: u32,
-    placements: Vec<(u32, u32)>,
-    externals: Vec<(u32, u32)>,
+    base: u64,
+    placements: Vec<(u32, u64)>,
+    externals: Vec<(u32, u64)>,
     image_length: usize,
     /// Where the symbols are, and how many.
     symbols: (usize, usize),
@@ -27,11 +28,13 @@ struct Pair {
 fn right(random: &mut Random) -> Pair {
     let image_length = random.pick(&[30, 100, 200, 400]);
     let call = call(random, image_length);
-    let order = Order::read(&call.order).expect("an order");
+    let class = Class::of(&call.object).expect("a class");
+    let order = Order::read(&call.order, class).expect("an order");
     let placement = |p: &reference::order::Placement| (p.section, p.address.0);
     let external = |e: &reference::order::ExternalValue| (e.symbol, e.value);
     Pair {
-        symbols: symbols(&call.object),
+        class,
+        symbols: symbols(class, &call.object),
         object: call.object,
         base: order.base.0,
         placements: order.placements.iter().map(placement).collect(),
@@ -40,15 +43,20 @@ fn right(random: &mut Random) -> Pair {
     }
 }
 
-fn symbols(object: &[u8]) -> (usize, usize) {
-    let field = |row: usize, at: usize| get(object, header(object, row) + at, 4);
-    let table = (0..).find(|row| field(*row, 4) == 2).expect("a table");
-    (field(table, 16), field(table, 20) / 16)
+fn symbols(class: Class, object: &[u8]) -> (usize, usize) {
+    let layout = class.layout();
+    let field = |row: usize, at: usize, count| get(object, header(class, object, row) + at, count);
+    let table = (0..).find(|row| field(*row, 4, 4) == 2).expect("a table");
+    let long = class.address_bytes();
+    let size = field(table, layout.sh_size, long);
+    let start = field(table, layout.sh_offset, long);
+    (start, size / layout.symbol_size)
 }
 
 /// Where a section header is.
-fn header(object: &[u8], row: usize) -> usize {
-    get(object, 32, 4) + 40 * row
+fn header(class: Class, object: &[u8], row: usize) -> usize {
+    let layout = class.layout();
+    get(object, layout.e_shoff, class.address_bytes()) + layout.section_header_size * row
 }
 
 impl Pair {
@@ -56,15 +64,16 @@ impl Pair {
         Case {
             name,
             object: self.object,
-            order: build::order(self.base, &self.placements, &self.externals),
+            order: build::order(self.class, self.base, &self.placements, &self.externals),
             image_length: self.image_length,
             stated: None,
             values: Vec::new(),
+            fit: None,
         }
     }
 
     fn rows(&self) -> usize {
-        get(&self.object, 48, 2)
+        get(&self.object, self.class.layout().e_shnum, 2)
     }
 
     fn edit(&mut self, random: &mut Random) {
@@ -109,42 +118,49 @@ impl Pair {
     fn edit_externals(&mut self, random: &mut Random) {
         let (_, count) = self.symbols;
         let symbol = random.below(count + 2) as u32;
-        toggle(&mut self.externals, symbol, random.u32());
+        toggle(&mut self.externals, symbol, random.u64());
     }
 
     /// Type, flags, size or alignment of a section.
     fn edit_header(&mut self, random: &mut Random) {
-        let header = header(&self.object, random.below(self.rows()));
-        let size = get(&self.object, header + 20, 4) as u32;
-        let flags = get(&self.object, header + 8, 4) as u32;
-        let (field, value) = match random.below(8) {
-            0 => (4, random.pick(&[1, 8, 7, 0])),
-            1 => (8, flags ^ 2),
-            2 => (20, random.pick(&[0, 1])),
-            3 => (20, size.wrapping_sub(1)),
-            4 => (20, size + 1),
-            _ => (32, 1 << random.below(7)),
+        let (layout, long) = (self.class.layout(), self.class.address_bytes());
+        let header = header(self.class, &self.object, random.below(self.rows()));
+        let [at_flags, at_size] = [layout.sh_flags, layout.sh_size];
+        let size = get(&self.object, header + at_size, long) as u64;
+        let flags = get(&self.object, header + at_flags, long) as u64;
+        let (field, value, count) = match random.below(8) {
+            0 => (4, random.pick(&[1, 8, 7, 0]), 4),
+            1 => (at_flags, flags ^ 2, long),
+            2 => (at_size, random.pick(&[0, 1]), long),
+            3 => (at_size, size.wrapping_sub(1), long),
+            4 => (at_size, size + 1, long),
+            _ => (layout.sh_addralign, 1 << random.below(7), long),
         };
-        put(&mut self.object, header + field, value, 4);
+        put(&mut self.object, header + field, value, count);
     }
 
     /// Value, type and binding, or section of a symbol.
     fn edit_symbol(&mut self, random: &mut Random) {
         let (start, count) = self.symbols;
-        let entry = start + 16 * random.below(count);
-        let rows = self.rows() as u32;
+        let (layout, long) = (self.class.layout(), self.class.address_bytes());
+        let entry = start + layout.symbol_size * random.below(count);
+        let [info, in_section] = [layout.st_info, layout.st_shndx].map(|at| entry + at);
+        let rows = self.rows() as u64;
         match random.below(4) {
-            0 => put(&mut self.object, entry + 4, random.u32(), 4),
+            0 => {
+                let value = entry + layout.st_value;
+                put(&mut self.object, value, random.u64(), long);
+            }
             1 => {
                 let kind = random.pick(&[0, 1, 2, 6, 10]);
                 let binding = random.pick(&[0, 1, 2, 3]);
-                put(&mut self.object, entry + 12, 16 * binding + kind, 1);
+                put(&mut self.object, info, 16 * binding + kind, 1);
             }
             _ => {
                 let odd = random.pick(&[0, 0xFFF1, 0xFFF2, rows, 0xFF00]);
-                let row = random.below(rows as usize) as u32;
+                let row = random.below(rows as usize) as u64;
                 let section = random.pick(&[odd, row]);
-                put(&mut self.object, entry + 14, section, 2);
+                put(&mut self.object, in_section, section, 2);
             }
         }
     }
@@ -161,7 +177,7 @@ impl Pair {
 }
 
 /// Takes an entry out, or puts it in its place.
-fn toggle(entries: &mut Vec<(u32, u32)>, index: u32, value: u32) {
+fn toggle(entries: &mut Vec<(u32, u64)>, index: u32, value: u64) {
     match entries.binary_search_by_key(&index, |entry| entry.0) {
         Ok(at) => {
             entries.remove(at);

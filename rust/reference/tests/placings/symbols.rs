@@ -3,9 +3,11 @@
 use crate::Case;
 use testing::build::*;
 
-const BASE: u32 = 0x8000_0000;
-const NOBITS_AT: u32 = 0xFFFF_FFF0;
-const EMPTY_AT: u32 = 0x10;
+const BASE: u64 = 0x8000_0000;
+const NOBITS_AT: u64 = 0xFFFF_FFF0;
+const EMPTY_AT: u64 = 0x10;
+/// The highest value of class 1.
+const TOP: u64 = 0xFFFF_FFFF;
 const LOCAL: u8 = 0;
 const TLS: u8 = 6;
 const IFUNC: u8 = 10;
@@ -17,7 +19,7 @@ const OTHERS: [u16; 12] = [
 ];
 
 /// Sections 1, 3 and 5 are allocated, section 4 is the symbol table.
-fn six(symbols: &[Symbol], external_values: &[(u32, u32)]) -> Fit {
+fn six(symbols: &[Symbol], external_values: &[(u32, u64)]) -> Fit {
     let note = Section {
         flags: 0,
         ..Section::loaded(1, &[7; 8])
@@ -36,7 +38,7 @@ fn six(symbols: &[Symbol], external_values: &[(u32, u32)]) -> Fit {
 }
 
 /// A symbol, the order's value for it, and S.
-type Row = (Symbol, Option<u32>, Option<u32>);
+type Row = (Symbol, Option<u64>, Option<u64>);
 
 fn defined() -> Vec<Row> {
     let row = |info, section, value, s| (Symbol::new(info, section, value), None, Some(s));
@@ -44,19 +46,19 @@ fn defined() -> Vec<Row> {
         row(LOCAL, 1, 0, BASE),
         row(GLOBAL, 1, 8, BASE + 8),
         row(WEAK, 1, 9_000, BASE + 9_000),
-        row(LOCAL, 1, 0x7FFF_FFFF, u32::MAX),
+        row(LOCAL, 1, 0x7FFF_FFFF, TOP),
         row(LOCAL, 1, 0x8000_0000, 0),
         row(LOCAL, 1, 0x8000_0001, 1),
-        row(LOCAL, 1, u32::MAX, 0x7FFF_FFFF),
+        row(LOCAL, 1, TOP, 0x7FFF_FFFF),
         row(LOCAL, 3, 0, NOBITS_AT),
-        row(LOCAL, 3, 15, u32::MAX),
+        row(LOCAL, 3, 15, TOP),
         row(LOCAL, 3, 16, 0),
-        row(GLOBAL, 3, u32::MAX, NOBITS_AT - 1),
+        row(GLOBAL, 3, TOP, NOBITS_AT - 1),
         row(GLOBAL, 5, 4, EMPTY_AT + 4),
-        row(GLOBAL, 5, u32::MAX, EMPTY_AT - 1),
+        row(GLOBAL, 5, TOP, EMPTY_AT - 1),
         row(LOCAL, ABSOLUTE, 0, 0),
         row(GLOBAL, ABSOLUTE, 0x1234_5678, 0x1234_5678),
-        row(WEAK, ABSOLUTE, u32::MAX, u32::MAX),
+        row(WEAK, ABSOLUTE, TOP, TOP),
     ]
 }
 
@@ -65,7 +67,7 @@ fn undefined() -> Vec<Row> {
     vec![
         row(GLOBAL, Some(7), Some(7)),
         row(GLOBAL, Some(0), Some(0)),
-        row(GLOBAL, Some(u32::MAX), Some(u32::MAX)),
+        row(GLOBAL, Some(TOP), Some(TOP)),
         row(GLOBAL, None, None),
         row(LOCAL, Some(8), Some(8)),
         row(LOCAL, None, None),
@@ -107,7 +109,7 @@ fn table(name: &str, rows: &[Row]) -> Case {
     let symbols = rows.iter().map(|row| row.0);
     let all: Vec<Symbol> = [Symbol::default()].into_iter().chain(symbols).collect();
     let given = (1..).zip(rows);
-    let externals: Vec<(u32, u32)> = given
+    let externals: Vec<(u32, u64)> = given
         .clone()
         .filter_map(|(index, row)| Some((index, row.1?)))
         .collect();
@@ -157,9 +159,13 @@ fn every_kind() -> Case {
                 let at = symbols.len() as u32;
                 let is_second = symbols.last().is_some_and(|last| last.section == 0);
                 if section == 0 && is_second {
-                    externals.push((at, at << 20));
+                    externals.push((at, u64::from(at) << 20));
                 }
-                symbols.push(Symbol::new(binding + kind, section, at * 0x0030_0001));
+                symbols.push(Symbol::new(
+                    binding + kind,
+                    section,
+                    u64::from(at) * 0x0030_0001,
+                ));
             }
         }
     }
@@ -171,7 +177,7 @@ fn every_section() -> Case {
     let is_allocated = |index: u32| !index.is_multiple_of(3);
     let symbol = |section: u16| Symbol::new(GLOBAL, section, 0x10_0000);
     let symbols: Vec<Symbol> = (0..34).map(symbol).collect();
-    let mut sections: Vec<(Section, u32)> = (1..32)
+    let mut sections: Vec<(Section, u64)> = (1..32)
         .map(|index| (Section::loaded(1, &[1]), BASE + index))
         .collect();
     for (section, _) in sections.iter_mut().skip(2).step_by(3) {
@@ -183,7 +189,10 @@ fn every_section() -> Case {
     let mut case = Case::new("every section", &fit, (0, 0));
     let value = |index: u32| {
         let is_placed = index < 32 && is_allocated(index);
-        (index, is_placed.then_some(BASE + 0x10_0000 + index))
+        (
+            index,
+            is_placed.then_some(BASE + 0x10_0000 + u64::from(index)),
+        )
     };
     case.values = (1..34).map(value).collect();
     case
@@ -203,4 +212,37 @@ pub fn cases() -> Vec<Case> {
     ];
     cases.extend(symbol_0());
     cases
+}
+
+/// Values of class 2 that class 1 does not have, and sums modulo 2^64.
+pub fn cases_of_class_2() -> Vec<Case> {
+    const NOBITS_AT: u64 = 0_u64.wrapping_sub(16);
+    const BASE: u64 = 0x8000_0000_0000_0000;
+    let rows: [Row; 16] = [
+        (Symbol::new(LOCAL, 1, 0), None, Some(BASE)),
+        (Symbol::new(LOCAL, 1, 1 << 32), None, Some(BASE + (1 << 32))),
+        (Symbol::new(LOCAL, 1, BASE - 1), None, Some(u64::MAX)),
+        (Symbol::new(LOCAL, 1, BASE), None, Some(0)),
+        (Symbol::new(LOCAL, 1, BASE + 1), None, Some(1)),
+        (Symbol::new(LOCAL, 1, u64::MAX), None, Some(BASE - 1)),
+        (Symbol::new(GLOBAL, 3, 15), None, Some(u64::MAX)),
+        (Symbol::new(GLOBAL, 3, 16), None, Some(0)),
+        (Symbol::new(GLOBAL, 3, TOP), None, Some(TOP - 16)),
+        (Symbol::new(WEAK, 5, TOP), None, Some(TOP + EMPTY_AT)),
+        (Symbol::absolute(u64::MAX), None, Some(u64::MAX)),
+        (Symbol::absolute(1 << 32), None, Some(1 << 32)),
+        (Symbol::new(GLOBAL, 0, 1), Some(u64::MAX), Some(u64::MAX)),
+        (Symbol::new(GLOBAL, 0, 1), Some(1 << 32), Some(1 << 32)),
+        (Symbol::new(WEAK, 0, 1 << 32), None, Some(0)),
+        (Symbol::new(GLOBAL + TLS, 0, 0), Some(1 << 32), None),
+    ];
+    let mut case = table("values of class 2", &rows);
+    let mut fit = case.fit.expect("a fit").of(Class::Elf64);
+    fit.base = BASE;
+    fit.placements = vec![(1, BASE), (3, NOBITS_AT), (5, EMPTY_AT)];
+    case = Case {
+        values: case.values,
+        ..Case::new("values of class 2", &fit, (0, 0))
+    };
+    vec![case]
 }

@@ -4,25 +4,40 @@ use std::fs;
 use std::os::unix::fs::MetadataExt;
 
 use crate::bench::{good, line, on_both, Bench};
-use testing::build::journal;
+use testing::build::{journal, Class};
 
 #[test]
 fn done_and_taken_back() {
     on_both(|program| {
-        let fit = good();
-        let bench = Bench::new(program, &fit);
-        assert_eq!(line(&bench.fit()), "0 0\n");
-        let (_, image, ledger) = fit.run();
-        assert_eq!(bench.read("image"), image);
-        assert_eq!(bench.read("ledger"), ledger);
-        assert_eq!(bench.read("image")[64..68], [1, 2, 3, 4]);
-        assert_eq!(bench.files().len(), 4, "no file is left over");
-        assert_eq!(line(&bench.fit()), "15 0\n");
-        assert_eq!(line(&bench.take_back()), "0 0\n");
-        assert_eq!(bench.read("image"), fit.image);
-        assert_eq!(bench.read("ledger"), fit.journal);
-        assert_eq!(line(&bench.take_back()), "16 0\n");
-        assert_eq!(bench.files().len(), 4, "no file is left over");
+        for fit in Class::ALL.map(|class| good().of(class)) {
+            let bench = Bench::new(program, &fit);
+            assert_eq!(line(&bench.fit()), "0 0\n");
+            let (_, image, ledger) = fit.run();
+            assert_eq!(bench.read("image"), image);
+            assert_eq!(bench.read("ledger"), ledger);
+            assert_eq!(bench.read("image")[64..68], [1, 2, 3, 4]);
+            assert_eq!(bench.files().len(), 4, "no file is left over");
+            assert_eq!(line(&bench.fit()), "15 0\n");
+            assert_eq!(line(&bench.take_back()), "0 0\n");
+            assert_eq!(bench.read("image"), fit.image);
+            assert_eq!(bench.read("ledger"), fit.journal);
+            assert_eq!(line(&bench.take_back()), "16 0\n");
+            assert_eq!(bench.files().len(), 4, "no file is left over");
+        }
+    });
+}
+
+/// The class is the object's: an order for the other one is malformed.
+#[test]
+fn an_order_of_the_other_class() {
+    on_both(|program| {
+        for (class, other) in [(Class::Elf32, Class::Elf64), (Class::Elf64, Class::Elf32)] {
+            let bench = Bench::new(program, &good().of(class));
+            bench.write("order", &good().of(other).order());
+            let before = bench.files();
+            assert_eq!(line(&bench.fit()), "2 0\n", "{class:?}");
+            assert_eq!(bench.files(), before);
+        }
     });
 }
 
@@ -87,10 +102,10 @@ fn lengths_at_the_limits() {
         assert_eq!((bench.read("image"), bench.read("ledger")), (image, ledger));
         assert_eq!(line(&bench.take_back()), "0 0\n");
         assert_eq!(bench.read("image"), fit.image);
-        bench.write("object", &[]);
-        assert_eq!(line(&bench.fit()), "4 0\n");
         bench.write("order", &[]);
         assert_eq!(line(&bench.fit()), "2 0\n");
+        bench.write("object", &[]);
+        assert_eq!(line(&bench.fit()), "4 0\n");
         bench.write("image", &[]);
         assert_eq!(line(&bench.take_back()), "16 0\n");
         bench.write("ledger", &[]);

@@ -2,6 +2,7 @@
 //! they are.
 
 use crate::{Case, Question};
+use reference::Class;
 use testing::commands::Commands;
 
 /// The program's space, in bytes.
@@ -12,11 +13,22 @@ pub fn all(cases: &[Case]) -> Vec<u8> {
     for case in cases {
         match &case.question {
             Question::Object(bytes) => ask(&mut commands, b'o', bytes),
-            Question::Order(bytes) => ask(&mut commands, b'r', bytes),
-            Question::Window(base, length) => commands.ask(b'w', [*base, *length, 0]),
+            Question::Order(class, bytes) => ask(&mut commands, letter(*class, b'r'), bytes),
+            Question::Window(class, base, length) => {
+                let halves = [*base as u32, *length, (*base >> 32) as u32];
+                commands.ask(letter(*class, b'w'), halves);
+            }
         }
     }
     commands.input()
+}
+
+/// A question about class 2 has a capital letter.
+fn letter(class: Class, letter: u8) -> u8 {
+    match class {
+        Class::Elf32 => letter,
+        Class::Elf64 => letter.to_ascii_uppercase(),
+    }
 }
 
 /// Makes the space begin with these bytes, and asks about them.

@@ -7,6 +7,7 @@ use reference::object::{Header, Object, Section, NOBITS, NULL, RELA, SYMTAB};
 use reference::order::{is_allowed_length, ExternalValue, Order, Placement, Window};
 use reference::relocation::Relocation;
 use reference::symbol::Symbol;
+use reference::Class;
 
 use crate::Question;
 
@@ -16,8 +17,8 @@ type Reading = ((u32, u32), Vec<u64>);
 fn reading(question: &Question) -> Reading {
     match question {
         Question::Object(bytes) => object(bytes),
-        Question::Order(bytes) => order(bytes),
-        Question::Window(base, length) => window(*base, *length),
+        Question::Order(class, bytes) => order(*class, bytes),
+        Question::Window(class, base, length) => window(*class, *base, *length),
     }
 }
 
@@ -28,8 +29,10 @@ pub fn answer(question: &Question) -> (u32, u32) {
 pub fn line(question: &Question) -> String {
     let letter = match question {
         Question::Object(_) => 'o',
-        Question::Order(_) => 'r',
-        Question::Window(..) => 'w',
+        Question::Order(Class::Elf32, _) => 'r',
+        Question::Order(Class::Elf64, _) => 'R',
+        Question::Window(Class::Elf32, ..) => 'w',
+        Question::Window(Class::Elf64, ..) => 'W',
     };
     let ((number, place), numbers) = reading(question);
     let rest: String = numbers.iter().map(|n| format!(" {n:x}")).collect();
@@ -69,17 +72,16 @@ fn sections(object: &Object) -> Vec<u64> {
 }
 
 fn fields(section: &Section) -> [u64; 8] {
-    let fields = [
-        section.kind,
+    [
+        u64::from(section.kind),
         section.flags,
         section.offset.0,
         section.size,
-        section.link,
-        section.info,
+        u64::from(section.link),
+        u64::from(section.info),
         section.alignment,
         section.entry_size,
-    ];
-    fields.map(u64::from)
+    ]
 }
 
 fn roles(object: &Object, section: &Section) -> [u64; 3] {
@@ -124,7 +126,7 @@ fn entries(object: &Object) -> Vec<u64> {
 
 fn symbol(symbol: &Symbol) -> [u64; 4] {
     [
-        u64::from(symbol.value),
+        symbol.value,
         u64::from(symbol.kind),
         u64::from(symbol.binding),
         u64::from(symbol.section),
@@ -133,10 +135,10 @@ fn symbol(symbol: &Symbol) -> [u64; 4] {
 
 fn relocation(relocation: &Relocation) -> [u64; 4] {
     [
-        u64::from(relocation.offset.0),
+        relocation.offset.0,
         u64::from(relocation.kind),
         u64::from(relocation.symbol),
-        i64::from(relocation.addend) as u64,
+        relocation.addend as u64,
     ]
 }
 
@@ -183,15 +185,15 @@ fn location(counts: &[u64], number: u64) -> [u64; 2] {
     [counts.len() as u64, left]
 }
 
-fn order(bytes: &[u8]) -> Reading {
-    match Order::read(bytes) {
+fn order(class: Class, bytes: &[u8]) -> Reading {
+    match Order::read(bytes, class) {
         Some(order) => ((0, 0), order_numbers(&order)),
         None => ((2, 0), vec![]),
     }
 }
 
 fn order_numbers(order: &Order) -> Vec<u64> {
-    let pair = |index: &u32, number: &u32| [u64::from(*index), u64::from(*number)];
+    let pair = |index: &u32, number: &u64| [u64::from(*index), *number];
     let placement = |p: &Placement| pair(&p.section, &p.address.0);
     let external = |e: &ExternalValue| pair(&e.symbol, &e.value);
     let near = |index: u32| [index.wrapping_sub(1), index, index.wrapping_add(1)];
@@ -199,7 +201,7 @@ fn order_numbers(order: &Order) -> Vec<u64> {
     let sections = order.placements.iter().map(|p| p.section);
     let symbols = order.external_values.iter().map(|e| e.symbol);
     vec![
-        u64::from(order.base.0),
+        order.base.0,
         order.placements.len() as u64,
         order.external_values.len() as u64,
         digest(order.placements.iter().flat_map(placement)),
@@ -215,21 +217,21 @@ fn order_numbers(order: &Order) -> Vec<u64> {
 fn placed(order: &Order, section: u32) -> Option<u64> {
     let mut all = order.placements.iter();
     let found = all.find(|placement| placement.section == section)?;
-    Some(u64::from(found.address.0))
+    Some(found.address.0)
 }
 
 /// What an order gives a number as a section and as a symbol; 2^32 is nothing.
 fn values(order: &Order, index: u32) -> [u64; 2] {
     let mut all = order.external_values.iter();
     let found = all.find(|external| external.symbol == index);
-    let value = found.map(|external| u64::from(external.value));
+    let value = found.map(|external| external.value);
     [placed(order, index), value].map(|given| given.unwrap_or(1 << 32))
 }
 
-fn window(base: u32, length: u32) -> Reading {
+fn window(class: Class, base: u64, length: u32) -> Reading {
     let number = |is_allowed| if is_allowed { 0 } else { 3 };
-    let install = Window::new(Address(base), length as usize).is_some();
+    let install = Window::new(Address(base), length as usize, class).is_some();
     let rollback = number(is_allowed_length(length as usize));
-    let numbers = vec![rollback, u64::from(base), u64::from(length)];
+    let numbers = vec![rollback, base, u64::from(length)];
     ((number(install) as u32, 0), numbers)
 }

@@ -12,6 +12,7 @@ mod random;
 use std::collections::BTreeMap;
 
 use lines::{answer, line};
+use reference::Class;
 use testing::compared::{assert_stated, Compared};
 
 const PROGRAM: Compared = Compared("tests_readings");
@@ -19,9 +20,10 @@ const PROGRAM: Compared = Compared("tests_readings");
 /// What the program is asked.
 pub enum Question {
     Object(Vec<u8>),
-    Order(Vec<u8>),
+    /// An order for an object of this class.
+    Order(Class, Vec<u8>),
     /// A base and an image's length.
-    Window(u32, u32),
+    Window(Class, u64, u32),
 }
 
 /// A question, where it comes from, and its number and place, if these are
@@ -46,13 +48,15 @@ impl Case {
 /// that what follows differs little from what is there.
 fn cases() -> Vec<Case> {
     let mut cases = Vec::new();
-    cases.extend(objects::cases());
-    cases.extend(orders::cases());
+    for class in Class::ALL {
+        cases.extend(objects::cases(class));
+        cases.extend(orders::cases(class));
+    }
     cases.extend(given::cases());
     cases.extend(random::cases());
     cases.sort_by_key(|case| match case.question {
         Question::Object(_) => 0,
-        Question::Order(_) => 1,
+        Question::Order(..) => 1,
         Question::Window(..) => 2,
     });
     cases
@@ -80,17 +84,25 @@ fn lines() {
 fn many_answers() {
     let mut counts = BTreeMap::new();
     for case in cases() {
-        let kind = line(&case.question).as_bytes()[0] as char;
+        let kind = match &case.question {
+            Question::Object(bytes) => match Class::of(bytes) {
+                Some(Class::Elf64) => 'O',
+                _ => 'o',
+            },
+            _ => line(&case.question).as_bytes()[0] as char,
+        };
         *counts.entry((kind, answer(&case.question))).or_insert(0) += 1;
     }
     println!("{counts:?}");
     let often = |kind, answer| counts.get(&(kind, answer)).is_some_and(|count| *count >= 5);
-    let objects = [(0, 0), (4, 0)]
-        .into_iter()
-        .chain((0..10).map(|place| (5, place)));
-    assert!(objects.into_iter().all(|answer| often('o', answer)));
-    assert!(often('r', (0, 0)) && often('r', (2, 0)));
-    assert!(often('w', (0, 0)) && often('w', (3, 0)));
+    for (object, order, window) in [('o', 'r', 'w'), ('O', 'R', 'W')] {
+        let objects = [(0, 0), (4, 0)]
+            .into_iter()
+            .chain((0..10).map(|place| (5, place)));
+        assert!(objects.into_iter().all(|answer| often(object, answer)));
+        assert!(often(order, (0, 0)) && often(order, (2, 0)));
+        assert!(often(window, (0, 0)) && often(window, (3, 0)));
+    }
 }
 
 #[test]

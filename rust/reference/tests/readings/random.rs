@@ -22,8 +22,9 @@ fn damaged(seed: u64) -> Vec<Case> {
         let mut input = right.clone();
         damage(random, &mut input);
         let name = format!("damage {number} of input {seed}");
+        let class = Class::of(&input.object).unwrap_or(Class::Elf32);
         cases.push(Case::new(&name, Question::Object(input.object), None));
-        cases.push(Case::new(&name, Question::Order(input.order), None));
+        cases.push(Case::new(&name, Question::Order(class, input.order), None));
     }
     cases.retain(fits_space);
     cases
@@ -31,7 +32,7 @@ fn damaged(seed: u64) -> Vec<Case> {
 
 fn fits_space(case: &Case) -> bool {
     match &case.question {
-        Question::Object(bytes) | Question::Order(bytes) => bytes.len() <= SPACE,
+        Question::Object(bytes) | Question::Order(_, bytes) => bytes.len() <= SPACE,
         Question::Window(..) => true,
     }
 }
@@ -40,6 +41,7 @@ fn fits_space(case: &Case) -> bool {
 /// `table` is a SYMTAB, to which most RELA sections link.
 fn headers(seed: u64) -> Case {
     let random = &mut Random::new(seed);
+    let class = random.pick(&Class::ALL);
     let count = 3 + random.below(7);
     let table = 1 + random.below(count - 1);
     let mut sections = vec![Section::default()];
@@ -51,20 +53,20 @@ fn headers(seed: u64) -> Case {
             0 => random.pick(&others),
             _ => random.pick(&most),
         };
-        section(random, kind, table as u32, count)
+        section(random, class, kind, table as u32, count)
     }));
     let name = format!("section headers {seed}");
-    Case::new(name, Question::Object(object(&sections)), None)
+    Case::new(name, Question::Object(object(class, &sections)), None)
 }
 
-fn section(random: &mut Random, kind: u32, table: u32, count: usize) -> Section {
+fn section(random: &mut Random, class: Class, kind: u32, table: u32, count: usize) -> Section {
     let is_odd = random.one_in(8);
     let unit = match kind {
-        SYMTAB => 16,
-        RELA => 12,
+        SYMTAB => symbol_size(class),
+        RELA => relocation_size(class),
         _ => 8,
     };
-    let size = unit * random.below(4) as u32;
+    let size = unit * random.below(4) as u64;
     let mut section = Section {
         kind,
         flags: random.pick(&[ALLOCATED, ALLOCATED, 3, 6, 5]),
@@ -72,7 +74,7 @@ fn section(random: &mut Random, kind: u32, table: u32, count: usize) -> Section 
         link: table,
         info: random.below(count + 1) as u32,
         alignment: random.pick(&[0, 1, 4, 8]),
-        entry_size: unit,
+        entry_size: Some(unit),
         bytes: random.bytes(size as usize),
         ..Section::default()
     };
@@ -89,28 +91,29 @@ fn section(random: &mut Random, kind: u32, table: u32, count: usize) -> Section 
 fn make_odd(random: &mut Random, section: &mut Section) {
     match random.below(6) {
         0 => section.flags ^= ALLOCATED,
-        1 => section.offset = Some(random.u32() % 1_000),
-        2 => section.size = Some(random.u32() % 100),
+        1 => section.offset = Some(random.u64() % 1_000),
+        2 => section.size = Some(random.u64() % 100),
         3 => section.link = random.u32() % 10,
-        4 => section.alignment = random.u32() % 10,
-        _ => section.entry_size = random.pick(&[0, 4, 12, 16]),
+        4 => section.alignment = random.u64() % 10,
+        _ => section.entry_size = Some(random.pick(&[0, 4, 12, 16, 24])),
     }
 }
 
 /// An order of two short lists that mostly rise.
 fn lists(seed: u64) -> Case {
     let random = &mut Random::new(seed);
-    let base = random.u32();
+    let class = random.pick(&Class::ALL);
+    let base = random.u64();
     let (placements, externals) = (list(random), list(random));
-    let bytes = order(base, &placements, &externals);
-    Case::new(format!("lists {seed}"), Question::Order(bytes), None)
+    let bytes = order(class, base, &placements, &externals);
+    Case::new(format!("lists {seed}"), Question::Order(class, bytes), None)
 }
 
-fn list(random: &mut Random) -> Vec<(u32, u32)> {
+fn list(random: &mut Random) -> Vec<(u32, u64)> {
     let mut index = random.below(3) as u32;
     let mut entries = Vec::new();
     for _ in 0..random.below(12) {
-        entries.push((index, random.u32()));
+        entries.push((index, random.u64()));
         let step = random.pick(&[1, 1, 1, 2, 3, 5, 100, 1 << 30]);
         let step = if random.one_in(40) {
             random.pick(&[0, u32::MAX])
@@ -127,15 +130,17 @@ fn strings(seed: u64) -> Vec<Case> {
     let random = &mut Random::new(seed);
     let length = random.pick(&[0, 1, 4, 15, 16, 17, 24, 51, 52, 53, 92, 132, 300]);
     let bytes = random.bytes(length);
-    let mut header = object(&[Section::default()]);
+    let class = random.pick(&Class::ALL);
+    let mut header = object(class, &[Section::default()]);
     header.extend(&bytes);
-    header[32] = 52 + random.below(30) as u8;
-    header[48] = random.below(8) as u8;
+    let layout = class.layout();
+    header[layout.e_shoff] = (layout.header_size + random.below(30)) as u8;
+    header[layout.e_shnum] = random.below(8) as u8;
     let name = format!("random bytes {seed}");
     vec![
         Case::new(&name, Question::Object(bytes.clone()), None),
         Case::new(&name, Question::Object(header), None),
-        Case::new(&name, Question::Order(bytes), None),
+        Case::new(&name, Question::Order(class, bytes), None),
     ]
 }
 

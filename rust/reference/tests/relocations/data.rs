@@ -5,11 +5,14 @@ use crate::Case;
 use testing::build::*;
 
 const ONES: u64 = u64::MAX;
-/// The largest S.
-const TOP: u32 = u32::MAX;
+/// The largest S of class 1.
+const TOP: u64 = 0xFFFF_FFFF;
+/// The ends of A in class 1.
+const LOWEST: i64 = i32::MIN as i64;
+const HIGHEST: i64 = i32::MAX as i64;
 
 /// Type, eight bytes from V on, S, A, and the eight bytes after it.
-type Row = (u8, u64, u32, i32, u64);
+type Row = (u32, u64, u64, i64, u64);
 
 /// "V + S + A [...] wraps at the width of the field, S + A not reduced first"
 const ADDS: [Row; 24] = [
@@ -35,8 +38,8 @@ const ADDS: [Row; 24] = [
     (ADD64, 5, 2, -3, 4),
     (ADD64, 0xFFFF_FFFF, 1, 0, 1 << 32),
     (ADD64, 1 << 63, 0x8000_0000, 0, 0x8000_0000_8000_0000),
-    (ADD64, 0, TOP, i32::MAX, 0x1_7FFF_FFFE),
-    (ADD64, 0, 0, i32::MIN, 0xFFFF_FFFF_8000_0000),
+    (ADD64, 0, TOP, HIGHEST, 0x1_7FFF_FFFE),
+    (ADD64, 0, 0, LOWEST, 0xFFFF_FFFF_8000_0000),
 ];
 
 /// "V - S - A"
@@ -54,7 +57,7 @@ const SUBS: [Row; 17] = [
     (SUB32, 0x1_0000, 1, 0, 0xFFFF),
     (SUB64, 0, 2, 0, 0xFFFF_FFFF_FFFF_FFFE),
     (SUB64, 0, 0, -1, 1),
-    (SUB64, 0, TOP, i32::MAX, 0xFFFF_FFFE_8000_0002),
+    (SUB64, 0, TOP, HIGHEST, 0xFFFF_FFFE_8000_0002),
     (SUB64, ONES, TOP, 1, 0xFFFF_FFFE_FFFF_FFFF),
     (SUB64, 1 << 32, 1, 0, 0xFFFF_FFFF),
     (SUB64, 0, TOP, 1, 0xFFFF_FFFF_0000_0000),
@@ -72,8 +75,8 @@ const SETS: [Row; 12] = [
     (SET32, ONES, 0x1234_5678, 0, 0xFFFF_FFFF_1234_5678),
     (SET32, ONES, TOP, 1, 0xFFFF_FFFF_0000_0000),
     (SET32, 0, 0, -2, 0xFFFF_FFFE),
-    (SET32, 0, 0x8000_0000, i32::MIN, 0),
-    (SET32, 0, 0x7FFF_FFFF, i32::MAX, 0xFFFF_FFFE),
+    (SET32, 0, 0x8000_0000, LOWEST, 0),
+    (SET32, 0, 0x7FFF_FFFF, HIGHEST, 0xFFFF_FFFE),
 ];
 
 /// "low six bits, top two kept"
@@ -95,12 +98,12 @@ const SIXES: [Row; 14] = [
 ];
 
 /// "T; T - P modulo 2^32": type, P, S, A and the word.
-const WORDS: [(u8, u32, u32, i32, u32); 17] = [
+const WORDS: [(u32, u64, u64, i64, u32); 17] = [
     (WORD, PLACE, 5, 6, 0xB),
     (WORD, PLACE, 5, -6, 0xFFFF_FFFF),
     (WORD, PLACE, TOP, 1, 0),
-    (WORD, PLACE, 0x8000_0000, i32::MIN, 0),
-    (WORD, PLACE, 0x7FFF_FFFF, i32::MAX, 0xFFFF_FFFE),
+    (WORD, PLACE, 0x8000_0000, LOWEST, 0),
+    (WORD, PLACE, 0x7FFF_FFFF, HIGHEST, 0xFFFF_FFFE),
     (WORD, 0x1001, 0x1234_5678, 0, 0x1234_5678),
     (WORD, 0xFFFF_FFF8, 0, 0, 0),
     (WORD_PCREL, PLACE, 0x1004, 0, 4),
@@ -124,7 +127,7 @@ fn data((kind, before, s, addend, after): Row) -> Case {
 }
 
 /// The bytes behind the word stay.
-fn word((kind, p, s, addend, after): (u8, u32, u32, i32, u32)) -> Case {
+fn word((kind, p, s, addend, after): (u32, u64, u64, i64, u32)) -> Case {
     let list = [Relocation::new(0, kind, 1, addend)];
     let fit = at(p, &[0xA5; 8], &[Symbol::absolute(s)], &list);
     let name = format!("type {kind} from {p:x}, {s:x} + {addend}");

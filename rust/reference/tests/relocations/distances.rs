@@ -1,16 +1,20 @@
 //! Check 13: distances of jumps, branches and calls at both ends, beyond them
-//! and around the end of memory, with the bytes.
+//! and around the end of memory, with the bytes. What wraps around at 2^32 is of
+//! class 1 alone.
 
 use crate::fits::*;
 use crate::{Answer, Case, DONE};
 use testing::build::*;
 
-const MIDDLE: u32 = 0x2000_0000;
+const MIDDLE: u64 = 0x2000_0000;
+/// The ends of A in class 1.
+const LOWEST: i64 = i32::MIN as i64;
+const HIGHEST: i64 = i32::MAX as i64;
 
 /// A type with a reach, its instruction, and what that becomes at the lowest
 /// and at the highest distance.
 struct Jump {
-    kind: u8,
+    kind: u32,
     width: usize,
     reach: i64,
     word: u32,
@@ -58,12 +62,12 @@ impl Jump {
         low_bytes(u64::from(word), self.width)
     }
 
-    fn jumping(&self, place: u32, target: u32) -> Fit {
+    fn jumping(&self, place: u64, target: u64) -> Fit {
         one(self.kind, &self.bytes(self.word), place, target)
     }
 
     fn over(&self, distance: i64) -> Fit {
-        self.jumping(MIDDLE, (i64::from(MIDDLE) + distance) as u32)
+        self.jumping(MIDDLE, MIDDLE.wrapping_add_signed(distance))
     }
 
     fn name(&self, what: impl std::fmt::Display) -> String {
@@ -97,7 +101,7 @@ impl Jump {
         let inside = powers.take_while(|power| *power < self.reach);
         let both = inside.flat_map(|power| [power, power - self.reach]);
         let case = |distance: i64| {
-            let target = (i64::from(MIDDLE) + distance) as u32;
+            let target = MIDDLE.wrapping_add_signed(distance);
             let fit = one(self.kind, &self.bytes(instruction), MIDDLE, target);
             Case::new(self.name(format!("{distance} over ones")), &fit, DONE)
         };
@@ -106,7 +110,7 @@ impl Jump {
 
     /// "the distance is the whole number T - P", and only T is reduced.
     fn wrapping(&self) -> Vec<Case> {
-        let rows: [(&str, u32, u32, Answer); 8] = [
+        let rows: [(&str, u64, u64, Answer); 8] = [
             ("from 0 up", 0, 2, DONE),
             ("from 0 down around", 0, 0xFFFF_FFFE, (13, 0)),
             ("from the top around", 0xFFFF_FFF0, 0, (13, 0)),
@@ -123,30 +127,30 @@ impl Jump {
 
     /// "S + A is reduced modulo 2^32, then called T."
     fn reduced(&self) -> Vec<Case> {
-        let rows: [(u32, u32, i32, Answer); 7] = [
+        let rows: [(u64, u64, i64, Answer); 7] = [
             (0, 0xFFFF_FFFE, 4, DONE),
             (0xFFFF_FFF0, 2, -4, DONE),
             (0, 0, -2, (13, 0)),
-            (0, 0x8000_0000, i32::MIN, DONE),
-            (0x7FFF_FFF8, 0, i32::MAX, (13, 0)),
-            (0x7FFF_FFF8, 1, i32::MAX, DONE),
-            (0x8000_0000, 0, i32::MIN, DONE),
+            (0, 0x8000_0000, LOWEST, DONE),
+            (0x7FFF_FFF8, 0, HIGHEST, (13, 0)),
+            (0x7FFF_FFF8, 1, HIGHEST, DONE),
+            (0x8000_0000, 0, LOWEST, DONE),
         ];
-        let case = |(place, s, addend, answer): (u32, u32, i32, Answer)| {
+        let case = |(place, s, addend, answer): (u64, u64, i64, Answer)| {
             let list = [Relocation::new(0, self.kind, 1, addend)];
             let symbols = [Symbol::absolute(s)];
             let fit = at(place, &self.bytes(self.word), &symbols, &list);
-            Case::new(self.name(format!("{s:x} + {addend}")), &fit, answer)
+            Case::new(self.name(format!("{s:x} + {addend}")), &fit, answer).only_in_class_1()
         };
         rows.map(case).into_iter().collect()
     }
 }
 
 /// P, T, and the two instructions after it.
-type Row = (u32, u32, u32, u32);
+type Row = (u64, u64, u32, u32);
 
 /// CALL and CALL_PLT reach everything, and "T - P modulo 2^32 [...] is even".
-fn calls(kind: u8) -> Vec<Case> {
+fn calls(kind: u32) -> Vec<Case> {
     let code = words(&[0x97, 0x80E7]);
     let rows: [Row; 14] = [
         (0x1000, 0x1000, 0x0000_0097, 0x0000_80E7),
@@ -166,7 +170,7 @@ fn calls(kind: u8) -> Vec<Case> {
     ];
     let kept = rows.map(|(p, t, first, second)| {
         let name = format!("type {kind}, from {p:x} to {t:x}");
-        Case::done(name, &one(kind, &code, p, t), &words(&[first, second]))
+        Case::done(name, &one(kind, &code, p, t), &words(&[first, second])).only_in_class_1()
     });
     let broken = rows.map(|(p, t, _, _)| {
         let name = format!("type {kind}, from {p:x} to {t:x} + 1");

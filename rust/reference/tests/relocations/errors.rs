@@ -5,12 +5,12 @@ use crate::fits::*;
 use crate::{Case, DONE};
 use testing::build::*;
 
-fn word(name: &str, kind: u8, before: u32, target: u32, after: u32) -> Case {
+fn word(name: &str, kind: u32, before: u32, target: u64, after: u32) -> Case {
     let fit = one(kind, &words(&[before]), PLACE, target);
     Case::done(name, &fit, &words(&[after]))
 }
 
-fn short(name: &str, kind: u8, before: u16, target: u32, after: u16) -> Case {
+fn short(name: &str, kind: u32, before: u16, target: u64, after: u16) -> Case {
     let fit = one(kind, &before.to_le_bytes(), PLACE, target);
     Case::done(name, &fit, &after.to_le_bytes())
 }
@@ -20,7 +20,7 @@ fn halves() -> Vec<Case> {
     vec![
         word("lui 0x7FFFF7FF", HI20, lui, 0x7FFF_F7FF, 0x7FFF_F537),
         word("addi 0x7FFFF7FF", LO12_I, addi, 0x7FFF_F7FF, 0x7FF5_0513),
-        word("lui 0x7FFFF800", HI20, lui, 0x7FFF_F800, 0x8000_0537),
+        word("lui 0x7FFFF800", HI20, lui, 0x7FFF_F800, 0x8000_0537).only_in_class_1(),
         word("addi 0x7FFFF800", LO12_I, addi, 0x7FFF_F800, 0x8005_0513),
         word("addi 0x12345FFF", LO12_I, addi, 0x1234_5FFF, 0xFFF5_0513),
     ]

@@ -6,28 +6,28 @@ use testing::build::*;
 
 /// A relocation of this type with distance 0, at the start of a section; a pair
 /// for a PCREL_LO12 stands behind it.
-fn on(kind: u8, word: u64, width: usize, address: u32) -> Fit {
+fn on(kind: u32, word: u64, width: usize, address: u64) -> Fit {
     let behind = width.next_multiple_of(4);
     let mut code = low_bytes(word, width);
     code.resize(behind, 0);
     code.extend(words(&[0x17]));
     let symbol = if matches!(kind, 24 | 25) { 2 } else { 1 };
-    let symbols = [Symbol::absolute(address), Symbol::new(0, 1, behind as u32)];
+    let symbols = [Symbol::absolute(address), Symbol::new(0, 1, behind as u64)];
     let list = [
         Relocation::new(0, kind, symbol, 0),
-        Relocation::new(behind as u32, PCREL_HI20, 1, 0),
+        Relocation::new(behind as u64, PCREL_HI20, 1, 0),
     ];
     at(address, &code, &symbols, &list)
 }
 
-fn case(kind: u8, word: u64, width: usize, is_right: bool) -> Case {
+fn case(kind: u32, word: u64, width: usize, is_right: bool) -> Case {
     let answer = if is_right { DONE } else { (11, 0) };
     let name = format!("type {kind} on {word:x}");
     Case::new(name, &on(kind, word, width, PLACE), answer)
 }
 
 /// Whether a type takes an opcode with a funct3.
-fn takes(kind: u8, opcode: u64, funct3: u64) -> bool {
+fn takes(kind: u32, opcode: u64, funct3: u64) -> bool {
     match kind {
         BRANCH => opcode == 0x63,
         JAL => opcode == 0x6F,
@@ -44,7 +44,7 @@ fn takes(kind: u8, opcode: u64, funct3: u64) -> bool {
 
 /// Each bit of opcode and funct3 turned around, and every opcode of another
 /// type.
-fn words_of(kind: u8, opcodes: &[u64]) -> Vec<Case> {
+fn words_of(kind: u32, opcodes: &[u64]) -> Vec<Case> {
     let mut tried = Vec::new();
     for opcode in opcodes {
         tried.push((*opcode, 0));
@@ -57,7 +57,12 @@ fn words_of(kind: u8, opcodes: &[u64]) -> Vec<Case> {
     tried.dedup();
     let with = |(opcode, funct3): (u64, u64)| {
         let word = 0xABCD_8F80 | (funct3 << 12) | opcode;
-        case(kind, word, 4, takes(kind, opcode, funct3))
+        let case = case(kind, word, 4, takes(kind, opcode, funct3));
+        // In class 2, "opcode 0x1B with funct3 0 joins the _I forms".
+        match (kind, opcode, funct3) {
+            (LO12_I | PCREL_LO12_I, 0x1B, 0) => case.only_in_class_1(),
+            _ => case,
+        }
     };
     tried.into_iter().map(with).collect()
 }
@@ -70,7 +75,12 @@ fn compressed() -> Vec<Case> {
             for quadrant in 0..4 {
                 let word = (funct3 << 13) | 0x0A54 | quadrant;
                 let is_right = quadrant == 1 && taken.contains(&funct3);
-                cases.push(case(kind, word, 2, is_right));
+                let case = case(kind, word, 2, is_right);
+                // In class 2, "RVC_JUMP funct3 1 gives 11".
+                cases.push(match (kind, funct3) {
+                    (RVC_JUMP, 1) => case.only_in_class_1(),
+                    _ => case,
+                });
             }
         }
     }
@@ -78,7 +88,7 @@ fn compressed() -> Vec<Case> {
 }
 
 /// "CALL 0x17 with rd not 0, then 0x67 with funct3 0 and rs1 equal to that rd"
-fn calls(kind: u8) -> Vec<Case> {
+fn calls(kind: u32) -> Vec<Case> {
     let call = |rd: u64, rs1: u64, first: u64, second: u64, is_right| {
         let auipc = 0xABCD_E000 | (rd << 7) | first;
         let jalr = 0xABC0_0F80 | (rs1 << 15) | second;
@@ -114,7 +124,7 @@ fn addresses() -> Vec<Case> {
         cases.push(Case::new(name("at 0x1002"), &even_fit, DONE));
         let mut fit = on(kind, word, width, 0x1001);
         // The pair behind it would stand at an odd address too.
-        fit.sections[3].bytes.truncate(12);
+        fit.sections[3].relocations_mut().truncate(1);
         cases.push(Case::new(name("at 0x1001"), &fit, odd));
         cases.push(Case::new(
             name("at 1 of 0x1001"),
@@ -126,15 +136,14 @@ fn addresses() -> Vec<Case> {
 }
 
 /// A byte before everything, in a section at an odd address.
-fn shifted(kind: u8, word: u64, width: usize) -> Fit {
+fn shifted(kind: u32, word: u64, width: usize) -> Fit {
     let mut fit = on(kind, word, width, 0x1002);
     fit.sections[1].bytes.insert(0, 0x99);
     fit.placements = vec![(1, 0x1001)];
-    for entry in fit.sections[3].bytes.chunks_mut(12) {
-        entry[0] += 1;
+    for relocation in fit.sections[3].relocations_mut() {
+        relocation.offset += 1;
     }
-    let label = &mut fit.sections[2].bytes[32 + 4];
-    *label += 1;
+    fit.sections[2].symbols_mut()[2].value += 1;
     fit
 }
 

@@ -28,6 +28,7 @@ fn case(given: Given) -> Case {
         order: given.order,
         image_length: given.image_length,
         stated: Some(given.answer),
+        fit: None,
     }
 }
 

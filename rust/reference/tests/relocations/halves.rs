@@ -5,7 +5,7 @@ use crate::Case;
 use testing::build::*;
 
 /// A number, its high half, and its low half in twelve bits.
-const HALVES: [(u32, u32, u32); 20] = [
+const HALVES: [(u64, u32, u32); 20] = [
     (0, 0, 0),
     (1, 0, 1),
     (0x7FE, 0, 0x7FE),
@@ -54,8 +54,8 @@ const CODE: [u32; 6] = [
 
 /// T is `t`, and T - P of the pair is `distance`. Both symbols are reached with
 /// an addend.
-fn both(t: u32, distance: u32, place: u32, addend: i32) -> Fit {
-    let less = |target: u32| target.wrapping_sub(addend as u32);
+fn both(t: u64, distance: u64, place: u64, addend: i64) -> Fit {
+    let less = |target: u64| target.wrapping_sub(addend as u64);
     let symbols = [
         Symbol::absolute(less(t)),
         Symbol::absolute(less(place.wrapping_add(12).wrapping_add(distance))),
@@ -72,7 +72,16 @@ fn both(t: u32, distance: u32, place: u32, addend: i32) -> Fit {
     at(place, &words(&CODE), &symbols, &list)
 }
 
-fn case(which: usize, place: u32, addend: i32) -> Case {
+/// The number of 64 bits with the same halves that both lead to: instructions
+/// of class 2 extend the sign of each half.
+fn extended(number: u64) -> u64 {
+    match number {
+        0x7FFF_F800.. => number | 0xFFFF_FFFF_0000_0000,
+        _ => number,
+    }
+}
+
+fn case(class: Class, which: usize, place: u64, addend: i64) -> Case {
     let (t, high, low) = HALVES[which];
     let (distance, far_high, far_low) = HALVES[(which + 7) % HALVES.len()];
     let after = [
@@ -83,8 +92,12 @@ fn case(which: usize, place: u32, addend: i32) -> Case {
         i_type(CODE[4], far_low),
         s_type(CODE[5], far_low),
     ];
-    let name = format!("halves of {t:x} and {distance:x} from {place:x} on");
-    Case::done(name, &both(t, distance, place, addend), &words(&after))
+    let name = format!("halves of {t:x} and {distance:x} from {place:x} on, {class:?}");
+    let fit = match class {
+        Class::Elf32 => both(t, distance, place, addend),
+        Class::Elf64 => both(extended(t), extended(distance), place, addend),
+    };
+    Case::done(name, &fit.of(class), &words(&after)).only_in_class_1()
 }
 
 /// "Bits outside the field stay": one instruction over zeros and over ones.
@@ -97,7 +110,7 @@ fn outside() -> Vec<Case> {
         ("LO12_I into zeros", LO12_I, 0x13, 0x13),
         ("LO12_S into zeros", LO12_S, 0x23, 0x23),
     ];
-    let case = |(name, kind, before, after): (&str, u8, u32, u32)| {
+    let case = |(name, kind, before, after): (&str, u32, u32, u32)| {
         let fit = one(kind, &words(&[before]), PLACE, 0);
         Case::done(name, &fit, &words(&[after]))
     };
@@ -106,11 +119,13 @@ fn outside() -> Vec<Case> {
 
 pub fn cases() -> Vec<Case> {
     let mut cases = outside();
-    for which in 0..HALVES.len() {
-        cases.push(case(which, PLACE, 0));
-        cases.push(case(which, 0xFFFF_FFE0, 1));
-        cases.push(case(which, 0, -2_049));
-        cases.push(case(which, 0x7FFF_FFF0, i32::MIN));
+    for class in Class::ALL {
+        for which in 0..HALVES.len() {
+            cases.push(case(class, which, PLACE, 0));
+            cases.push(case(class, which, 0xFFFF_FFE0, 1));
+            cases.push(case(class, which, 0, -2_049));
+            cases.push(case(class, which, 0x7FFF_FFF0, i64::from(i32::MIN)));
+        }
     }
     cases
 }

@@ -3,6 +3,7 @@
 use reference::object::{Header, Object};
 use reference::order::Order;
 use reference::placement::{addresses, has_loaded_bytes};
+use reference::Class;
 
 use crate::{Answer, Case, Laid};
 
@@ -32,7 +33,8 @@ pub fn relocate(case: &Case) -> Result<Vec<Laid>, Answer> {
 
 /// Where an order puts the loaded sections of an object in the image.
 pub fn starts_in_image(object: &[u8], order: &[u8]) -> Vec<usize> {
-    let order = Order::read(order).expect("check 2 has passed");
+    let class = Class::of(object).expect("check 4 has passed");
+    let order = Order::read(order, class).expect("check 2 has passed");
     let addresses = addresses(&order);
     let start = |index: usize| (addresses[index].0 - order.base.0) as usize;
     let sections = loaded_sections(object).into_iter();

@@ -2,6 +2,7 @@
 //! and an order, right ones and wrong ones, and how this fitter relocates them.
 //! The program `tests_relocations` writes the same lines from the proved functions.
 
+mod class_2;
 mod data;
 mod distances;
 mod errors;
@@ -23,7 +24,7 @@ use std::collections::BTreeMap;
 
 use lines::{answer, line, relocate};
 use reference::install;
-use testing::build::{journal, Fit};
+use testing::build::{journal, Class, Fit};
 use testing::commands::Commands;
 use testing::compared::{assert_stated, Compared};
 
@@ -49,6 +50,8 @@ pub struct Case {
     /// Number and place of the first broken check of 2 to 14.
     pub stated: Option<Answer>,
     pub bytes: Vec<Laid>,
+    /// What it was made of, if it is the same in class 2.
+    fit: Option<Fit>,
 }
 
 impl Case {
@@ -60,6 +63,7 @@ impl Case {
             image_length: fit.image.len(),
             stated: Some(stated),
             bytes: Vec::new(),
+            fit: (fit.class == Class::Elf32).then(|| fit.clone()),
         }
     }
 
@@ -69,6 +73,21 @@ impl Case {
             bytes: vec![(1, bytes.to_vec())],
             ..Case::new(name, fit, DONE)
         }
+    }
+
+    /// In class 2 something else follows.
+    pub fn only_in_class_1(self) -> Case {
+        Case { fit: None, ..self }
+    }
+
+    /// The same in class 2, with the same answer and the same bytes.
+    fn in_class_2(&self) -> Option<Case> {
+        let fit = self.fit.clone()?.of(Class::Elf64);
+        let name = format!("{}, in class 2", self.name);
+        Some(Case {
+            bytes: self.bytes.clone(),
+            ..Case::new(name, &fit, self.stated?)
+        })
     }
 }
 
@@ -86,6 +105,9 @@ fn cases() -> Vec<Case> {
     cases.extend(pairs::cases());
     cases.extend(padding::cases());
     cases.extend(first::cases());
+    let in_class_2: Vec<Case> = cases.iter().filter_map(Case::in_class_2).collect();
+    cases.extend(in_class_2);
+    cases.extend(class_2::cases());
     cases.extend(given::cases());
     cases.extend(random::cases());
     cases

@@ -5,7 +5,7 @@ use crate::{Answer, Case, DONE};
 use testing::build::*;
 
 /// A, and "the smallest power of two at least A + 2".
-const BOUNDARIES: [(u32, u32); 12] = [
+const BOUNDARIES: [(u64, u64); 12] = [
     (0, 2),
     (2, 4),
     (4, 8),
@@ -21,7 +21,7 @@ const BOUNDARIES: [(u32, u32); 12] = [
 ];
 
 /// The longer ones, for which most of a section is padding.
-const LONG: [(u32, u32); 8] = [
+const LONG: [(u64, u64); 8] = [
     (126, 128),
     (128, 256),
     (254, 256),
@@ -33,12 +33,12 @@ const LONG: [(u32, u32); 8] = [
 ];
 
 /// ALIGN at an offset of a section of this size. Its symbol is not there.
-fn padded(address: u32, size: u32, offset: u32, addend: u32) -> Fit {
-    let list = [Relocation::new(offset, ALIGN, 77, addend as i32)];
+fn padded(address: u64, size: u64, offset: u64, addend: u64) -> Fit {
+    let list = [Relocation::new(offset, ALIGN, 77, addend as i64)];
     at(address, &vec![0x13; size as usize], &[], &list)
 }
 
-fn case(address: u32, size: u32, offset: u32, addend: u32, answer: Answer) -> Case {
+fn case(address: u64, size: u64, offset: u64, addend: u64, answer: Answer) -> Case {
     let name = format!("A {addend} at {address:x} + {offset}, of {size}");
     Case::new(name, &padded(address, size, offset, addend), answer)
 }
@@ -79,7 +79,7 @@ fn long() -> Vec<Case> {
 
 /// The address counts, and not the offset.
 fn addresses() -> Vec<Case> {
-    let rows: [(u32, u32, u32, Answer); 16] = [
+    let rows: [(u64, u64, u64, Answer); 16] = [
         (0x1002, 0, 6, DONE),
         (0x1000, 0, 6, (14, 0)),
         (0x1001, 1, 6, DONE),
@@ -104,7 +104,7 @@ fn addresses() -> Vec<Case> {
 
 /// A section that ends at 2^32, padded up to there.
 fn top() -> Vec<Case> {
-    let rows: [(u32, u32, u32, Answer); 6] = [
+    let rows: [(u64, u64, u64, Answer); 6] = [
         (0xFFFF_FFF0, 16, 0, DONE),
         (0xFFFF_FFF0, 14, 2, DONE),
         (0xFFFF_FFF0, 2, 14, DONE),
@@ -119,7 +119,7 @@ fn top() -> Vec<Case> {
 
 /// Several in one section; ALIGN touches no byte of what stands around it.
 fn several() -> Vec<Case> {
-    let with = |name: &str, last: i32, answer| {
+    let with = |name: &str, last: i64, answer| {
         let list = [
             Relocation::new(0, ALIGN, 0, 0),
             Relocation::new(2, ALIGN, 5, 2),

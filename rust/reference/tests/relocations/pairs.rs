@@ -12,10 +12,10 @@ const CODE: [u32; 5] = [
     0x00A5_A023,
     0x0000_0637,
 ];
-const TARGET: u32 = 0x2345_6FFF;
+const TARGET: u64 = 0x2345_6FFF;
 
 /// Offset, type, symbol and A.
-type Entry = (u32, u8, u32, i32);
+type Entry = (u64, u32, u32, i64);
 
 /// Symbol 1 is the target; 2 to 6 are labels at 0, 4, 8, 12 and 16; 7 is weak
 /// and undefined.
@@ -152,23 +152,23 @@ fn broken_pairs() -> Vec<Case> {
 
 /// "its value" is compared with offsets, not with addresses.
 fn label_values() -> Vec<Case> {
-    let rows: [(u32, u32, Answer); 14] = [
+    let rows: [(u64, u64, Answer); 14] = [
         (0, 0, DONE),
         (0, 1, (12, 1)),
         (0, 2, (12, 1)),
         (0, 0x100, (12, 1)),
         (0, 0x1_0000, (12, 1)),
         (0, PLACE, (12, 1)),
-        (0, u32::MAX, (12, 1)),
-        (0, 0_u32.wrapping_sub(PLACE), (12, 1)),
+        (0, u64::MAX, (12, 1)),
+        (0, 0_u64.wrapping_sub(PLACE), (12, 1)),
         (8, 8, DONE),
         (8, 0, (12, 1)),
         (16, 16, (11, 1)),
         (17, 17, (9, 1)),
         (20, 20, (9, 1)),
-        (u32::MAX, u32::MAX, (9, 1)),
+        (u64::MAX, u64::MAX, (9, 1)),
     ];
-    let case = |(high, label, answer): (u32, u32, Answer)| {
+    let case = |(high, label, answer): (u64, u64, Answer)| {
         let symbols = [Symbol::absolute(TARGET), Symbol::new(0, 1, label)];
         let mut list = [(high, PCREL_HI20, 1, 0), (12, PCREL_LO12_S, 2, 0)];
         list.sort_unstable();

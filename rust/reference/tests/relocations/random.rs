@@ -18,6 +18,7 @@ fn case(name: String, input: &Input) -> Case {
         image_length: input.image.len(),
         stated: None,
         bytes: Vec::new(),
+        fit: None,
     }
 }
 

@@ -5,8 +5,8 @@ use crate::{Answer, Case, DONE};
 use testing::build::*;
 
 /// S of the symbols from 1 on.
-const VALUES: [u32; 4] = [0x10, 0x0102_0385, 0xFFFF_FFF7, 0x7FFF_F0C1];
-const ADDENDS: [i32; 5] = [0, -3, 0x0123_4567, i32::MIN, 77];
+const VALUES: [u64; 4] = [0x10, 0x0102_0385, 0xFFFF_FFF7, 0x7FFF_F0C1];
+const ADDENDS: [i64; 5] = [0, -3, 0x0123_4567, i32::MIN as i64, 77];
 
 /// How many bytes from one place to the next.
 const STEP: usize = 8;
@@ -14,7 +14,7 @@ const STEP: usize = 8;
 /// The types of one width.
 struct Width {
     bits: u32,
-    kinds: &'static [u8],
+    kinds: &'static [u32],
 }
 
 const WIDTHS: [Width; 5] = [
@@ -41,11 +41,11 @@ const WIDTHS: [Width; 5] = [
 ];
 
 /// Every sequence of so many of these types.
-fn sequences(kinds: &[u8], count: usize) -> Vec<Vec<u8>> {
+fn sequences(kinds: &[u32], count: usize) -> Vec<Vec<u32>> {
     let mut all = vec![Vec::new()];
     for _ in 0..count {
-        let longer = |sequence: &Vec<u8>| {
-            let one = |kind: &u8| [&sequence[..], &[*kind]].concat();
+        let longer = |sequence: &Vec<u32>| {
+            let one = |kind: &u32| [&sequence[..], &[*kind]].concat();
             kinds.iter().map(one).collect::<Vec<_>>()
         };
         all = all.iter().flat_map(longer).collect();
@@ -54,16 +54,16 @@ fn sequences(kinds: &[u8], count: usize) -> Vec<Vec<u8>> {
 }
 
 /// Symbol and addend of the relocation with this number.
-fn sum_of(number: usize) -> (u32, i32) {
+fn sum_of(number: usize) -> (u32, i64) {
     let symbol = number % VALUES.len();
     (symbol as u32 + 1, ADDENDS[number % ADDENDS.len()])
 }
 
 /// What a type leaves of V, in 64 bits.
-fn left(kind: u8, bits: u32, v: u64, number: usize) -> u64 {
+fn left(kind: u32, bits: u32, v: u64, number: usize) -> u64 {
     let (symbol, addend) = sum_of(number);
-    let s = u64::from(VALUES[symbol as usize - 1]);
-    let x = s.wrapping_add(i64::from(addend) as u64);
+    let s = VALUES[symbol as usize - 1];
+    let x = s.wrapping_add_signed(addend);
     let whole = match kind {
         ADD8..=ADD64 => v.wrapping_add(x),
         SUB8..=SUB64 | SUB6 => v.wrapping_sub(x),
@@ -80,7 +80,7 @@ fn all_orders(width: &Width, count: usize, marked: bool) -> Case {
     let mut after = Vec::new();
     let mut list = Vec::new();
     for (at, kinds) in sequences(width.kinds, count).into_iter().enumerate() {
-        let offset = (STEP * at) as u32;
+        let offset = (STEP * at) as u64;
         let start = 0x8142_C3A5_F00F_9663_u64.rotate_left(at as u32);
         let mut v = start;
         for kind in kinds {
@@ -102,8 +102,8 @@ fn all_orders(width: &Width, count: usize, marked: bool) -> Case {
 }
 
 /// A type with its symbol, and a type with its offset.
-type Stacked = (u8, u32);
-type Placed = (u32, u8);
+type Stacked = (u32, u32);
+type Placed = (u64, u32);
 
 /// A byte, types with symbols at its place, and the byte after them.
 fn bytes() -> Vec<Case> {
@@ -137,14 +137,14 @@ fn bytes() -> Vec<Case> {
 
 /// The difference of two labels, as assemblers write it.
 fn differences() -> Vec<Case> {
-    let rows: [(u8, u8, u64, usize); 4] = [
+    let rows: [(u32, u32, u64, usize); 4] = [
         (ADD8, SUB8, 0x24, 1),
         (ADD16, SUB16, 0x0224, 2),
         (ADD32, SUB32, 0x0224, 4),
         (ADD64, SUB64, 0x0224, 8),
     ];
     let symbols = [Symbol::new(0, 1, 0x230), Symbol::new(0, 1, 0xC)];
-    let case = |(add, sub, after, width): (u8, u8, u64, usize)| {
+    let case = |(add, sub, after, width): (u32, u32, u64, usize)| {
         let list = [Relocation::new(0, add, 1, 0), Relocation::new(0, sub, 2, 0)];
         let fit = at(PLACE, &low_bytes(0, width), &symbols, &list);
         Case::done(format!("{add} and {sub}"), &fit, &low_bytes(after, width))

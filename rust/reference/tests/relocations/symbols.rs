@@ -8,12 +8,12 @@ use testing::build::*;
 
 const TLS: u8 = 6;
 const IFUNC: u8 = 10;
-const NOBITS_AT: u32 = 0xFFFF_FFF0;
+const NOBITS_AT: u64 = 0xFFFF_FFF0;
 const COMMON: u16 = 0xFFF2;
 
 /// A word at 4 of section 1 against a symbol. Section 4 is NOBITS, section 5 is
 /// not allocated, section 6 is loaded and empty.
-fn word_of(symbols: &[Symbol], which: u32, addend: i32) -> Fit {
+fn word_of(symbols: &[Symbol], which: u32, addend: i64) -> Fit {
     let list = [Relocation::new(4, WORD, which, addend)];
     let mut fit = at(PLACE, &[0xEE; 8], symbols, &list);
     fit.sections.push(Section::nobits(4, 16));
@@ -27,7 +27,7 @@ fn word_of(symbols: &[Symbol], which: u32, addend: i32) -> Fit {
 }
 
 fn resolved() -> Vec<Case> {
-    let rows: [(&str, Symbol, Option<u32>, u32); 15] = [
+    let rows: [(&str, Symbol, Option<u64>, u32); 15] = [
         ("its own section", Symbol::new(0, 1, 8), None, 0x1008),
         ("a section symbol", Symbol::new(3, 1, 0), None, 0x1000),
         (
@@ -38,7 +38,7 @@ fn resolved() -> Vec<Case> {
         ),
         (
             "around the end",
-            Symbol::new(GLOBAL, 1, u32::MAX),
+            Symbol::new(GLOBAL, 1, u64::MAX),
             None,
             0xFFF,
         ),
@@ -59,7 +59,7 @@ fn resolved() -> Vec<Case> {
         ("weak without a value", Symbol::new(WEAK, 0, 5), None, 0),
         ("a weak function", Symbol::new(WEAK + 2, 0, 5), None, 0),
     ];
-    let case = |(name, symbol, value, s): (&str, Symbol, Option<u32>, u32)| {
+    let case = |(name, symbol, value, s): (&str, Symbol, Option<u64>, u32)| {
         let mut fit = word_of(&[symbol], 1, 0x10);
         fit.external_values = value.map(|value| (1, value)).into_iter().collect();
         let after = [vec![0xEE; 4], words(&[s.wrapping_add(0x10)])].concat();
@@ -94,7 +94,7 @@ fn unresolved() -> Vec<Case> {
         rows.push(("weak", Symbol::new(WEAK + kind, 0, 0), None));
         rows.push(("weak with a value", Symbol::new(WEAK + kind, 0, 0), Some(3)));
     }
-    let case = |(name, symbol, value): (&str, Symbol, Option<u32>)| {
+    let case = |(name, symbol, value): (&str, Symbol, Option<u64>)| {
         let mut fit = word_of(&[symbol], 1, 0);
         fit.external_values = value.map(|value| (1, value)).into_iter().collect();
         Case::new(name, &fit, (10, 0))
@@ -118,13 +118,13 @@ fn indexes() -> Vec<Case> {
     let after = [vec![0xEE; 4], words(&[0x12])].concat();
     cases.push(Case::done("symbol 0", &word_of(&some, 0, 0x12), &after));
     let mut odd = word_of(&some, 0, 0x12);
-    odd.sections[2].bytes[..16].fill(0xFF);
+    odd.sections[2].symbols_mut()[0] = Symbol::new(0xFF, 0xFFFF, u64::MAX);
     cases.push(Case::done("symbol 0, odd entry", &odd, &after));
     let mut empty = word_of(&[], 0, 0x12);
-    empty.sections[2].bytes.clear();
+    empty.sections[2].symbols_mut().clear();
     cases.push(Case::done("symbol 0, empty table", &empty, &after));
     let mut empty = word_of(&[], 1, 0x12);
-    empty.sections[2].bytes.clear();
+    empty.sections[2].symbols_mut().clear();
     cases.push(Case::new("symbol 1, empty table", &empty, (10, 0)));
     cases
 }
@@ -136,11 +136,11 @@ fn every_type() -> Vec<Case> {
     let mut cases = Vec::new();
     for (kind, answer) in stores.into_iter().chain(markers) {
         let mut past = of_type(kind);
-        past.sections[3].bytes[17..20].copy_from_slice(&[3, 0, 0]);
+        past.sections[3].relocations_mut()[1].symbol = 3;
         cases.push(Case::new(format!("type {kind}, past"), &past, answer));
         let symbols = [Symbol::absolute(PLACE + 8), Symbol::new(GLOBAL, 0, 0)];
         let mut strong = of_type(kind);
-        strong.sections[3].bytes[17..20].copy_from_slice(&[2, 0, 0]);
+        strong.sections[3].relocations_mut()[1].symbol = 2;
         let all = [&[Symbol::default()], &symbols[..]].concat();
         strong.sections[2] = Section::symbols(&all);
         cases.push(Case::new(format!("type {kind}, strong"), &strong, answer));
@@ -175,7 +175,7 @@ fn labels() -> Vec<Case> {
         let zero = label_fit(kind, label, 0);
         cases.push(Case::new(name("symbol 0"), &zero, (10, 1)));
         let mut odd = label_fit(kind, label, 0);
-        odd.sections[2].bytes[14] = 1;
+        odd.sections[2].symbols_mut()[0].section = 1;
         cases.push(Case::new(name("odd symbol 0"), &odd, (10, 1)));
         let mut valued = label_fit(kind, Symbol::new(GLOBAL, 0, 0), 2);
         valued.external_values = vec![(2, PLACE)];
@@ -185,7 +185,7 @@ fn labels() -> Vec<Case> {
 }
 
 /// Section 4 is NOBITS, section 5 is loaded.
-fn label_fit(kind: u8, label: Symbol, which: u32) -> Fit {
+fn label_fit(kind: u32, label: Symbol, which: u32) -> Fit {
     let opcode = if kind == PCREL_LO12_I { 0x13 } else { 0x23 };
     let list = [
         Relocation::new(0, PCREL_HI20, 1, 0),

@@ -28,6 +28,27 @@ fn halves_add_up() {
     }
 }
 
+/// In class 2 an instruction extends its number's sign to 64 bits: where the
+/// halves reach x, they add up to it modulo 2^64, and where they do not, to
+/// something else.
+#[test]
+fn halves_add_up_in_class_2() {
+    const LOWEST: i128 = -(1 << 31) - 2_048;
+    const HIGHEST: i128 = (1 << 31) - 2_049;
+    let random = &mut Random::new(1);
+    let ends = [LOWEST, HIGHEST, 0, 1 << 31, 1 << 32, 1 << 63];
+    let edges = ends.iter().flat_map(|end| end - 4_100..end + 4_100);
+    let any = (0..200_000).map(|_| i128::from(random.u64() as i64 >> 20));
+    let any: Vec<i128> = any.collect();
+    for x in edges.chain(any) {
+        let call = Field::UThenI.put(0x0000_80E7_0000_0097, x);
+        let read = extract(U, call % (1 << 32)) + extract(I, call >> 32);
+        let adds_up = (read - x).rem_euclid(1 << 64) == 0;
+        assert_eq!(adds_up, Class::Elf64.halves_reach(x), "{x}");
+        assert_eq!(adds_up, (LOWEST..=HIGHEST).contains(&x), "{x}");
+    }
+}
+
 /// Every number of a field comes back, and no bit outside the field moves.
 fn comes_back(layout: Layout, mask: u64, numbers: impl Iterator<Item = i128>) {
     let random = &mut Random::new(2);
@@ -102,7 +123,7 @@ fn known_encodings() {
 }
 
 /// One data relocation on eight bytes of V against an absolute symbol.
-fn data(kind: u8, present: u64, symbol: u32, addend: i32) -> u64 {
+fn data_of(class: Class, kind: u32, present: u64, symbol: u64, addend: i64) -> u64 {
     let list = [Relocation::new(0, kind, 1, addend)];
     let fit = Fit::code(
         0x1000,
@@ -110,7 +131,14 @@ fn data(kind: u8, present: u64, symbol: u32, addend: i32) -> u64 {
         &[Symbol::absolute(symbol)],
         &list,
     );
-    number_from(&fit.laid())
+    number_from(&fit.of(class).laid())
+}
+
+/// The same in both classes.
+fn data(kind: u32, present: u64, symbol: u64, addend: i64) -> u64 {
+    let [first, second] = Class::ALL.map(|class| data_of(class, kind, present, symbol, addend));
+    assert_eq!(first, second, "class 1 and class 2");
+    first
 }
 
 const V: u64 = 0xFFFF_FFFF_FFFF_FFFF;
@@ -131,12 +159,46 @@ fn add_and_sub_wrap_at_their_width() {
 /// "S + A not reduced first"
 #[test]
 fn wide_add_and_sub_take_the_whole_sum() {
-    assert_eq!(data(36, 0, u32::MAX, 1), 1 << 32);
+    assert_eq!(data(36, 0, 0xFFFF_FFFF, 1), 1 << 32);
     assert_eq!(data(36, 0, 0, -1), V);
     assert_eq!(data(36, 5, 2, -3), 4);
     assert_eq!(data(40, 0, 0, -1), 1);
-    assert_eq!(data(40, 0, u32::MAX, i32::MAX), V - 0x1_7FFF_FFFD);
-    assert_eq!(data(40, V, u32::MAX, 1), V - (1 << 32));
+    assert_eq!(data(40, 0, 0xFFFF_FFFF, 0x7FFF_FFFF), V - 0x1_7FFF_FFFD);
+    assert_eq!(data(40, V, 0xFFFF_FFFF, 1), V - (1 << 32));
+}
+
+/// In class 2 S and A have 64 bits, and the sum wraps at the field's width.
+#[test]
+fn sums_in_class_2() {
+    const S: u64 = 0xFEDC_BA98_7654_3210;
+    let data = |kind, present, symbol, addend| data_of(Class::Elf64, kind, present, symbol, addend);
+    assert_eq!(data(36, 1, S, 0), S + 1);
+    assert_eq!(data(36, V, V, i64::MAX), i64::MAX as u64 - 2);
+    assert_eq!(data(36, 0, V, 1), 0);
+    assert_eq!(data(40, 0, S, 0), 0_u64.wrapping_sub(S));
+    assert_eq!(data(40, 0, V, i64::MIN), (1 << 63) + 1);
+    assert_eq!(data(35, 0, S, 0), 0x7654_3210);
+    assert_eq!(data(39, 1 << 32, S, 0), 0x1_89AB_CDF0);
+    assert_eq!(data(34, 0, S, 0), 0x3210);
+    assert_eq!(data(33, 0xFF00, S, 1), 0xFF11);
+    assert_eq!(data(52, 0xC0, S, 0), 0xF0);
+    assert_eq!(data(53, 0x80, S, 0), 0x90);
+    assert_eq!(data(54, 0, S, 0), 0x10);
+    assert_eq!(data(55, 0, S, 0), 0x3210);
+    assert_eq!(data(56, V, S, 0), 0xFFFF_FFFF_7654_3210);
+}
+
+/// "types 1 and 57 still write the low 32 bits", and type 2 writes T.
+#[test]
+fn words_in_class_2() {
+    const S: u64 = 0xFEDC_BA98_7654_3210;
+    let data = |kind, symbol, addend| data_of(Class::Elf64, kind, 0, symbol, addend);
+    assert_eq!(data(1, S, 0), 0x7654_3210);
+    assert_eq!(data(57, S, 0), 0x7654_2210);
+    assert_eq!(data(57, 0, 0), 0xFFFF_F000);
+    assert_eq!(data(2, S, 0), S);
+    assert_eq!(data(2, S, -1), S - 1);
+    assert_eq!(data(2, V, 1), 0);
 }
 
 #[test]
@@ -170,10 +232,10 @@ fn words() {
 #[test]
 fn stacked_records() {
     let symbols = [Symbol::absolute(0x10), Symbol::absolute(0x21)];
-    let stacked = |kinds: &[(u8, u32)], byte: u8| {
-        let record = |(kind, symbol): &(u8, u32)| Relocation::new(0, *kind, *symbol, 0);
+    let stacked = |kinds: &[(u32, u32)], byte: u8| {
+        let record = |(kind, symbol): &(u32, u32)| Relocation::new(0, *kind, *symbol, 0);
         let list: Vec<Relocation> = kinds.iter().map(record).collect();
-        Fit::code(0x1000, &[byte], &symbols, &list).laid()[0]
+        Fit::code(0x1000, &[byte], &symbols, &list).laid_of_both()[0]
     };
     assert_eq!(stacked(&[(33, 1), (37, 2)], 0x80), 0x6F);
     assert_eq!(stacked(&[(54, 1), (37, 2)], 0x80), 0xEF);
@@ -185,7 +247,10 @@ fn stacked_records() {
 #[test]
 fn halves_of_each_type() {
     let laid = |kind, word: u32, target| data(kind, u64::from(word), target, 0) as u32;
-    assert_eq!(laid(26, 0x0000_0537, 0xFFFF_F800), 0x0000_0537);
+    assert_eq!(laid(26, 0x0000_0537, 0x0000_0800), 0x0000_1537);
+    let top_32 = data_of(Class::Elf32, 26, 0x537, 0xFFFF_F800, 0);
+    let top_64 = data_of(Class::Elf64, 26, 0x537, 0_u64.wrapping_sub(2_048), 0);
+    assert_eq!([top_32, top_64], [0x537; 2]);
     assert_eq!(laid(27, 0x0005_0513, 0xFFFF_F800), 0x8005_0513);
     assert_eq!(laid(28, 0x00A5_A023, 0x0000_07FF), 0x7EA5_AFA3);
     assert_eq!(laid(23, 0xABCD_E517, 0x0000_07FF), 0xFFFF_F517);

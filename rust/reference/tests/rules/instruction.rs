@@ -3,61 +3,74 @@
 use crate::DONE;
 use testing::build::*;
 
-const PLACE: u32 = 0x1000;
+const PLACE: u64 = 0x1000;
 
 /// One relocation with distance 0 on this word; symbol 2 is a label with a
 /// pair behind the word.
-fn on(kind: u8, word: u64, width: usize) -> (u32, u32) {
+fn on(class: Class, kind: u32, word: u64, width: usize) -> (u32, u32) {
     let mut code = word.to_le_bytes()[..width].to_vec();
     code.extend(0x17_u32.to_le_bytes());
-    let end = width as u32;
+    let end = width as u64;
     let symbol = if matches!(kind, 24 | 25) { 2 } else { 1 };
     let symbols = [Symbol::absolute(PLACE), Symbol::new(0, 1, end)];
     let list = [
         Relocation::new(0, kind, symbol, 0),
         Relocation::new(end, 23, 1, 0),
     ];
-    Fit::code(PLACE, &code, &symbols, &list).answer()
+    let fit = Fit::code(PLACE, &code, &symbols, &list);
+    fit.of(class).answer()
 }
 
 /// Every opcode with every funct3, against the ones that the type takes.
-fn opcodes(kind: u8, taken: impl Fn(u64, u64) -> bool) {
+fn opcodes(class: Class, kind: u32, taken: impl Fn(u64, u64) -> bool) {
     for opcode in 0..128 {
         for funct3 in 0..8 {
             let expected = if taken(opcode, funct3) { DONE } else { (11, 0) };
             let word = 0xABCD_8F80 | (funct3 << 12) | opcode;
-            assert_eq!(on(kind, word, 4), expected, "{kind}: {word:X}");
+            let answer = on(class, kind, word, 4);
+            assert_eq!(answer, expected, "{class:?}, {kind}: {word:X}");
         }
     }
 }
 
 #[test]
 fn opcodes_of_each_type() {
-    opcodes(26, |opcode, _| opcode == 0x37);
-    opcodes(23, |opcode, _| opcode == 0x17);
-    opcodes(17, |opcode, _| opcode == 0x6F);
-    opcodes(16, |opcode, _| opcode == 0x63);
-    for kind in [24, 27] {
-        opcodes(kind, |opcode, funct3| match opcode {
-            0x03 | 0x07 => true,
-            0x13 | 0x67 => funct3 == 0,
-            _ => false,
-        });
-    }
-    for kind in [25, 28] {
-        opcodes(kind, |opcode, _| matches!(opcode, 0x23 | 0x27));
+    for class in Class::ALL {
+        opcodes(class, 26, |opcode, _| opcode == 0x37);
+        opcodes(class, 23, |opcode, _| opcode == 0x17);
+        opcodes(class, 17, |opcode, _| opcode == 0x6F);
+        opcodes(class, 16, |opcode, _| opcode == 0x63);
+        for kind in [24, 27] {
+            opcodes(class, kind, |opcode, funct3| match opcode {
+                0x03 | 0x07 => true,
+                0x13 | 0x67 => funct3 == 0,
+                // "In class 2, opcode 0x1B with funct3 0 joins the _I forms"
+                0x1B => class == Class::Elf64 && funct3 == 0,
+                _ => false,
+            });
+        }
+        for kind in [25, 28] {
+            opcodes(class, kind, |opcode, _| matches!(opcode, 0x23 | 0x27));
+        }
     }
 }
 
 #[test]
 fn compressed_forms() {
-    for half in 0..=0xFFFF {
-        let (quadrant, funct3) = (half % 4, half / 0x2000);
-        let branch = quadrant == 1 && (funct3 == 6 || funct3 == 7);
-        let jump = quadrant == 1 && (funct3 == 1 || funct3 == 5);
-        if half % 64 < 4 {
-            assert_eq!(on(44, half, 2) == DONE, branch, "{half:X}");
-            assert_eq!(on(45, half, 2) == DONE, jump, "{half:X}");
+    for class in Class::ALL {
+        for half in (0..=0xFFFF).filter(|half| half % 64 < 4) {
+            let (quadrant, funct3) = (half % 4, half / 0x2000);
+            let branch = quadrant == 1 && (funct3 == 6 || funct3 == 7);
+            // In class 2, "RVC_JUMP funct3 1 gives 11"
+            let is_jump = funct3 == 5 || (funct3 == 1 && class == Class::Elf32);
+            let expected = |holds| if holds { DONE } else { (11, 0) };
+            let (on_44, on_45) = (on(class, 44, half, 2), on(class, 45, half, 2));
+            assert_eq!(on_44, expected(branch), "{class:?}, {half:X}");
+            assert_eq!(
+                on_45,
+                expected(quadrant == 1 && is_jump),
+                "{class:?}, {half:X}"
+            );
         }
     }
 }
@@ -68,8 +81,11 @@ fn call_forms() {
         let auipc = 0xABCD_E000 | (rd << 7) | first;
         let jalr = 0xABC0_0F80 | (rs1 << 15) | second;
         let word = auipc | (jalr << 32);
-        assert_eq!(on(18, word, 8), on(19, word, 8));
-        on(18, word, 8)
+        let answer = on(Class::Elf32, 18, word, 8);
+        assert_eq!(answer, on(Class::Elf32, 19, word, 8));
+        assert_eq!(answer, on(Class::Elf64, 18, word, 8));
+        assert_eq!(answer, on(Class::Elf64, 19, word, 8));
+        answer
     };
     for register in 0..32 {
         let expected = if register == 0 { (11, 0) } else { DONE };
@@ -81,14 +97,19 @@ fn call_forms() {
     assert_eq!(call(1, 1, 0x17, 0x1067), (11, 0), "funct3 1");
 }
 
-/// A relocation at PLACE + offset whose T is given.
-fn towards(kind: u8, word: u64, place: u32, target: u32) -> (u32, u32) {
+/// A relocation at a place whose T is given.
+fn at(kind: u32, word: u64, place: u64, target: u64) -> Fit {
     let list = [Relocation::new(0, kind, 1, 0)];
     let symbols = [Symbol::absolute(target), Symbol::new(0, 1, 0)];
     let mut fit = Fit::code(place, &word.to_le_bytes(), &symbols, &list);
     fit.image = vec![0; 72];
     fit.base = place.saturating_sub(64);
-    fit.answer()
+    fit
+}
+
+/// The answer to it, the same in both classes.
+fn towards(kind: u32, word: u64, place: u64, target: u64) -> (u32, u32) {
+    at(kind, word, place, target).answer_of_both()
 }
 
 const CALL: u64 = 0x0000_80E7_0000_0097;
@@ -127,7 +148,7 @@ fn distances_at_both_ends() {
         (45, 0xA001, 2_048),
     ];
     for (kind, word, reach) in words {
-        let to = |distance: i64| towards(kind, word, PLACE as u32, (PLACE + distance) as u32);
+        let to = |distance: i64| towards(kind, word, PLACE as u64, (PLACE + distance) as u64);
         assert_eq!(to(-reach), DONE, "type {kind}");
         assert_eq!(to(reach - 2), DONE, "type {kind}");
         for broken in [
@@ -148,19 +169,84 @@ fn distances_at_both_ends() {
 /// "the distance is the whole number T - P": it does not wrap around.
 #[test]
 fn distances_do_not_wrap() {
-    for (kind, word) in [(16, 0x63), (17, 0x6F), (44, 0xC101), (45, 0xA001)] {
-        assert_eq!(towards(kind, word, 0, 2), DONE, "type {kind}");
-        assert_eq!(towards(kind, word, 0, 0xFFFF_FFFE), (13, 0), "type {kind}");
-        assert_eq!(towards(kind, word, 0xFFFF_FFF0, 0), (13, 0), "type {kind}");
+    for (class, top) in [
+        (Class::Elf32, u64::from(u32::MAX)),
+        (Class::Elf64, u64::MAX),
+    ] {
+        for (kind, word) in [(16, 0x63), (17, 0x6F), (44, 0xC101), (45, 0xA001)] {
+            let to = |place, target| at(kind, word, place, target).of(class).answer();
+            assert_eq!(to(0, 2), DONE, "type {kind}");
+            assert_eq!(to(0, top - 1), (13, 0), "type {kind}");
+            assert_eq!(to(top - 15, 0), (13, 0), "type {kind}");
+            assert_eq!(to(top - 15, top - 1), DONE, "type {kind}");
+            let half = top / 2 + 1;
+            assert_eq!(to(half - 8, half), DONE, "type {kind}");
+            assert_eq!(to(half, half - 8), DONE, "type {kind}");
+            assert_eq!(to(0, half), (13, 0), "type {kind}");
+            assert_eq!(to(half, 0), (13, 0), "type {kind}");
+        }
     }
 }
 
 #[test]
 fn calls_reach_everything_even() {
     for target in [0, 2, 0x7FFF_F7FE, 0x8000_0000, 0xFFFF_FFFE] {
-        assert_eq!(towards(18, CALL, 0x1000, target), DONE);
-        assert_eq!(towards(19, CALL, 0xFFFF_FFF0, target), DONE);
-        assert_eq!(towards(18, CALL, 0x1000, target + 1), (13, 0));
-        assert_eq!(towards(23, 0x17, 0x1000, target + 1), DONE, "PCREL_HI20");
+        let to = |kind, word, place, target| at(kind, word, place, target).answer();
+        assert_eq!(to(18, CALL, 0x1000, target), DONE);
+        assert_eq!(to(19, CALL, 0xFFFF_FFF0, target), DONE);
+        assert_eq!(to(18, CALL, 0x1000, target + 1), (13, 0));
+        assert_eq!(to(23, 0x17, 0x1000, target + 1), DONE, "PCREL_HI20");
+        assert_eq!(to(26, 0x37, 0x1000, target + 1), DONE, "HI20");
+    }
+}
+
+/// "for 18, 19, 23 and 26 the distance or address, read as a signed 64-bit
+/// number, lies in -2,147,485,696..2,147,481,599, else 13"
+#[test]
+fn halves_reach_so_far_in_class_2() {
+    const LOWEST: i64 = -2_147_485_696;
+    const HIGHEST: i64 = 2_147_481_599;
+    for place in [0, 0x1000, 1 << 31, 1 << 32, 1 << 63, u64::MAX - 15] {
+        for (kind, word) in [(18, CALL), (19, CALL), (23, 0x17), (26, 0x37)] {
+            let from = if kind == 26 { 0 } else { place };
+            let over = |distance: i64| {
+                let target = from.wrapping_add_signed(distance);
+                at(kind, word, place, target).of(Class::Elf64).answer()
+            };
+            let is_call = kind < 20;
+            let odd = if is_call { (13, 0) } else { DONE };
+            let kept = [LOWEST, LOWEST + 2, -2, 0, 2, 2_046, 2_048, HIGHEST - 1];
+            for distance in kept {
+                assert_eq!(over(distance), DONE, "type {kind}, {distance}");
+            }
+            for distance in [LOWEST + 1, -1, 1, HIGHEST] {
+                assert_eq!(over(distance), odd, "type {kind}, {distance}");
+            }
+            let far = [
+                1 << 31,
+                1 << 32,
+                -(1 << 32),
+                1 << 62,
+                i64::MAX - 1,
+                i64::MIN,
+            ];
+            let beside = [LOWEST - 2, LOWEST - 1, HIGHEST + 1, HIGHEST + 3];
+            for distance in far.into_iter().chain(beside) {
+                assert_eq!(over(distance), (13, 0), "type {kind}, {distance}");
+            }
+        }
+    }
+}
+
+/// 1, 2, 24, 25, 27, 28 and 57 have no range of their own.
+#[test]
+fn other_types_reach_everything_in_class_2() {
+    for (kind, word) in [(1, 0), (2, 0), (27, 0x13), (28, 0x23), (57, 0)] {
+        for target in [0, 1, 1 << 31, 1 << 32, 1 << 63, u64::MAX] {
+            for place in [0x1000, u64::MAX - 15] {
+                let fit = at(kind, word, place, target).of(Class::Elf64);
+                assert_eq!(fit.answer(), DONE, "type {kind} to {target:#x}");
+            }
+        }
     }
 }

@@ -5,14 +5,21 @@ use reference::{judge, Answer};
 use testing::build::*;
 
 /// The answer to an object with no order's placements, on an empty image.
-fn unplaced(object: &[u8]) -> (u32, u32) {
-    let refusal = judge(object, &order(0, &[], &[]), 0).err();
+fn unplaced(class: Class, object: &[u8]) -> (u32, u32) {
+    let refusal = judge(object, &order(class, 0, &[], &[]), 0).err();
     let answer = refusal.unwrap_or(Answer::DONE);
     (answer.number, answer.place)
 }
 
+/// The answer to an object of these sections, the same in both classes.
+fn whole(sections: &[Section]) -> (u32, u32) {
+    let [first, second] = Class::ALL.map(|class| unplaced(class, &object(class, sections)));
+    assert_eq!(first, second, "class 1 and class 2");
+    first
+}
+
 fn rows(sections: &[Section]) -> (u32, u32) {
-    unplaced(&object(&[&[Section::default()], sections].concat()))
+    whole(&[&[Section::default()], sections].concat())
 }
 
 /// A fit with a loaded section 1, a symbol table 2 and a RELA section 3.
@@ -25,60 +32,107 @@ fn usual() -> Fit {
 fn changed(change: impl Fn(&mut Vec<Section>)) -> (u32, u32) {
     let mut fit = usual();
     change(&mut fit.sections);
-    fit.answer()
+    fit.answer_of_both()
 }
 
-/// The header of an object without content, with one number changed.
-fn header_with(at: usize, value: &[u8]) -> (u32, u32) {
-    let mut file = object(&[Section::default()]);
+/// The header of an object without content, with one number changed. The
+/// order is of the class that the object has then.
+fn header_with(class: Class, at: usize, value: &[u8]) -> (u32, u32) {
+    let mut file = object(class, &[Section::default()]);
     file[at..at + value.len()].copy_from_slice(value);
-    unplaced(&file)
+    unplaced(Class::of(&file).unwrap_or(class), &file)
 }
 
 #[test]
 fn header_fields() {
-    assert_eq!(header_with(0, &[0x7F]), DONE);
-    for at in [0, 1, 2, 3, 4, 5, 6, 16, 18, 20, 40] {
-        assert_eq!(header_with(at, &[0]), (4, 0), "a 0 at {at}");
-        assert_eq!(header_with(at, &[2]), (4, 0), "a 2 at {at}");
+    for (class, own_size) in [(Class::Elf32, 40), (Class::Elf64, 52)] {
+        let with = |at, value: u8| header_with(class, at, &[value]);
+        assert_eq!(with(0, 0x7F), DONE);
+        for at in [0, 1, 2, 3, 5, 6, 16, 18, 20, own_size] {
+            assert_eq!(with(at, 0), (4, 0), "a 0 at {at}, {class:?}");
+            assert_eq!(with(at, 2), (4, 0), "a 2 at {at}, {class:?}");
+        }
+        for at in [17, 19, 21, 22, 23, own_size + 1] {
+            assert_eq!(with(at, 1), (4, 0), "a 1 at {at}, {class:?}");
+        }
     }
-    for at in [17, 19, 21, 22, 23, 41] {
-        assert_eq!(header_with(at, &[1]), (4, 0), "a 1 at {at}");
+}
+
+/// Byte 4 is 1 or 2, and anything else gives 4, and so does a header of the
+/// other class.
+#[test]
+fn classes() {
+    for class in Class::ALL {
+        for byte in 0..=255 {
+            let answer = header_with(class, 4, &[byte]);
+            let is_own = object(class, &[])[4] == byte;
+            assert_eq!(answer == DONE, is_own, "{byte}, {class:?}");
+            assert!(is_own || answer == (4, 0), "{byte}, {class:?}");
+        }
     }
 }
 
 #[test]
 fn header_numbers_that_refuse_nothing() {
-    assert_eq!(header_with(7, &[9; 9]), DONE, "rest of the ident");
-    assert_eq!(header_with(24, &[9; 8]), DONE, "e_entry, e_phoff");
-    assert_eq!(header_with(36, &[0xFF; 4]), DONE, "e_flags");
-    assert_eq!(header_with(42, &[9; 4]), DONE, "e_phentsize, e_phnum");
-    assert_eq!(header_with(50, &[0xFF; 2]), DONE, "e_shstrndx");
+    for class in Class::ALL {
+        let with = |at, value: &[u8]| header_with(class, at, value);
+        let [entry, flags, programs, names] = match class {
+            Class::Elf32 => [24..32, 36..40, 42..46, 50..52],
+            Class::Elf64 => [24..40, 48..52, 54..58, 62..64],
+        };
+        let all = |fields: std::ops::Range<usize>| with(fields.start, &vec![0xFF; fields.len()]);
+        assert_eq!(with(7, &[9; 9]), DONE, "rest of the ident");
+        assert_eq!(all(entry), DONE, "e_entry, e_phoff");
+        assert_eq!(all(flags), DONE, "e_flags");
+        assert_eq!(all(programs), DONE, "e_phentsize, e_phnum");
+        assert_eq!(all(names), DONE, "e_shstrndx");
+    }
 }
 
 #[test]
 fn file_length() {
-    let mut file = object(&[Section::default()]);
-    assert_eq!(unplaced(&file[..51]), (4, 0));
-    assert_eq!(unplaced(&file[..52]), (5, 0), "the table is missing");
-    file.resize(65_536, 0);
-    assert_eq!(unplaced(&file), DONE);
-    file.push(0);
-    assert_eq!(unplaced(&file), (4, 0));
-    assert_eq!(unplaced(&[]), (4, 0));
+    for (class, header) in [(Class::Elf32, 52), (Class::Elf64, 64)] {
+        let mut file = object(class, &[Section::default()]);
+        for length in 0..header {
+            let cut = &file[..length];
+            assert_eq!(unplaced(class, cut), (4, 0), "{length}, {class:?}");
+        }
+        let cut = &file[..header];
+        assert_eq!(unplaced(class, cut), (5, 0), "the table is missing");
+        file.resize(65_536, 0);
+        assert_eq!(unplaced(class, &file), DONE);
+        file.push(0);
+        assert_eq!(unplaced(class, &file), (4, 0));
+    }
 }
 
 #[test]
 fn table_numbers() {
-    assert_eq!(header_with(46, &[39]), (5, 0), "e_shentsize");
-    assert_eq!(header_with(46, &[40, 1]), (5, 0), "e_shentsize");
-    assert_eq!(header_with(48, &[0]), (5, 0), "no row");
-    assert_eq!(header_with(48, &[2]), (5, 0), "second row past the file");
-    assert_eq!(header_with(32, &[53]), (5, 0), "one byte past the file");
-    assert_eq!(header_with(32, &[0xFF; 4]), (5, 0), "e_shoff");
-    let many = |count| unplaced(&object(&vec![Section::default(); count]));
+    for (class, size, size_at, table_at) in [(Class::Elf32, 40, 46, 32), (Class::Elf64, 64, 58, 40)]
+    {
+        let with = |at, value: &[u8]| header_with(class, at, value);
+        let past = header_size(class) as u8 + 1;
+        assert_eq!(with(size_at, &[size - 1]), (5, 0), "e_shentsize");
+        assert_eq!(with(size_at, &[size, 1]), (5, 0), "e_shentsize");
+        assert_eq!(with(size_at + 2, &[0]), (5, 0), "no row");
+        assert_eq!(with(size_at + 2, &[2]), (5, 0), "second row past the file");
+        assert_eq!(with(table_at, &[past]), (5, 0), "one byte past the file");
+        assert_eq!(with(table_at, &[0xFF; 4]), (5, 0), "e_shoff");
+    }
+    let many = |count| whole(&vec![Section::default(); count]);
     assert_eq!(many(32), DONE);
     assert_eq!(many(33), (5, 0));
+}
+
+/// A table that ends at 2^64 or past it, also where its end wraps into the file.
+#[test]
+fn table_at_the_top() {
+    for below in [1_u64, 63, 64, 65, 128, 1 << 32, 1 << 63] {
+        let offset = 0_u64.wrapping_sub(below).to_le_bytes();
+        let answer = header_with(Class::Elf64, 40, &offset);
+        assert_eq!(answer, (5, 0), "{below} below 2^64");
+    }
+    assert_eq!(header_with(Class::Elf64, 44, &[1]), (5, 0), "2^32 too far");
 }
 
 #[test]
@@ -87,30 +141,60 @@ fn row_0_is_null() {
         kind: PROGBITS,
         ..Section::default()
     };
-    assert_eq!(unplaced(&object(&[first])), (5, 0));
+    assert_eq!(whole(&[first]), (5, 0));
 }
 
 #[test]
 fn bytes_stay_inside_the_file() {
-    // Header 52, no bytes, two rows: the file ends at 132.
-    let at = |kind, offset, size| {
-        rows(&[Section {
-            kind,
-            offset: Some(offset),
-            size: Some(size),
-            ..Section::default()
-        }])
-    };
-    for kind in [PROGBITS, 3, 7, 0x7000_0003] {
-        assert_eq!(at(kind, 100, 32), DONE, "type {kind}");
-        assert_eq!(at(kind, 100, 33), (5, 1), "type {kind}");
-        assert_eq!(at(kind, 132, 0), DONE, "type {kind}");
-        assert_eq!(at(kind, 133, 0), (5, 1), "type {kind}");
-        assert_eq!(at(kind, u32::MAX, u32::MAX), (5, 1), "type {kind}");
+    // The header, no bytes, and two rows.
+    for (class, end) in [(Class::Elf32, 132), (Class::Elf64, 192)] {
+        let at = |kind, offset, size| {
+            let section = Section {
+                kind,
+                offset: Some(offset),
+                size: Some(size),
+                ..Section::default()
+            };
+            unplaced(class, &object(class, &[Section::default(), section]))
+        };
+        for kind in [PROGBITS, 3, 7, 0x7000_0003] {
+            assert_eq!(at(kind, 100, end - 100), DONE, "type {kind}");
+            assert_eq!(at(kind, 100, end - 99), (5, 1), "type {kind}");
+            assert_eq!(at(kind, end, 0), DONE, "type {kind}");
+            assert_eq!(at(kind, end + 1, 0), (5, 1), "type {kind}");
+            assert_eq!(at(kind, u64::MAX, u64::MAX), (5, 1), "type {kind}");
+            assert_eq!(at(kind, 100, 0_u64.wrapping_sub(100)), (5, 1), "wraps to 0");
+            assert_eq!(at(kind, u64::MAX, 101), (5, 1), "wraps into the file");
+        }
+        assert_eq!(at(NULL, u64::MAX, u64::MAX), DONE);
+        assert_eq!(at(NOBITS, u64::MAX, u64::MAX), DONE);
+        assert_eq!(at(RELA, end + 1, 0), (5, 1), "a RELA that does not count");
     }
-    assert_eq!(at(NULL, u32::MAX, u32::MAX), DONE);
-    assert_eq!(at(NOBITS, u32::MAX, u32::MAX), DONE);
-    assert_eq!(at(RELA, 133, 0), (5, 1), "a RELA that does not count");
+}
+
+/// Bits of class 2 that class 1 does not have count too.
+#[test]
+fn the_upper_half_of_a_number_counts() {
+    let changed = |change: &dyn Fn(&mut Vec<Section>)| {
+        let mut fit = usual().of(Class::Elf64);
+        change(&mut fit.sections);
+        fit.answer()
+    };
+    const ABOVE: u64 = 1 << 32;
+    assert_eq!(changed(&|rows| rows[1].size = Some(ABOVE + 8)), (5, 1));
+    assert_eq!(changed(&|rows| rows[1].offset = Some(ABOVE + 64)), (5, 1));
+    assert_eq!(changed(&|rows| rows[1].alignment = ABOVE + 4), (5, 1));
+    assert_eq!(changed(&|rows| rows[1].alignment = ABOVE), (8, 1));
+    assert_eq!(changed(&|rows| rows[1].flags |= ABOVE), DONE);
+    assert_eq!(changed(&|rows| rows[1].flags = ABOVE << 1), (6, 1));
+    assert_eq!(
+        changed(&|rows| rows[2].entry_size = Some(ABOVE + 24)),
+        (5, 2)
+    );
+    assert_eq!(
+        changed(&|rows| rows[3].entry_size = Some(ABOVE + 24)),
+        (5, 3)
+    );
 }
 
 #[test]
@@ -120,8 +204,18 @@ fn alignment_of_allocated_rows() {
         assert_eq!(with(alignment), DONE, "{alignment}");
     }
     assert_eq!(with(1 << 31), (8, 1), "a bit, but not a multiple");
-    for alignment in [3, 6, 0x1001, u32::MAX] {
+    for alignment in [3, 6, 0x1001, (1 << 31) + 1, u64::MAX] {
         assert_eq!(with(alignment), (5, 1), "{alignment}");
+    }
+    let with_64 = |alignment| {
+        let mut fit = usual().of(Class::Elf64);
+        fit.sections[1].alignment = alignment;
+        fit.answer()
+    };
+    for bit in 13..64 {
+        assert_eq!(with_64(1 << bit), (8, 1), "2^{bit}");
+        assert_eq!(with_64(1 << bit | 1), (5, 1), "2^{bit} + 1");
+        assert_eq!(with_64(1 << bit | 1 << 12), (5, 1), "2^{bit} + 2^12");
     }
     assert_eq!(changed(|rows| rows[2].alignment = 3), DONE, "not allocated");
 }
@@ -132,7 +226,7 @@ fn allocated_rows_of_other_types() {
         let row = Section {
             kind,
             flags: ALLOCATED,
-            entry_size: 16,
+            entries: Entries::Symbols(Vec::new()),
             ..Section::default()
         };
         assert_eq!(rows(&[row]), (5, 1), "type {kind}");
@@ -156,8 +250,8 @@ fn symbol_table() {
     assert_eq!(rows(&[table(0)]), DONE);
     assert_eq!(rows(&[table(1_024)]), DONE);
     assert_eq!(rows(&[table(1_025)]), (5, 1));
-    assert_eq!(changed(|rows| rows[2].entry_size = 15), (5, 2));
-    assert_eq!(changed(|rows| rows[2].entry_size = 0), (5, 2));
+    assert_eq!(changed(|rows| rows[2].entry_size = Some(15)), (5, 2));
+    assert_eq!(changed(|rows| rows[2].entry_size = Some(0)), (5, 2));
     assert_eq!(changed(|rows| rows[2].size = Some(31)), (5, 2));
     assert_eq!(rows(&[table(1), table(1)]), (5, 2));
     assert_eq!(rows(&[table(0), table(0), table(0)]), (5, 2));
@@ -184,7 +278,7 @@ fn symbol_table_above_the_rela() {
         let mut fit = fit.clone();
         fit.sections.swap(2, 3);
         fit.sections[2].link = link;
-        fit.answer()
+        fit.answer_of_both()
     };
     assert_eq!(moved(3), DONE);
     assert_eq!(moved(2), (5, 2));
@@ -196,7 +290,7 @@ fn rela_that_does_not_count() {
         let spoiled = |rows: &mut Vec<Section>| {
             rows[3].info = info;
             rows[3].link = 9;
-            rows[3].entry_size = 7;
+            rows[3].entry_size = Some(7);
             rows[3].size = Some(23);
         };
         assert_eq!(changed(spoiled), DONE, "info {info}");
@@ -210,9 +304,9 @@ fn rela_that_does_not_count() {
 
 #[test]
 fn counting_rel_and_rela() {
-    assert_eq!(usual().answer(), DONE);
+    assert_eq!(usual().answer_of_both(), DONE);
     assert_eq!(changed(|rows| rows[3].kind = REL), (5, 3));
-    assert_eq!(changed(|rows| rows[3].entry_size = 8), (5, 3));
+    assert_eq!(changed(|rows| rows[3].entry_size = Some(8)), (5, 3));
     assert_eq!(changed(|rows| rows[3].size = Some(23)), (5, 3));
     assert_eq!(changed(|rows| rows[3].size = Some(0)), DONE);
     for link in [0, 1, 3, u32::MAX] {
@@ -234,7 +328,7 @@ fn counting_rel_and_rela() {
 fn two_rela_for_one_row() {
     let twice = |rows: &mut Vec<Section>| {
         let mut empty = rows[3].clone();
-        empty.bytes.clear();
+        empty.relocations_mut().clear();
         rows.push(empty);
     };
     assert_eq!(changed(twice), (5, 4));
@@ -245,10 +339,12 @@ fn two_rela_for_one_row() {
     assert_eq!(changed(second_does_not_count), DONE);
 }
 
-/// Two loaded sections whose RELA rows hold so many markers.
-fn markers(first: usize, second: usize) -> (u32, u32) {
+/// Two loaded sections whose RELA rows hold so many markers. An object of class
+/// 2 has no room for as many as there may be.
+fn markers(class: Class, first: usize, second: usize) -> (u32, u32) {
     let list = |count| vec![Relocation::new(0, 0, 0, 0); count];
     let fit = Fit {
+        class: Class::Elf32,
         sections: vec![
             Section::default(),
             Section::loaded(1, &[]),
@@ -263,27 +359,58 @@ fn markers(first: usize, second: usize) -> (u32, u32) {
         image: vec![],
         journal: journal(0),
     };
-    fit.answer()
+    fit.of(class).answer()
 }
 
 #[test]
 fn number_of_records() {
-    assert_eq!(markers(4_096, 0), DONE);
-    assert_eq!(markers(4_097, 0), (5, 4));
-    assert_eq!(markers(96, 4_000), DONE);
-    assert_eq!(markers(96, 4_001), (5, 5));
+    let of_32 = |first, second| markers(Class::Elf32, first, second);
+    assert_eq!(of_32(4_096, 0), DONE);
+    assert_eq!(of_32(4_097, 0), (5, 4));
+    assert_eq!(of_32(96, 4_000), DONE);
+    assert_eq!(of_32(96, 4_001), (5, 5));
     let ignored = |rows: &mut Vec<Section>| {
-        let list = vec![Relocation::new(0, 0, 0, 0); 4_096];
+        let list = vec![Relocation::new(0, 0, 0, 0); 2_000];
         rows.push(Section::relocations(2, 2, &list));
     };
     assert_eq!(changed(ignored), DONE, "rows that do not count");
 }
 
+/// In class 2 the file's length comes first: 65,536 bytes have room for 2,712
+/// records beside the header and six rows. RELA rows that share their bytes
+/// hold more.
+#[test]
+fn number_of_records_in_class_2() {
+    let of_64 = |first, second| markers(Class::Elf64, first, second);
+    assert_eq!(of_64(2_712, 0), DONE);
+    assert_eq!(of_64(2_713, 0), (4, 0));
+    let shared = |first: u64, second: u64| {
+        let list = vec![Relocation::new(0, 0, 0, 0); 2_048];
+        let mut fit = Fit::placed(
+            0,
+            0,
+            &[(Section::loaded(1, &[]), 0), (Section::loaded(1, &[]), 0)],
+        );
+        fit.sections.extend([
+            Section::symbols(&[]),
+            Section::relocations(1, 3, &list),
+            Section::relocations(2, 3, &[]),
+        ]);
+        fit.sections[4].size = Some(24 * first);
+        fit.sections[5].offset = Some(64);
+        fit.sections[5].size = Some(24 * second);
+        fit.of(Class::Elf64).answer()
+    };
+    assert_eq!(shared(2_048, 2_048), DONE);
+    assert_eq!(shared(2_048, 2_049), (5, 5));
+    assert_eq!(shared(2_047, 2_049), DONE);
+}
+
 #[test]
 fn the_lowest_row_is_named() {
     let both = |rows: &mut Vec<Section>| {
-        rows[3].entry_size = 0;
-        rows[2].entry_size = 0;
+        rows[3].entry_size = Some(0);
+        rows[2].entry_size = Some(0);
     };
     assert_eq!(changed(both), (5, 2));
 }

@@ -3,10 +3,10 @@
 use crate::DONE;
 use testing::build::*;
 
-const BASE: u32 = 0x1000;
+const BASE: u64 = 0x1000;
 
 /// Sections on an image of 100 bytes from 0x1000 on, each with its address.
-fn placed(sections: &[(Section, u32)]) -> Fit {
+fn placed(sections: &[(Section, u64)]) -> Fit {
     Fit::placed(BASE, 100, sections)
 }
 
@@ -17,10 +17,10 @@ fn bytes(size: usize) -> Section {
 #[test]
 fn placements_name_exactly_the_allocated_rows() {
     let two = placed(&[(bytes(1), BASE), (bytes(1), BASE + 1)]);
-    let with = |placements: &[(u32, u32)]| {
+    let with = |placements: &[(u32, u64)]| {
         let mut fit = two.clone();
         fit.placements = placements.to_vec();
-        fit.answer()
+        fit.answer_of_both()
     };
     let (first, second) = (two.placements[0], two.placements[1]);
     assert_eq!(with(&[first, second]), DONE);
@@ -37,11 +37,11 @@ fn placements_name_exactly_the_allocated_rows() {
 #[test]
 fn rows_that_need_a_placement() {
     let nobits = placed(&[(Section::nobits(1, 4), 0)]);
-    assert_eq!(nobits.answer(), DONE);
+    assert_eq!(nobits.answer_of_both(), DONE);
     let with_none = |section: Section| {
         let mut fit = placed(&[(section, BASE)]);
         fit.placements.clear();
-        fit.answer()
+        fit.answer_of_both()
     };
     assert_eq!(with_none(Section::nobits(1, 4)), (6, 1));
     assert_eq!(with_none(bytes(0)), (6, 1), "an empty row too");
@@ -50,7 +50,7 @@ fn rows_that_need_a_placement() {
         ..bytes(3)
     };
     assert_eq!(with_none(unallocated.clone()), DONE);
-    assert_eq!(placed(&[(unallocated, BASE)]).answer(), (6, 1));
+    assert_eq!(placed(&[(unallocated, BASE)]).answer_of_both(), (6, 1));
 }
 
 #[test]
@@ -62,10 +62,10 @@ fn outside_values_name_undefined_symbols() {
         Symbol::new(WEAK + 6, 0, 0),
         Symbol::new(0, 0xFFF2, 0),
     ];
-    let with = |list: &[(u32, u32)]| {
+    let with = |list: &[(u32, u64)]| {
         let mut fit = Fit::code(BASE, &[0; 4], &symbols, &[]);
         fit.external_values = list.to_vec();
-        fit.answer()
+        fit.answer_of_both()
     };
     assert_eq!(with(&[(1, 9)]), DONE);
     assert_eq!(with(&[(1, 9), (4, 9)]), DONE, "undefined, even if TLS");
@@ -77,54 +77,107 @@ fn outside_values_name_undefined_symbols() {
     assert_eq!(with(&[(u32::MAX, 9)]), (7, u32::MAX));
     let mut no_table = placed(&[]);
     no_table.external_values = vec![(1, 0)];
-    assert_eq!(no_table.answer(), (7, 1));
+    assert_eq!(no_table.answer_of_both(), (7, 1));
 }
 
 #[test]
 fn addresses_are_multiples_of_the_alignment() {
-    let at = |alignment, address| placed(&[(Section::loaded(alignment, &[1]), address)]).answer();
+    let at = |alignment, address| {
+        placed(&[(Section::loaded(alignment, &[1]), address)]).answer_of_both()
+    };
     assert_eq!(at(0, BASE + 3), DONE);
     assert_eq!(at(1, BASE + 3), DONE);
     assert_eq!(at(4, BASE + 4), DONE);
     assert_eq!(at(4, BASE + 2), (8, 1));
-    let empty = |address| placed(&[(Section::loaded(16, &[]), address)]).answer();
+    let empty = |address| placed(&[(Section::loaded(16, &[]), address)]).answer_of_both();
     assert_eq!(empty(0xFFFF_FFF0), DONE);
     assert_eq!(empty(0xFFFF_FFF8), (8, 1), "an empty row too");
-    let top = |address| placed(&[(Section::nobits(1 << 31, 1), address)]).answer();
+    let top = |address| placed(&[(Section::nobits(1 << 31, 1), address)]).answer_of_both();
     assert_eq!(top(1 << 31), DONE);
     assert_eq!(top(1 << 30), (8, 1));
 }
 
 #[test]
 fn rows_end_at_or_below_the_top() {
-    let at = |size, address| placed(&[(Section::nobits(1, size), address)]).answer();
-    assert_eq!(at(16, 0xFFFF_FFF0), DONE);
-    assert_eq!(at(17, 0xFFFF_FFF0), (8, 1));
-    assert_eq!(at(u32::MAX, 1), DONE);
-    assert_eq!(at(u32::MAX, 2), (8, 1));
+    for (class, top) in [
+        (Class::Elf32, u64::from(u32::MAX)),
+        (Class::Elf64, u64::MAX),
+    ] {
+        let at = |size, address| {
+            let fit = placed(&[(Section::nobits(1, size), address)]);
+            fit.of(class).answer()
+        };
+        assert_eq!(at(16, top - 15), DONE, "{class:?}");
+        assert_eq!(at(17, top - 15), (8, 1), "{class:?}");
+        assert_eq!(at(top, 1), DONE, "{class:?}");
+        assert_eq!(at(top, 2), (8, 1), "{class:?}");
+        assert_eq!(at(top, top), (8, 1), "{class:?}");
+        assert_eq!(at(0, top), DONE, "{class:?}");
+    }
+}
+
+/// Above 2^32, where class 1 has no address.
+#[test]
+fn placing_in_class_2() {
+    let above = |address| 0xFFFF_FFFF_0000_0000 + address;
+    let at = |alignment, address| {
+        let section = Section::loaded(alignment, &[1; 8]);
+        let fit = Fit::placed(above(BASE), 100, &[(section, address)]);
+        fit.of(Class::Elf64).answer()
+    };
+    assert_eq!(at(8, above(BASE)), DONE);
+    assert_eq!(at(8, above(BASE) + 92), (8, 1), "not aligned");
+    assert_eq!(at(4, above(BASE) + 92), DONE);
+    assert_eq!(at(1, above(BASE) + 93), (8, 1), "past the window");
+    assert_eq!(at(8, BASE), (8, 1), "the same modulo 2^32");
+    assert_eq!(at(1 << 63, above(BASE)), (8, 1));
+    let far = |alignment, address| {
+        let fit = placed(&[(Section::nobits(alignment, 1), address)]);
+        fit.of(Class::Elf64).answer()
+    };
+    assert_eq!(far(1 << 63, 1 << 63), DONE);
+    assert_eq!(far(1 << 63, 1 << 62), (8, 1));
+    assert_eq!(far(1 << 63, 0), DONE);
+    let two = |first, second| {
+        let sections = [
+            (Section::nobits(1, 16), first),
+            (Section::nobits(1, 16), second),
+        ];
+        placed(&sections).of(Class::Elf64).answer()
+    };
+    assert_eq!(two(0, 1 << 32), DONE, "the same modulo 2^32");
+    assert_eq!(two(1 << 32, (1 << 32) + 16), DONE);
+    assert_eq!(two(1 << 32, (1 << 32) + 15), (8, 2));
+    assert_eq!(two(u64::MAX - 15, u64::MAX - 31), DONE);
+    assert_eq!(two(u64::MAX - 15, u64::MAX - 30), (8, 2));
+    assert_eq!(two(u64::MAX - 15, 0), DONE, "the last and the first");
 }
 
 #[test]
 fn laid_rows_lie_in_the_window() {
-    let at = |size, address| placed(&[(bytes(size), address)]).answer();
+    let at = |size, address| placed(&[(bytes(size), address)]).answer_of_both();
     assert_eq!(at(100, BASE), DONE);
     assert_eq!(at(1, BASE + 99), DONE);
     assert_eq!(at(1, BASE - 1), (8, 1));
     assert_eq!(at(2, BASE + 99), (8, 1));
     assert_eq!(at(1, BASE + 100), (8, 1));
     assert_eq!(at(0, 5), DONE, "an empty row lies anywhere");
-    assert_eq!(placed(&[(Section::nobits(1, 9), 5)]).answer(), DONE);
+    assert_eq!(placed(&[(Section::nobits(1, 9), 5)]).answer_of_both(), DONE);
     let note = Section {
         kind: 7,
         ..bytes(1)
     };
-    assert_eq!(placed(&[(note, 5)]).answer(), (8, 1), "any laid type");
+    assert_eq!(
+        placed(&[(note, 5)]).answer_of_both(),
+        (8, 1),
+        "any laid type"
+    );
 }
 
 #[test]
 fn rows_share_no_address() {
-    let two = |first: Section, at: u32, second: Section, also_at: u32| {
-        placed(&[(first, BASE + at), (second, BASE + also_at)]).answer()
+    let two = |first: Section, at: u64, second: Section, also_at: u64| {
+        placed(&[(first, BASE + at), (second, BASE + also_at)]).answer_of_both()
     };
     assert_eq!(two(bytes(4), 0, bytes(4), 4), DONE);
     assert_eq!(two(bytes(4), 4, bytes(4), 0), DONE);
@@ -147,24 +200,24 @@ fn the_lowest_row_is_named() {
         (bytes(4), BASE + 2),
         (bytes(4), BASE + 200),
     ]);
-    assert_eq!(three.answer(), (8, 2));
+    assert_eq!(three.answer_of_both(), (8, 2));
 }
 
 /// Each check in turn is broken together with all later ones.
 #[test]
 fn checks_5_to_9_in_order() {
-    let list = [Relocation::new(0, 2, 9, 0)];
+    let list = [Relocation::new(0, 3, 9, 0)];
     let mut fit = Fit::code(BASE, &[0; 4], &[], &list);
     fit.sections[1].alignment = 3;
     fit.placements = vec![(2, 5)];
     fit.external_values = vec![(8, 0)];
-    assert_eq!(fit.answer(), (5, 1));
+    assert_eq!(fit.answer_of_both(), (5, 1));
     fit.sections[1].alignment = 4;
-    assert_eq!(fit.answer(), (6, 1));
+    assert_eq!(fit.answer_of_both(), (6, 1));
     fit.placements = vec![(1, 5)];
-    assert_eq!(fit.answer(), (7, 8));
+    assert_eq!(fit.answer_of_both(), (7, 8));
     fit.external_values.clear();
-    assert_eq!(fit.answer(), (8, 1));
+    assert_eq!(fit.answer_of_both(), (8, 1));
     fit.placements = vec![(1, BASE)];
-    assert_eq!(fit.answer(), (9, 0));
+    assert_eq!(fit.answer_of_both(), (9, 0));
 }

@@ -3,28 +3,102 @@
 use crate::DONE;
 use testing::build::*;
 
-const PLACE: u32 = 0x1000;
-const MARKERS: [u8; 3] = [0, 43, 51];
+const PLACE: u64 = 0x1000;
+const MARKERS: [u32; 3] = [0, 43, 51];
 
 /// Relocations against symbol 1, which is absolute 0, as (offset, type, A).
-fn list(size: usize, relocations: &[(u32, u8, i32)]) -> (u32, u32) {
-    let relocation = |(offset, kind, addend): &(u32, u8, i32)| {
+fn fit(size: usize, relocations: &[(u64, u32, i64)]) -> Fit {
+    let relocation = |(offset, kind, addend): &(u64, u32, i64)| {
         let symbol = if MARKERS.contains(kind) { 999 } else { 1 };
         Relocation::new(*offset, *kind, symbol, *addend)
     };
     let relocations: Vec<Relocation> = relocations.iter().map(relocation).collect();
-    Fit::code(PLACE, &vec![0; size], &[Symbol::absolute(0)], &relocations).answer()
+    Fit::code(PLACE, &vec![0; size], &[Symbol::absolute(0)], &relocations)
+}
+
+/// The answer to such relocations, the same in both classes.
+fn list(size: usize, relocations: &[(u64, u32, i64)]) -> (u32, u32) {
+    fit(size, relocations).answer_of_both()
+}
+
+/// The answer to such relocations in class 2.
+fn list_64(size: usize, relocations: &[(u64, u32, i64)]) -> (u32, u32) {
+    fit(size, relocations).of(Class::Elf64).answer()
 }
 
 #[test]
 fn every_type_has_a_line() {
-    const SUPPORTED: [u8; 31] = [
+    const SUPPORTED: [u32; 30] = [
         0, 1, 16, 17, 18, 19, 23, 24, 25, 26, 27, 28, 33, 34, 35, 36, 37, 38, 39, 40, 43, 44, 45,
-        51, 52, 53, 54, 55, 56, 57, 57,
+        51, 52, 53, 54, 55, 56, 57,
     ];
-    for kind in 0..=255 {
+    for kind in (0..=255).filter(|kind| *kind != 2) {
         let (number, _) = list(8, &[(0, kind, 0)]);
         assert_eq!(number == 9, !SUPPORTED.contains(&kind), "type {kind}");
+    }
+}
+
+/// "Type 2 (word64, T) is added for class 2 only"
+#[test]
+fn type_2_is_of_class_2() {
+    assert_eq!(fit(8, &[(0, 2, 0)]).answer(), (9, 0));
+    assert_eq!(list_64(8, &[(0, 2, 0)]), DONE);
+    assert_eq!(list_64(8, &[(1, 2, 0)]), (9, 0), "eight bytes");
+    assert_eq!(list_64(9, &[(1, 2, 0)]), DONE, "at any address");
+    assert_eq!(list_64(16, &[(0, 2, 0), (8, 2, 0)]), DONE);
+    assert_eq!(list_64(16, &[(0, 2, 0), (7, 2, 0)]), (9, 1));
+    assert_eq!(
+        list_64(8, &[(0, 2, 0), (0, 2, 0)]),
+        (9, 1),
+        "it shares nothing"
+    );
+    assert_eq!(list_64(8, &[(0, 2, 0), (0, 36, 0)]), (9, 1));
+    assert_eq!(list_64(8, &[(0, 36, 0), (0, 2, 0)]), (9, 1));
+}
+
+/// "Type numbers above 255 give 9": the whole number counts.
+#[test]
+fn types_above_255() {
+    for low in 0..=255 {
+        for high in [1, 2, 255, 256, 1 << 16, (1 << 24) - 1] {
+            let kind = high << 8 | low;
+            assert_eq!(list_64(8, &[(0, kind, 0)]), (9, 0), "type {kind:#x}");
+        }
+    }
+    let late = [(0, 1, 0), (4, 256, 0)];
+    assert_eq!(list_64(8, &late), (9, 1), "at its turn");
+}
+
+/// Offsets of class 2 that class 1 does not have.
+#[test]
+fn offsets_count_whole() {
+    const ABOVE: u64 = 1 << 32;
+    for offset in [
+        ABOVE,
+        ABOVE + 4,
+        1 << 63,
+        u64::MAX,
+        u64::MAX - 3,
+        u64::MAX - 7,
+    ] {
+        for kind in [1, 2, 17, 18, 23, 36, 0, 43, 51] {
+            let answer = list_64(8, &[(offset, kind, 0)]);
+            assert_eq!(answer, (9, 0), "type {kind} at {offset:#x}");
+        }
+    }
+    assert_eq!(list_64(8, &[(ABOVE, 1, 0), (0, 1, 0)]), (9, 0));
+    assert_eq!(list_64(8, &[(4, 1, 0), (ABOVE, 1, 0)]), (9, 1));
+}
+
+/// Addends of class 2 that class 1 does not have.
+#[test]
+fn addends_count_whole() {
+    const ABOVE: i64 = 1 << 32;
+    for addend in [ABOVE, ABOVE + 6, i64::MIN, i64::MAX - 1, -ABOVE] {
+        assert_eq!(list_64(8, &[(0, 43, addend)]), (9, 0), "ALIGN, {addend:#x}");
+        let low = (4, 24, 2, addend);
+        let pair = pair(Symbol::new(0, 1, 0), &[HIGH, low]);
+        assert_eq!(pair.of(Class::Elf64).answer(), (9, 1), "{addend:#x}");
     }
 }
 
@@ -41,7 +115,7 @@ fn record_offsets_never_fall() {
 
 #[test]
 fn bytes_touched_lie_in_the_row() {
-    let widths: [(u32, &[u8]); 4] = [
+    let widths: [(u64, &[u32]); 4] = [
         (1, &[33, 37, 52, 53, 54]),
         (2, &[34, 38, 55]),
         (4, &[1, 57, 35, 39, 56]),
@@ -59,7 +133,7 @@ fn bytes_touched_lie_in_the_row() {
     for (kind, offset) in [(18, 2), (19, 2), (44, 8), (45, 8)] {
         assert_eq!(list(8, &[(offset, kind, 0)]), (9, 0), "type {kind}");
     }
-    assert_eq!(list(8, &[(u32::MAX, 1, 0)]), (9, 0));
+    assert_eq!(list(8, &[(0xFFFF_FFFF, 1, 0)]), (9, 0));
 }
 
 #[test]
@@ -84,7 +158,7 @@ fn non_markers_do_not_overlap() {
 
 #[test]
 fn records_that_share_a_place() {
-    let widths: [&[u8]; 5] = [
+    let widths: [&[u32]; 5] = [
         &[52, 53],
         &[33, 37, 54],
         &[34, 38, 55],
@@ -111,9 +185,9 @@ fn records_that_share_a_place() {
 #[test]
 fn align_addend() {
     // P + A is 0x2000, a multiple of everything asked for.
-    let with = |addend: i32, size: i32| {
+    let with = |addend: i64, size: i64| {
         let offset = 4_096 - addend.clamp(0, 4_096);
-        list((offset + size) as usize, &[(offset as u32, 43, addend)])
+        list((offset + size) as usize, &[(offset as u64, 43, addend)])
     };
     assert_eq!(with(0, 0), DONE);
     assert_eq!(with(2, 2), DONE);
@@ -122,17 +196,17 @@ fn align_addend() {
     assert_eq!(with(4_094, 4_094), DONE);
     assert_eq!(with(4_096, 4_096), (9, 0));
     assert_eq!(with(-2, 8), (9, 0));
-    assert_eq!(with(i32::MIN, 8), (9, 0));
+    assert_eq!(with(i64::from(i32::MIN), 8), (9, 0));
 }
 
 #[test]
 fn align_boundary() {
     // A, and the smallest power of two at least A + 2.
     for (addend, boundary) in [(0, 2), (2, 4), (4, 8), (6, 8), (8, 16), (14, 16), (16, 32)] {
-        for offset in 0..64_u32 {
+        for offset in 0..64 {
             let reached = (PLACE + offset + addend).is_multiple_of(boundary);
             let expected = if reached { DONE } else { (14, 0) };
-            let given = list(128, &[(offset, 43, addend as i32)]);
+            let given = list(128, &[(offset, 43, addend as i64)]);
             assert_eq!(given, expected, "A {addend} at {offset}");
         }
     }
@@ -145,12 +219,15 @@ fn align_boundary() {
 fn markers_skip_10() {
     for kind in MARKERS {
         let relocation = [Relocation::new(0, kind, 0xFF_FFFF, 0)];
-        assert_eq!(Fit::code(PLACE, &[0; 4], &[], &relocation).answer(), DONE);
+        assert_eq!(
+            Fit::code(PLACE, &[0; 4], &[], &relocation).answer_of_both(),
+            DONE
+        );
     }
 }
 
 /// auipc a0 at 0, addi a0, a0 at 4; symbol 1 is absolute, symbol 2 the label.
-fn pair(label: Symbol, relocations: &[(u32, u8, u32, i32)]) -> Fit {
+fn pair(label: Symbol, relocations: &[(u64, u32, u32, i64)]) -> Fit {
     let code = [0x517_u32, 0x50513, 0x517, 0x50513].map(u32::to_le_bytes);
     let list: Vec<Relocation> = relocations
         .iter()
@@ -160,28 +237,32 @@ fn pair(label: Symbol, relocations: &[(u32, u8, u32, i32)]) -> Fit {
     Fit::code(PLACE, &code.concat(), &symbols, &list)
 }
 
-const HIGH: (u32, u8, u32, i32) = (0, 23, 1, 0);
-const LOW: (u32, u8, u32, i32) = (4, 24, 2, 0);
+const HIGH: (u64, u32, u32, i64) = (0, 23, 1, 0);
+const LOW: (u64, u32, u32, i64) = (4, 24, 2, 0);
 
 #[test]
 fn exactly_one_pair() {
     let label = Symbol::new(0, 1, 0);
-    assert_eq!(pair(label, &[HIGH, LOW]).answer(), DONE);
-    assert_eq!(pair(label, &[LOW]).answer(), (12, 0), "none");
+    assert_eq!(pair(label, &[HIGH, LOW]).answer_of_both(), DONE);
+    assert_eq!(pair(label, &[LOW]).answer_of_both(), (12, 0), "none");
     let other = (8, 23, 1, 0);
-    assert_eq!(pair(label, &[LOW, other]).answer(), (12, 0), "elsewhere");
+    assert_eq!(
+        pair(label, &[LOW, other]).answer_of_both(),
+        (12, 0),
+        "elsewhere"
+    );
     let absolute_high = (0, 26, 1, 0);
     assert_eq!(
-        pair(label, &[absolute_high, LOW]).answer(),
+        pair(label, &[absolute_high, LOW]).answer_of_both(),
         (11, 0),
         "HI20 is no pair, and auipc no lui"
     );
     // Two at one offset overlap, so that the second comes behind the low half.
     let at_8 = Symbol::new(0, 1, 8);
     let twice = [LOW, other, other];
-    assert_eq!(pair(at_8, &twice).answer(), (12, 0), "two");
+    assert_eq!(pair(at_8, &twice).answer_of_both(), (12, 0), "two");
     assert_eq!(
-        pair(at_8, &[LOW, other]).answer(),
+        pair(at_8, &[LOW, other]).answer_of_both(),
         DONE,
         "it may come later"
     );
@@ -189,20 +270,20 @@ fn exactly_one_pair() {
 
 #[test]
 fn the_low_half_is_the_pairs() {
-    let laid = pair(Symbol::new(0, 1, 0), &[HIGH, LOW]).laid();
+    let laid = pair(Symbol::new(0, 1, 0), &[HIGH, LOW]).laid_of_both();
     let distance = 0x2345_6FFF - PLACE;
     let high = u32::from_le_bytes([laid[0], laid[1], laid[2], laid[3]]) & 0xFFFF_F000;
     let low = u32::from_le_bytes([laid[4], laid[5], laid[6], laid[7]]) as i32 >> 20;
-    assert_eq!(high.wrapping_add(low as u32), distance);
+    assert_eq!(u64::from(high.wrapping_add(low as u32)), distance);
     let with_addend = (0, 23, 1, -0x7FF);
-    let laid = pair(Symbol::new(0, 1, 0), &[with_addend, LOW]).laid();
+    let laid = pair(Symbol::new(0, 1, 0), &[with_addend, LOW]).laid_of_both();
     let low = u32::from_le_bytes([laid[4], laid[5], laid[6], laid[7]]) as i32 >> 20;
     assert_eq!(low, -2_048, "with the pair's addend");
 }
 
 #[test]
 fn symbol_of_a_low_half() {
-    let with = |label| pair(label, &[HIGH, LOW]).answer();
+    let with = |label| pair(label, &[HIGH, LOW]).answer_of_both();
     assert_eq!(with(Symbol::absolute(0)), (10, 1));
     assert_eq!(with(Symbol::new(0, 2, 0)), (10, 1), "another row");
     assert_eq!(with(Symbol::new(WEAK, 0, 0)), (10, 1), "undefined");
@@ -211,20 +292,27 @@ fn symbol_of_a_low_half() {
     assert_eq!(with(Symbol::new(3, 1, 0)), DONE, "a section symbol");
     let symbol_0 = (4, 24, 0, 0);
     let mut fit = pair(Symbol::new(0, 1, 0), &[HIGH, symbol_0]);
-    assert_eq!(fit.answer(), (10, 1), "symbol 0");
-    fit.sections[2].bytes[14] = 1;
-    assert_eq!(fit.answer(), (10, 1), "symbol 0, whatever its entry holds");
+    assert_eq!(fit.answer_of_both(), (10, 1), "symbol 0");
+    fit.sections[2].symbols_mut()[0].section = 1;
+    assert_eq!(
+        fit.answer_of_both(),
+        (10, 1),
+        "symbol 0, whatever its entry holds"
+    );
     let mut two_rows = pair(Symbol::new(0, 4, 0), &[HIGH, LOW]);
     two_rows.sections.push(Section::nobits(1, 8));
     two_rows.placements.push((4, 0x9000));
-    assert_eq!(two_rows.answer(), (10, 1), "another allocated row");
+    assert_eq!(two_rows.answer_of_both(), (10, 1), "another allocated row");
 }
 
 #[test]
 fn addend_of_a_low_half_is_0() {
     for addend in [1, -1, 4] {
         let low = (4, 24, 2, addend);
-        assert_eq!(pair(Symbol::new(0, 1, 0), &[HIGH, low]).answer(), (9, 1));
+        assert_eq!(
+            pair(Symbol::new(0, 1, 0), &[HIGH, low]).answer_of_both(),
+            (9, 1)
+        );
     }
 }
 
@@ -237,14 +325,14 @@ fn a_pair_in_another_row_is_none() {
     let high = [Relocation::new(0, 23, 1, 0)];
     fit.sections.push(Section::relocations(4, 2, &high));
     fit.placements.push((4, PLACE + 16));
-    assert_eq!(fit.answer(), (12, 0));
+    assert_eq!(fit.answer_of_both(), (12, 0));
 }
 
 #[test]
 fn a_broken_pair_is_named_in_its_own_turn() {
     let label = Symbol::new(0, 1, 8);
     let unresolved = (8, 23, 99, 0);
-    assert_eq!(pair(label, &[LOW, unresolved]).answer(), (10, 1));
+    assert_eq!(pair(label, &[LOW, unresolved]).answer_of_both(), (10, 1));
 }
 
 /// "each through 9 to 14 before the next", counted over all RELA rows.
@@ -253,29 +341,29 @@ fn records_go_one_by_one() {
     let jal = 0x6F_u32.to_le_bytes();
     let code = [jal, jal].concat();
     let far = Relocation::new(0, 17, 1, 1);
-    let refused = Relocation::new(4, 2, 1, 0);
+    let refused = Relocation::new(4, 3, 1, 0);
     let symbols = [Symbol::absolute(PLACE)];
     let fit = Fit::code(PLACE, &code, &symbols, &[far, refused]);
-    assert_eq!(fit.answer(), (13, 0));
+    assert_eq!(fit.answer_of_both(), (13, 0));
     let near = Relocation::new(0, 17, 1, 0);
     let mut fit = Fit::code(PLACE, &code, &symbols, &[near]);
     fit.sections.push(Section::loaded(1, &code));
     fit.placements.push((4, PLACE + 8));
     let list = [near, Relocation::new(4, 17, 1, 1)];
     fit.sections.push(Section::relocations(4, 2, &list));
-    assert_eq!(fit.answer(), (13, 2));
+    assert_eq!(fit.answer_of_both(), (13, 2));
 }
 
 /// Each check in turn is broken together with all later ones that can be.
 #[test]
 fn checks_9_to_12_in_order() {
-    let with = |addend, symbol, opcode: u8, pair: u8| {
+    let with = |addend, symbol, opcode: u8, pair: u32| {
         let code = [opcode, 0, 0, 0, 0x17, 0, 0, 0];
         let list = [
             Relocation::new(0, 24, symbol, addend),
             Relocation::new(4, pair, 0, 0),
         ];
-        Fit::code(PLACE, &code, &[Symbol::new(0, 1, 4)], &list).answer()
+        Fit::code(PLACE, &code, &[Symbol::new(0, 1, 4)], &list).answer_of_both()
     };
     assert_eq!(with(1, 9, 0x33, 51), (9, 0));
     assert_eq!(with(0, 9, 0x33, 51), (10, 0));
@@ -289,7 +377,7 @@ fn checks_9_to_13_in_order() {
     let with = |offset, symbol, opcode: u8, target| {
         let code = [opcode, 0, 0, 0];
         let list = [Relocation::new(offset, 17, symbol, 0)];
-        Fit::code(PLACE, &code, &[Symbol::absolute(target)], &list).answer()
+        Fit::code(PLACE, &code, &[Symbol::absolute(target)], &list).answer_of_both()
     };
     assert_eq!(with(1, 9, 0x33, PLACE + 1), (9, 0));
     assert_eq!(with(0, 9, 0x33, PLACE + 1), (10, 0));
@@ -303,4 +391,34 @@ fn checks_9_to_13_in_order() {
 fn align_9_before_14() {
     assert_eq!(list(8, &[(1, 43, 1)]), (9, 0));
     assert_eq!(list(8, &[(1, 43, 2)]), (14, 0));
+}
+
+/// A label and an offset are compared with all their bits.
+#[test]
+fn pairs_in_class_2() {
+    const ABOVE: u64 = 1 << 32;
+    let with = |label, list: &[(u64, u32, u32, i64)]| {
+        let fit = pair(Symbol::new(0, 1, label), list);
+        fit.of(Class::Elf64).answer()
+    };
+    assert_eq!(with(0, &[HIGH, LOW]), DONE);
+    assert_eq!(with(ABOVE, &[HIGH, LOW]), (12, 1));
+    let far = (ABOVE, 23, 1, 0);
+    assert_eq!(with(0, &[LOW, far]), (12, 0));
+    assert_eq!(
+        with(ABOVE, &[LOW, far]),
+        (9, 1),
+        "a pair, but outside the row"
+    );
+    assert_eq!(with(ABOVE, &[LOW, far, far]), (12, 0));
+    let last = (u64::MAX, 23, 1, 0);
+    assert_eq!(with(u64::MAX, &[LOW, last]), (9, 1));
+    assert_eq!(with(u64::MAX - 1, &[LOW, last]), (12, 0));
+    let no_high = (0, 23 + 256, 1, 0);
+    assert_eq!(
+        with(8, &[LOW, (8, 23 + 256, 1, 0)]),
+        (12, 0),
+        "type 279 is no pair"
+    );
+    assert_eq!(with(0, &[no_high, LOW]), (9, 0));
 }

@@ -4,16 +4,16 @@ use crate::DONE;
 use reference::numbers::number_from;
 use testing::build::*;
 
-const PLACE: u32 = 0x1000;
+const PLACE: u64 = 0x1000;
 
 /// A fit whose only relocation is a 32 against this symbol, as symbol 1.
-fn against(symbol: Symbol, addend: i32) -> Fit {
+fn against(symbol: Symbol, addend: i64) -> Fit {
     let list = [Relocation::new(0, 1, 1, addend)];
     Fit::code(PLACE, &[0xEE; 4], &[symbol], &list)
 }
 
 fn value(fit: &Fit) -> u64 {
-    number_from(&fit.laid())
+    number_from(&fit.laid_of_both())
 }
 
 #[test]
@@ -30,9 +30,9 @@ fn symbol_0_is_0() {
 #[test]
 fn symbol_of_an_allocated_row() {
     let in_row = |row, offset| against(Symbol::new(0, row, offset), 4);
-    assert_eq!(value(&in_row(1, 8)), u64::from(PLACE) + 12);
-    let wrapped = in_row(1, u32::MAX - PLACE + 1);
-    assert_eq!(value(&wrapped), 4, "modulo 2^32");
+    assert_eq!(value(&in_row(1, 8)), PLACE + 12);
+    let wrapped = in_row(1, 0_u64.wrapping_sub(PLACE));
+    assert_eq!(value(&wrapped), 4, "modulo 2^32 and 2^64");
     let mut nobits = in_row(4, 8);
     nobits.sections.push(Section::nobits(1, 1));
     nobits.placements.push((4, 0x9000));
@@ -43,7 +43,7 @@ fn symbol_of_an_allocated_row() {
 fn symbol_of_another_row() {
     for row in [2, 3, 4, 31, 32, 0xFF00, 0xFFF0, 0xFFF2, 0xFFFF] {
         assert_eq!(
-            against(Symbol::new(0, row, 0), 0).answer(),
+            against(Symbol::new(0, row, 0), 0).answer_of_both(),
             (10, 0),
             "section {row}"
         );
@@ -61,9 +61,13 @@ fn undefined_symbols() {
     };
     assert_eq!(value(&undefined(GLOBAL, true)), 0x8765_4321);
     assert_eq!(value(&undefined(WEAK, true)), 0x8765_4321);
-    assert_eq!(undefined(GLOBAL, false).answer(), (10, 0));
-    assert_eq!(undefined(0, false).answer(), (10, 0));
-    assert_eq!(undefined(0x30, false).answer(), (10, 0), "binding 3");
+    assert_eq!(undefined(GLOBAL, false).answer_of_both(), (10, 0));
+    assert_eq!(undefined(0, false).answer_of_both(), (10, 0));
+    assert_eq!(
+        undefined(0x30, false).answer_of_both(),
+        (10, 0),
+        "binding 3"
+    );
     assert_eq!(value(&undefined(WEAK, false)), 0, "and not its value");
 }
 
@@ -77,12 +81,12 @@ fn tls_and_ifunc() {
         };
         for section in [1, ABSOLUTE] {
             let fit = against(Symbol::new(GLOBAL + kind, section, 0), 0);
-            assert_eq!(fit.answer(), expected, "type {kind}");
+            assert_eq!(fit.answer_of_both(), expected, "type {kind}");
         }
         let mut fit = against(Symbol::new(WEAK + kind, 0, 0), 0);
-        assert_eq!(fit.answer(), expected, "weak, type {kind}");
+        assert_eq!(fit.answer_of_both(), expected, "weak, type {kind}");
         fit.external_values = vec![(1, 3)];
-        assert_eq!(fit.answer(), expected, "named, type {kind}");
+        assert_eq!(fit.answer_of_both(), expected, "named, type {kind}");
     }
 }
 
@@ -90,7 +94,7 @@ fn tls_and_ifunc() {
 fn index_past_the_table() {
     let with = |symbol| {
         let list = [Relocation::new(0, 1, symbol, 0)];
-        Fit::code(PLACE, &[0; 4], &[Symbol::absolute(0)], &list).answer()
+        Fit::code(PLACE, &[0; 4], &[Symbol::absolute(0)], &list).answer_of_both()
     };
     assert_eq!(with(1), DONE);
     assert_eq!(with(2), (10, 0));
@@ -102,6 +106,38 @@ fn t_is_reduced() {
     let t = |symbol, addend| value(&against(Symbol::absolute(symbol), addend));
     assert_eq!(t(0xFFFF_FFFF, 1), 0);
     assert_eq!(t(0, -1), 0xFFFF_FFFF);
-    assert_eq!(t(0x8000_0000, i32::MIN), 0);
-    assert_eq!(t(0xFFFF_FFFF, i32::MAX), 0x7FFF_FFFE);
+    assert_eq!(t(0x8000_0000, i64::from(i32::MIN)), 0);
+    assert_eq!(t(0xFFFF_FFFF, i64::from(i32::MAX)), 0x7FFF_FFFE);
+}
+
+/// S and T modulo 2^64, seen through a 64 relocation.
+#[test]
+fn s_and_t_in_class_2() {
+    let with = |symbol: Symbol, addend| {
+        let list = [Relocation::new(0, 2, 1, addend)];
+        Fit::code(PLACE, &[0xEE; 8], &[symbol], &list).of(Class::Elf64)
+    };
+    let t = |symbol, addend| number_from(&with(Symbol::absolute(symbol), addend).laid());
+    assert_eq!(t(0x8765_4321_0FED_CBA9, 0), 0x8765_4321_0FED_CBA9);
+    assert_eq!(t(u64::MAX, 1), 0);
+    assert_eq!(t(0, -1), u64::MAX);
+    assert_eq!(t(1 << 63, i64::MIN), 0);
+    assert_eq!(t(u64::MAX, i64::MAX), (1 << 63) - 2);
+    assert_eq!(t(0xFFFF_FFFF, 1), 1 << 32, "not modulo 2^32");
+    let in_row = |offset| number_from(&with(Symbol::new(0, 1, offset), 4).laid());
+    assert_eq!(in_row(0x1_0000_0000), 0x1_0000_1004);
+    assert_eq!(in_row(0_u64.wrapping_sub(PLACE)), 4);
+    let mut outside = with(Symbol::new(GLOBAL, 0, 0), 0);
+    outside.external_values = vec![(1, 0xFEDC_BA98_7654_3210)];
+    assert_eq!(number_from(&outside.laid()), 0xFEDC_BA98_7654_3210);
+}
+
+/// The symbol is the upper half of the info, all 32 bits of it.
+#[test]
+fn index_past_the_table_in_class_2() {
+    for symbol in [2, 255, 256, 1_024, 1 << 24, (1 << 24) + 1, u32::MAX] {
+        let list = [Relocation::new(0, 1, symbol, 0)];
+        let fit = Fit::code(PLACE, &[0; 4], &[Symbol::absolute(0)], &list);
+        assert_eq!(fit.of(Class::Elf64).answer(), (10, 0), "symbol {symbol}");
+    }
 }
