@@ -68,8 +68,8 @@ pub record OrderWell (c : Class) (order : List ℕ) : Type 0 where
   pub placements-ascend : (i : ℕ) → suc i < placementCount c order → placement c order i .index < placement c order (suc i) .index
   pub externals-ascend : (i : ℕ) → suc i < externalCount c order → external c order i .index < external c order (suc i) .index
 
--- ---- 3 "window rule broken": "the image covers base up to base + its length; length 0 to 65,536, end at most 2^32", for
--- addresses of w bits 2^w
+-- ---- 3 "window rule broken": "the image covers base up to base + its length; length 0 to 65,536, end at most 2^32", in
+-- class 2 2^64: 2^w, where addresses have w bits
 
 pub record WindowWell (w start len : ℕ) : Type 0 where
   pub short : len ≤ maxImage
@@ -122,7 +122,7 @@ ValuedIfUndefined object order k = isGiven (externalValue (classOf object) order
 pub record PlacedWell (object a : List ℕ) (start len i : ℕ) : Type 0 where
   -- "an address is a multiple of the row's alignment (0 counts as 1)"
   pub aligned : getD a i 0 % unit (sectionAt object i .alignment) ≡ 0
-  -- "the row ends at or below 2^32"
+  -- "the row ends at or below 2^32", in class 2 2^64
   pub ends : endOf object a i ≤ 2 ^ addressWidth object
   -- "a laid row of size above 0 lies in the window"
   pub in-window : hasBytes (sectionAt object i) ≡ true → (start ≤ getD a i 0) × (endOf object a i ≤ start + len)

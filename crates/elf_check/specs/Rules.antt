@@ -37,7 +37,7 @@ allocatedWell s i =
     || ((eqb (h .alignment) 0 || oneBit 64 (h .alignment))
     && not (eqb (h .kind) SYMTAB || eqb (h .kind) RELA || eqb (h .kind) REL))
 
--- "At most one SYMTAB: entry size 16, whole entries, at most 1,024. The higher row of two is at fault."
+-- "At most one SYMTAB: entry size 16, whole entries, at most 1,024. The higher row of two is at fault." In class 2, "symbols 24".
 unfoldable pub symbolTableWell : List ℕ → ℕ → Bool
 symbolTableWell s i =
     let h = sectionAt s i in
@@ -49,7 +49,7 @@ unfoldable pub noCountingRel : List ℕ → ℕ → Bool
 noCountingRel s i = not (countingRel s i)
 
 -- "A counting RELA has entry size 12, whole entries, links to the SYMTAB (the lowest, if there are two), and targets a laid row that no
--- lower counting RELA targets."
+-- lower counting RELA targets." In class 2, "records 24".
 unfoldable pub relaKept : List ℕ → ℕ → Bool
 relaKept s i =
     let h = sectionAt s i in

@@ -58,7 +58,8 @@ readSymbol c s at =
 unfoldable pub symbolAt : List ℕ → Section → ℕ → Symbol
 symbolAt s h k = readSymbol (classOf s) s (h .offset .0 + symbolSize (classOf s) * k)
 
--- how many of the info's bits are the type: "type = info modulo 256, symbol = info / 256", and in class 2 "the symbol in the upper half"
+-- how many of the info's bits are the type. In class 1 they are the low eight (gABI); in class 2, "records 24 with the symbol in the upper
+-- half of the info word".
 abbrev pub typeBits : Class → ℕ
 typeBits c = by c 8 32
 

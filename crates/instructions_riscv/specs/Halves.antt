@@ -1,4 +1,4 @@
--- The high and the low half of a number, for addresses of w bits. Document 01 has w = 32.
+-- The high and the low half of a number, for addresses of w bits: 32 in class 1, which is document 01's, and 64 in class 2.
 use Prim.Native.Nat.{ℕ, _+_, _-_, _*_, _/_, _%_, _^_}
 use lib.IntN.{ℤ, pos, _-ℤ_}
 use Rattle.numbers_definitions.specs.Whole.{residue, signed}

@@ -1,4 +1,5 @@
--- Document 01, "Window": "the image covers base up to base + its length; length 0 to 65,536, end at most 2^32".
+-- Document 01, "Window": "the image covers base up to base + its length; length 0 to 65,536, end at most 2^32". Document 02, of class 2: "window
+-- and rows end at most at 2^64". So the end is at most 2^w, where addresses have w bits.
 use Prim.Native.Nat.{ℕ, _+_, _^_}
 use mathlib.Core.Bool.{Bool, _&&_}
 use lib.Dec.{leb}

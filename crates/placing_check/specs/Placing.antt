@@ -22,7 +22,7 @@ unit alignment = cond (eqb alignment 0) 1 alignment
 unfoldable pub aligned : List ℕ → List ℕ → ℕ → Bool
 aligned object addresses i = eqb (getD addresses i 0 % unit (sectionAt object i .alignment)) 0
 
--- "the row ends at or below 2^32", the end of memory
+-- "the row ends at or below 2^32", in class 2 2^64: the end of memory
 unfoldable pub endsInMemory : List ℕ → List ℕ → ℕ → Bool
 endsInMemory object addresses i = leb (endOf object addresses i) (2 ^ addressWidth object)
 

@@ -23,7 +23,7 @@ ofUndefined y NotGiven = cond (eqb (y .binding) STB_WEAK) (Resolved (address 0))
 
 -- the value of a symbol of the table, by the section that it is defined in: "placed address plus value modulo 2^32 for a symbol of an
 -- allocated row; the value for section 0xFFF1"; "for an undefined symbol the order's value, else 0 if weak". "Anything else" does not
--- resolve. Section 0xFFF1 means an absolute symbol: it is in no section, and its value is the address itself. `start` is the placed address
+-- resolve. In class 2, "S and T are taken modulo 2^64". Section 0xFFF1 means an absolute symbol: it is in no section, and its value is the address itself. `start` is the placed address
 -- of the section; for a section that is not allocated it may be any. `given` is what the order gives to the symbol.
 unfoldable pub ofSection : List ℕ → Value → ℕ → Symbol → SymbolValue
 ofSection object given start y =

@@ -28,7 +28,7 @@ operandOf w Paired t p d = d
 
 -- a part of an operand v, as its field takes it. The field takes as many low bits as it has.
 abbrev pub partOf : ℕ → Part → ℕ → ℕ
--- 1, 2: "T"; 57: "T - P modulo 2^32"
+-- 1, 2: "T"; 57: "T - P modulo 2^32", and 2^64 in class 2, where "types 1 and 57 still write the low 32 bits"
 partOf w Whole v = v
 -- 16, 17, 44, 45: "the whole number T - P", which the field holds in two's complement
 partOf w Distance v = v
@@ -36,7 +36,7 @@ partOf w Distance v = v
 partOf w High v = highPart w v
 -- 27, 28: "low half of T"; 24, 25: "low half of the partner's T - P"
 partOf w Low v = lowPart w v
--- 18, 19: "both halves of T - P modulo 2^32"
+-- 18, 19: "both halves of T - P modulo 2^32", and 2^64 in class 2
 partOf w BothHalves v = highPart w v + lowPart w v
 
 -- The value that goes into a field of `bits` bits, where addresses have w bits. v is V, "the field's present value"; x is S + A, a whole

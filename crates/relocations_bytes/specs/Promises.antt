@@ -63,7 +63,7 @@ SaidPart w Distance f b v t p = signed (valueBits f) (read (layout f) b) ≡ dis
 SaidPart w High f b v t p = extended w (read (layout f) b) ≡ highPart w v
 -- 27, 28: the low half of T, from -2,048 to 2,047; 24, 25: the low half of the paired high half's T - P
 SaidPart w Low f b v t p = signed 12 (read (layout f) b) ≡ low w v
--- 18, 19: the high half and the low half, each read out of its own instruction, add up to T - P modulo 2^32
+-- 18, 19: the high half and the low half, each read out of its own instruction, add up to T - P modulo 2^w
 SaidPart w BothHalves f b v t p = residue w (signed 32 (read formatU b) +ℤ signed 12 (read formatI (b / 2 ^ 32))) ≡ v
 
 abbrev pub Said : ℕ → Calculation → Field → ℕ → ℕ → ℕ → ℕ → ℤ → Type 0
