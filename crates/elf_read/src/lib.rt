@@ -424,6 +424,17 @@ pub fn read_relocation(object: &[u8], h: Section, k: usize) -> Relocation
     }
 }
 
+// The type of entry k of a RELA section.
+pub fn read_kind(object: &[u8], h: Section, k: usize) -> u32
+    requires { ⌜ EntryInside (now object) h (relocationEntries (classOf (now object)) h) k ⌝ }
+    ensures { λ r. ⌜ r ≡ relocationAt (now (object .entry)) h k .kind ⌝ }
+{
+    match class_of(object) {
+        Class::Elf32 => numbers_bytes::read8(object, h.offset.0 as usize + 12 * k + 4) as u32,
+        Class::Elf64 => numbers_bytes::read32(object, h.offset.0 as usize + 24 * k + 8),
+    }
+}
+
 // The offset of entry k of a RELA section.
 pub fn read_offset(object: &[u8], h: Section, k: usize) -> SectionOffset
     requires { ⌜ EntryInside (now object) h (relocationEntries (classOf (now object)) h) k ⌝ }

@@ -37,14 +37,14 @@ fn gather(object: &[u8], site: Site, highs: &mut [u32]) -> Gathered
     let mut falls = false;
     let mut k: usize = 0;
     while k < n {
-        let here = elf_read::read_relocation(object, site.rela, k);
-        let number = k as u32;
+        let here = k;
         k += 1;
-        if is_high(here.kind) {
-            highs[m] = number;
+        if is_high(elf_read::read_kind(object, site.rela, here)) {
+            let offset = elf_read::read_offset(object, site.rela, here);
+            highs[m] = here as u32;
             m += 1;
-            falls = falls | (here.offset.0 < last);
-            last = here.offset.0;
+            falls = falls | (offset.0 < last);
+            last = offset.0;
         }
     }
     Gathered { count: m, falls }

@@ -13,7 +13,7 @@ use lib.Seq.{getD-set-same, getD-set-other}
 use borrow.Author.Tests.{ltb-false}
 use borrow.Author.Count.{below-more}
 use Rattle.numbers_definitions.proofs.Laws.Tests.{clash, neither-left, neither-right}
-use Rattle.elf_read.specs.declared.Relocation.{Relocation}
+use Rattle.numbers_definitions.specs.declared.SectionOffset.{SectionOffset}
 use Rattle.elf_read.specs.Headers.{classOf}
 use Rattle.relocations_types.specs.Types.{decision}
 use Rattle.relocations_decisions.specs.Decisions.{givesPair}
@@ -114,15 +114,16 @@ module _ (object : List ℕ) (x : Site) where
             (eq-or-lt-of-le a)
 
   -- the same by what was read
-  module _ (l : List ℕ) (m last : ℕ) (falls : Bool) (k : ℕ) (g : Gathering l m last falls k) (h : Relocation) (read : h ≡ entry object x k) (b : Bool) (test : b ≡ givesPair (decision (classOf object) (h .kind))) where
+  module _ (l : List ℕ) (m last : ℕ) (falls : Bool) (k : ℕ) (g : Gathering l m last falls k) (kind : ℕ) (read : kind ≡ entry object x k .kind) (b : Bool) (test : b ≡ givesPair (decision (classOf object) kind)) where
     is : b ≡ isHigh object x k
-    is = test ∙ ap (λ (h : Relocation). givesPair (decision (classOf object) (h .kind))) read
+    is = test ∙ ap (λ n. givesPair (decision (classOf object) n)) read
 
     pub read-passed : b ≡ false → Gathering l m last falls (k + 1)
     read-passed e = gathering-passed l m last falls k g (sym is ∙ e)
 
-    pub read-more : b ≡ true → m < length l → Gathering (set l m k) (m + 1) (h .offset .0) (falls || ltb (h .offset .0) last) (k + 1)
-    read-more e room = rw read (gathering-more l m last falls k g (sym is ∙ e) room)
+    pub read-more : b ≡ true → m < length l → (at : SectionOffset) → at ≡ entry object x k .offset
+        → Gathering (set l m k) (m + 1) (at .0) (falls || ltb (at .0) last) (k + 1)
+    read-more e room at is-at = rw is-at (gathering-more l m last falls k g (sym is ∙ e) room)
 
   -- ---- all of them
 

@@ -30,20 +30,21 @@ loop-again : tie.Need-loop-again Inv-loop μ-loop
 loop-again c =
     let l : tie.At-loop Inv-loop μ-loop = search in
     let t : tie.In-loop Inv-loop μ-loop = search in
-    let read : tie.After-read-relocation Inv-loop μ-loop = search in
+    let read : tie.After-read-kind Inv-loop μ-loop = search in
     let high : tie.After-is-high Inv-loop μ-loop = search in
-    let arm : tie.Then1 Inv-loop μ-loop = search in (
+    let arm : tie.Then1 Inv-loop μ-loop = search in
+    let at : tie.After-read-offset Inv-loop μ-loop = search in (
       omega (arith, t .loop-test .taken),
       simp length-set (l .loop .inv .1),
-      read-more _ _ _ _ _ _ _ (l .loop .inv .2) _ (read .read-relocation .ensures) _ (high .is-high .ensures _) (arm .if1 .taken) (room t),
+      read-more _ _ _ _ _ _ _ (l .loop .inv .2) _ (read .read-kind .ensures) _ (high .is-high .ensures _) (arm .if1 .taken) (room t) _ (at .read-offset .ensures),
     )
 
 loop-again-2 : tie.Need-loop-again-2 Inv-loop μ-loop
 loop-again-2 c =
     let l : tie.At-loop Inv-loop μ-loop = search in
-    let read : tie.After-read-relocation Inv-loop μ-loop = search in
+    let read : tie.After-read-kind Inv-loop μ-loop = search in
     let high : tie.After-is-high Inv-loop μ-loop = search in
-    (omega arith, l .loop .inv .1, read-passed _ _ _ _ _ _ _ (l .loop .inv .2) _ (read .read-relocation .ensures) _ (high .is-high .ensures _) (c .if1 .left))
+    (omega arith, l .loop .inv .1, read-passed _ _ _ _ _ _ _ (l .loop .inv .2) _ (read .read-kind .ensures) _ (high .is-high .ensures _) (c .if1 .left))
 
 returns : tie.Need-returns Inv-loop μ-loop
 returns c =
@@ -60,10 +61,11 @@ gather-spec =
     μ-loop
     (λ c κs. search needs)
     loop-holds
-    (λ c κs. search needs)
-    (λ c. search needs)
     (λ c. search needs)
     (λ c κs. search needs)
+    (λ c κs. search needs)
+    (λ c κs. search needs)
+    (λ c. search needs)
     (λ c. search needs)
     slice-write-highs
     (λ c. search needs)
