@@ -193,7 +193,7 @@ PairWell object x j = needsPair (decisionAt object x j) ≡ true → howMany (is
 
 -- ---- 13 "distance odd or too far", in class c, for t, which is T, and p, which is P
 
--- 16, 17, 44, 45: "the distance is the whole number T - P", "even", and in the field's range
+-- 16, 17, 44, 45: T - P "reduced to the signed range of the address width", "even", and in the field's range
 pub record InReach (r : Range) (z : ℤ) : Type 0 where
   pub is-even : Even z
   pub in-range : Within (r .back) (r .ahead) z
@@ -213,7 +213,7 @@ OperandReachable c Paired t p = Unit {0}
 -- 18, 19: "T - P modulo 2^32, which is even": modulo 2^w, where addresses have w bits
 abbrev pub PartReachable : Class → Part → Operand → Field → ℕ → ℕ → Type 0
 PartReachable c Whole o f t p = Unit {0}
-PartReachable c Distance o f t p = InReach (rangeOf f) (distance t p)
+PartReachable c Distance o f t p = InReach (rangeOf f) (distance (bits c) t p)
 PartReachable c High o f t p = OperandReachable c o t p
 PartReachable c Low o f t p = Unit {0}
 PartReachable c BothHalves o f t p = Even (pos (minus (bits c) t p)) × OperandReachable c o t p

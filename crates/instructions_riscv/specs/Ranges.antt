@@ -1,17 +1,18 @@
 -- How far jumps and branches reach.
 use Prim.Native.Nat.{ℕ}
 use mathlib.Core.Bool.{Bool, true, _&&_}
-use lib.IntN.{ℤ, pos, _-ℤ_}
+use lib.IntN.{ℤ}
 use Rattle.numbers_definitions.specs.declared.Class.{Class}
 use Rattle.numbers_definitions.specs.declared.Class.the-variants.{Elf32, Elf64}
 use Rattle.instructions_fields.specs.declared.Field.{Field}
 use Rattle.instructions_fields.specs.declared.Field.the-variants.{U, I, S, B, J, Cb, Cj, Call, Data}
 use Rattle.instructions_riscv.specs.declared.ranges.Range.{Range}
-use Rattle.numbers_definitions.specs.Whole.{signed, within, even}
+use Rattle.numbers_definitions.specs.Whole.{signed, minus, within, even}
 
--- "For jumps and branches the distance is the whole number T - P"
-abbrev pub distance : ℕ → ℕ → ℤ
-distance t p = pos t -ℤ pos p
+-- Document 02: "Distances for 16, 17, 44 and 45 become T - P reduced to the signed range of the address width": from -2^(w - 1) to
+-- 2^(w - 1) - 1, where addresses have w bits. Half of 2^w, which could be read either way, is out of every range by far.
+abbrev pub distance : ℕ → ℕ → ℕ → ℤ
+distance w t p = signed w (minus w t p)
 
 -- "16 BRANCH, 17 JAL: even, -4,096..4,094; even, -1,048,576..1,048,574"
 abbrev pub branch : Range
@@ -27,7 +28,7 @@ rvcBranch = record { back = 256; ahead = 254 }
 abbrev pub rvcJump : Range
 rvcJump = record { back = 2048; ahead = 2046 }
 
--- No rule asks for the range of any other field. Here it is all distances between two addresses, which have up to 64 bits.
+-- No rule asks for the range of any other field. Here it has every distance.
 abbrev pub anywhere : Range
 anywhere = record { back = 0xFFFFFFFFFFFFFFFF; ahead = 0xFFFFFFFFFFFFFFFF }
 

@@ -1,8 +1,10 @@
 // How far jumps and branches reach.
 ghost use mathlib.Core.Path.{_≡_};
-ghost use Rattle.instructions_riscv.specs.Ranges.{distance, anywhere, rangeOf, reaches, halvesReach};
+ghost use Prim.Native.Nat.{_^_, _<_};
+ghost use Rattle.numbers_definitions.specs.Classes.{bits};
+ghost use Rattle.numbers_definitions.specs.Whole.{signed};
+ghost use Rattle.instructions_riscv.specs.Ranges.{anywhere, rangeOf, reaches, halvesReach};
 use instructions_fields::Field;
-use numbers_definitions::Address;
 use numbers_definitions::Class;
 
 // Distances from -back to ahead.
@@ -50,16 +52,16 @@ fn every_distance() -> Range
     }
 }
 
-// Whether the distance from p to t is even and within a range.
-pub fn in_reach(range: Range, t: Address, p: Address) -> bool
-    ensures { λ r. ⌜ r ≡ reaches range (distance (t .0) (p .0)) ⌝ }
+// Whether a distance is even and within a range. d is the distance modulo 2^w; read as signed, it is ahead or back, whichever is
+// nearer.
+pub fn in_reach(class: Class, range: Range, d: u64) -> bool
+    ensures { λ r. ⌜ (d < 2 ^ bits class → r ≡ reaches range (signed (bits class) d)) ⌝ }
 {
-    if p.0 <= t.0 {
-        let d = t.0 - p.0;
+    let back = numbers_arithmetic::difference(class, 0, d);
+    if d < back {
         (d % 2 == 0) & (d <= range.ahead)
     } else {
-        let d = p.0 - t.0;
-        (d % 2 == 0) & (d <= range.back)
+        (back % 2 == 0) & (back <= range.back)
     }
 }
 

@@ -30,7 +30,7 @@ operandOf w Paired t p d = d
 abbrev pub partOf : ℕ → Part → ℕ → ℕ
 -- 1, 2: "T"; 57: "T - P modulo 2^32", and 2^64 in class 2, where "types 1 and 57 still write the low 32 bits"
 partOf w Whole v = v
--- 16, 17, 44, 45: "the whole number T - P", which the field holds in two's complement
+-- 16, 17, 44, 45: the distance, which the field holds in two's complement
 partOf w Distance v = v
 -- 23, 26: "high half of T - P; of T"
 partOf w High v = highPart w v

@@ -57,8 +57,10 @@ extended w u = residue w (signed 32 u)
 abbrev pub SaidPart : ℕ → Part → Field → ℕ → ℕ → ℕ → ℕ → Type 0
 -- 1, 57: the low 32 bits of T and of T - P; 2, in class 2: the 64 bits of T. They are as many as the field has.
 SaidPart w Whole f b v t p = read (layout f) b ≡ v % 2 ^ valueBits f
--- 16, 17, 44, 45: the field, as a signed number, is the whole distance T - P
-SaidPart w Distance f b v t p = signed (valueBits f) (read (layout f) b) ≡ distance t p
+-- 16, 17, 44, 45: "every jump gives its whole distance", which "means the reduced one": the field, as a signed number, is the distance, and P
+-- plus it is T modulo 2^w
+SaidPart w Distance f b v t p =
+    (signed (valueBits f) (read (layout f) b) ≡ distance w t p) × (residue w (pos p +ℤ signed (valueBits f) (read (layout f) b)) ≡ t)
 -- 23, 26: the high half of T - P; of T
 SaidPart w High f b v t p = extended w (read (layout f) b) ≡ highPart w v
 -- 27, 28: the low half of T, from -2,048 to 2,047; 24, 25: the low half of the paired high half's T - P

@@ -8,7 +8,6 @@ ghost use Rattle.numbers_definitions.specs.declared.Class.{Class};
 ghost use Rattle.numbers_definitions.specs.Classes.{bits};
 ghost use Rattle.numbers_definitions.specs.Whole.{residue, signed};
 ghost use Rattle.instructions_riscv.specs.Forms.{hasForm};
-ghost use Rattle.instructions_riscv.specs.Ranges.{distance, rangeOf, reaches};
 ghost use Rattle.relocations_values.specs.Values.{S};
 ghost use Rattle.relocations_rules.specs.Rules.{standsWell, reachesWell};
 ghost use Rattle.relocations_bytes.specs.Patches.{highPart, lowPart, operandOf, patched};
@@ -125,13 +124,6 @@ pub struct Applied {
     pub word: u64,
 }
 
-// Whether the distance from p to T is in the range of a field, where x is S + A in two's complement.
-fn jump_reaches(class: Class, field: Field, x: u64, p: Address) -> bool
-    ensures { λ r. ⌜ r ≡ reaches (rangeOf field) (distance (residue (bits class) (signed 64 x)) (p .0)) ⌝ }
-{
-    in_reach(range_of(field), Address(reduce(class, x)), p)
-}
-
 // A rule at a place. `found` is the touched bytes as the object has them, and w as the relocation finds them; x is S + A in two's
 // complement, p is P, and d is the paired high half's T - P. One match on the field decides everything: what goes into the field
 // and which form is asked for are then known.
@@ -170,22 +162,22 @@ pub fn apply_rule(
         },
         Field::B => Applied {
             stands: even & has_form(class, Form::Branch, found, next),
-            reaches: jump_reaches(class, Field::B, x, p),
+            reaches: in_reach(class, range_of(Field::B), v),
             word: put_b(w, v),
         },
         Field::J => Applied {
             stands: even & has_form(class, Form::Jal, found, next),
-            reaches: jump_reaches(class, Field::J, x, p),
+            reaches: in_reach(class, range_of(Field::J), v),
             word: put_j(w, v),
         },
         Field::Cb => Applied {
             stands: even & has_form(class, Form::CBranch, found, next),
-            reaches: jump_reaches(class, Field::Cb, x, p),
+            reaches: in_reach(class, range_of(Field::Cb), v),
             word: put_cb(w, v),
         },
         Field::Cj => Applied {
             stands: even & has_form(class, Form::CJump, found, next),
-            reaches: jump_reaches(class, Field::Cj, x, p),
+            reaches: in_reach(class, range_of(Field::Cj), v),
             word: put_cj(w, v),
         },
         Field::Call => Applied {

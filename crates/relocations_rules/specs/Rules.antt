@@ -102,11 +102,11 @@ operandReaches c Absolute t p = halvesReach c t
 operandReaches c PcRelative t p = halvesReach c (minus (bits c) t p)
 operandReaches c Paired t p = true
 
--- of a part: 16, 17, 44, 45: "the distance is the whole number T - P", "even", and in the field's range; 18, 19: "T - P modulo 2^32, which is
+-- of a part: 16, 17, 44, 45: the distance, "even", and in the field's range; 18, 19: "T - P modulo 2^32, which is
 -- even", and 2^w in class c; 18, 19, 23, 26: within reach of two halves
 abbrev pub partReaches : Class → Part → Operand → Field → ℕ → ℕ → Bool
 partReaches c Whole o f t p = true
-partReaches c Distance o f t p = reaches (rangeOf f) (distance t p)
+partReaches c Distance o f t p = reaches (rangeOf f) (distance (bits c) t p)
 partReaches c High o f t p = operandReaches c o t p
 partReaches c Low o f t p = true
 partReaches c BothHalves o f t p = even (pos (minus (bits c) t p)) && operandReaches c o t p

@@ -71,18 +71,13 @@ pub struct Jump {
     pub p: Address,
 }
 
-// Jumps to each end of the range, one byte and two bytes past it, to themselves, and once around the address space.
+// Jumps to each end of the range, one byte and two bytes past it, and to themselves: from the middle of class 1's addresses, and
+// then from 0, where those back lead across the top.
 pub fn case(ends: Range, number: u64) -> Jump {
-    if number == 7 {
-        return Jump {
-            t: Address(0xffff_fffe),
-            p: Address(0),
-        };
-    }
-    let p: u32 = 0x8000_0000;
+    let p = start(number / 7);
     let last = std::num::wrapping_add_u32(p, (ends.ahead % 0x1_0000_0000) as u32);
     let first = std::num::wrapping_sub_u32(p, (ends.back % 0x1_0000_0000) as u32);
-    let t = match number {
+    let t = match number % 7 {
         0 => last,
         1 => std::num::wrapping_add_u32(last, 1),
         2 => std::num::wrapping_add_u32(last, 2),
@@ -94,6 +89,13 @@ pub fn case(ends: Range, number: u64) -> Jump {
     Jump {
         t: Address(t as u64),
         p: Address(p as u64),
+    }
+}
+
+fn start(number: u64) -> u32 {
+    match number {
+        0 => 0x8000_0000,
+        _ => 0,
     }
 }
 

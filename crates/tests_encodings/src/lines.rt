@@ -3,6 +3,7 @@ use super::choices;
 use instructions_fields::Field;
 use instructions_fields::Width;
 use instructions_riscv::forms::Form;
+use instructions_riscv::ranges::Range;
 use numbers_definitions::Class;
 use relocations_types::Calculation;
 use relocations_types::Decision;
@@ -103,15 +104,21 @@ pub fn data(number: u64, v: u64, x: u64) {
     end();
 }
 
-// r: a range, a target, an address, and whether the target is reached from the address.
+// r: a range, a target, an address, and whether the target is reached from the address, in each class.
 pub fn reach(number: u64, place: u64) {
     let ends = choices::range(number);
     let jump = choices::case(ends, place);
     first(b'r', number);
     then(jump.t.0);
     then(jump.p.0);
-    flag(instructions_riscv::ranges::in_reach(ends, jump.t, jump.p));
+    flag(reached(Class::Elf32, ends, jump));
+    flag(reached(Class::Elf64, ends, jump));
     end();
+}
+
+fn reached(class: Class, ends: Range, jump: choices::Jump) -> bool {
+    let d = numbers_arithmetic::difference(class, jump.t.0, jump.p.0);
+    instructions_riscv::ranges::in_reach(class, ends, d)
 }
 
 // i: a word, the next one, and which forms they have.

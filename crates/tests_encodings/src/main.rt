@@ -11,7 +11,7 @@ fn main() {
     run(b't', 256);
     run(b'e', 125);
     run(b'd', 40);
-    run(b'r', 32);
+    run(b'r', 56);
     run(b'i', 192);
 }
 
@@ -46,7 +46,7 @@ fn line(kind: u8, i: u64, a: u64, b: u64) {
             choices::edge(i / 25, i % 5),
         ),
         b'd' => lines::data(i % 5, a, b),
-        b'r' => lines::reach(i / 8, i % 8),
+        b'r' => lines::reach(i / 14, i % 14),
         _ => lines::forms(
             choices::word(choices::opcode(i / 16), a),
             choices::word(0x67, b),

@@ -1,5 +1,5 @@
-//! The comparison fitter: document 01 and Ticket 1 written for speed, in safe
-//! Rust, without a heap. The library's time is measured against it.
+//! The comparison fitter: document 01 and Tickets 1 and 3 written for speed, in
+//! safe Rust, without a heap. The library's time is measured against it.
 //!
 //! It has two phases. The first makes every check in its order and writes
 //! nothing. The second saves and lays, and cannot fail. Each phase reads a

@@ -1,5 +1,5 @@
 //! Document 01's "Bench numbers" and "Errors we have met" through the static
-//! library, in both classes, and the numbers of Ticket 1.
+//! library, in both classes, and the numbers of Tickets 3 and 1.
 
 use compare::call::{Command, Library, Outcome};
 use testing::build::{
@@ -199,6 +199,49 @@ fn stacked_from_what_the_first_left() {
     let list = [Relocation::new(0, 35, 1, 0), Relocation::new(0, 39, 2, 0)];
     let fit = Fit::code(0x1000, &[7, 0, 0, 0], &symbols, &list);
     assert_eq!(laid(&fit), "07020000");
+}
+
+/// What is laid for a jump across the top of memory, or "13", the same in both
+/// classes. Both places are so many bytes above 0 or below it.
+fn across(kind: u32, bytes: &[u8], from: i64, to: i64) -> String {
+    let [first, second] = Class::ALL.map(|class| {
+        let [from, to] = [from, to].map(|place| i128::from(place).rem_euclid(class.address_end()));
+        let mut fit = one(kind, bytes, from as u64, to as u64).of(class);
+        fit.image.truncate(64 + bytes.len());
+        match answer_of_one(&fit) {
+            (13, 0) => "13".into(),
+            _ => laid_of_one(&fit),
+        }
+    });
+    assert_eq!(first, second, "class 1 and class 2");
+    first
+}
+
+/// Ticket 3: "a JAL at 0xFFFFFFF0 to 0x10 has distance 32 and is valid". The
+/// others, each in both directions, as far as they go and one step more.
+#[test]
+fn across_the_top() {
+    let jal = |from, to| across(17, &[0xEF, 0, 0, 0], from, to);
+    assert_eq!(jal(-0x10, 0x10), "ef000002");
+    assert_eq!(jal(-0x10, 1_048_574 - 0x10), "eff0ff7f");
+    assert_eq!(jal(-0x10, 1_048_576 - 0x10), "13");
+    assert_eq!(jal(0, -1_048_576), "ef000080");
+    assert_eq!(jal(0, -1_048_578), "13");
+    let branch = |from, to| across(16, &[0x63, 0, 0, 0], from, to);
+    assert_eq!(branch(4, -4), "e30c00fe");
+    assert_eq!(branch(4, 4 - 4_096), "63000080");
+    assert_eq!(branch(4, 4 - 4_098), "13");
+    assert_eq!(branch(-4, 4_094 - 4), "e30f007e");
+    assert_eq!(branch(-4, 4_096 - 4), "13");
+    let jump = |from, to| across(45, &[0x01, 0xA0], from, to);
+    assert_eq!(jump(-2, 2), "11a0");
+    assert_eq!(jump(0, -2), "fdbf");
+    assert_eq!(jump(0, -2_048), "01b0");
+    assert_eq!(jump(0, -2_050), "13");
+    let short = |from, to| across(44, &[0x01, 0xC1], from, to);
+    assert_eq!(short(-2, 6), "01c5");
+    assert_eq!(short(-2, 254 - 2), "7dcd");
+    assert_eq!(short(-2, 256 - 2), "13");
 }
 
 /// Ticket 1: "lies in -2,147,485,696..2,147,481,599, else 13", both ends and one

@@ -1,5 +1,5 @@
-//! The real objects through the static library: the bytes that GNU ld lays, and
-//! all as before after a rollback.
+//! The real objects through the static library: the bytes that a real linker
+//! lays, and all as before after a rollback.
 
 use compare::call::{Command, Library};
 use testing::build::{journal, Class};
@@ -23,7 +23,7 @@ fn wrong(library: &mut Library, given: Given) -> Option<String> {
         Err(wrong) => return Some(wrong),
     };
     if installed.answer != given.answer || Some(&installed.image) != given.image.as_ref() {
-        return Some(format!("{:?}, not what ld lays", installed.answer));
+        return Some(format!("{:?}, not what the linker lays", installed.answer));
     }
     (after.image, after.journal) = (installed.image, installed.journal);
     let back = match library.compare(&after, Command::TakeBack) {
@@ -36,7 +36,7 @@ fn wrong(library: &mut Library, given: Given) -> Option<String> {
 }
 
 #[test]
-fn installs_what_ld_lays() {
+fn installs_what_a_linker_lays() {
     let library = &mut Library::new();
     let objects = objects();
     for class in Class::ALL {

@@ -2,7 +2,7 @@
 
 use compare::Compare;
 
-const CALLS: u64 = 100_000;
+const CALLS: u64 = 150_000;
 const HISTORIES: u64 = 1_000;
 
 #[test]

@@ -1,6 +1,6 @@
-//! A second fitter, written from document 01 and Ticket 1 of document 02 alone,
-//! and kept as close to their sentences as code can be. One body of code is for
-//! both classes of object: what differs between them is asked of the class.
+//! A second fitter, written from document 01 and Tickets 1 and 3 of document 02
+//! alone, and kept as close to their sentences as code can be. One body of code
+//! is for both classes of object: what differs between them is asked of the class.
 //!
 //! | part of document 01 | module | checks |
 //! |---|---|---|
@@ -12,14 +12,15 @@
 //! | How a record is read: the type table | [`relocation`] | |
 //! | How a record is read: halves and fields | [`fields`] | |
 //! | How a record is read: instruction forms | [`instruction`] | 11 |
-//! | How a record is read: rules and bytes | [`relocate`] | 9 to 14 |
+//! | How a record is read: rules and bytes; Ticket 3: distances | [`relocate`] | 9 to 14 |
 //! | The laid bytes and their span | [`plan`] | |
 //! | When the fitter says no | [`checks`] | all, in order |
 //! | The history behind demand 3 | [`history`] | |
 //! | A list of calls, as bytes | [`calls`] | |
 //!
 //! The words are the field's; the comment at each definition has document
-//! 01's term. Quoted sentences in comments are document 01's, or Ticket 1's.
+//! 01's term. Quoted sentences in comments are document 01's, or those of
+//! Tickets 1 and 3.
 
 #![forbid(unsafe_code)]
 

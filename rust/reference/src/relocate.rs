@@ -73,9 +73,12 @@ impl<'a> RelaEntry<'a> {
         Some(self.s_plus_a()?.rem_euclid(self.class().address_end()))
     }
 
-    /// "the distance is the whole number T - P"
+    /// "T - P reduced to the signed range of the address width". The types that
+    /// take T - P modulo 2^32 or 2^64 get the same from it. A distance of half the
+    /// address space is too far for every type with a range, so that its sign does
+    /// not matter.
     fn distance(&self) -> Option<Whole> {
-        Some(self.t()? - self.place())
+        Some(self.class().signed(self.t()? - self.place()))
     }
 
     /// The other relocations of the same RELA section that come before.

@@ -62,7 +62,7 @@ pub struct Patch {
 pub enum Calculation {
     /// T: S + A modulo 2^32, or 2^64.
     Target,
-    /// T - P.
+    /// T - P, reduced.
     Distance,
     /// "the partner's T - P"
     PairDistance,

@@ -1,6 +1,7 @@
 //! Document 01's "Bench numbers" and "Errors we have met": each number through
 //! the field functions, and each that is about a fit through `install` too, in
-//! both classes. Then the numbers of Ticket 1, for class 2.
+//! both classes. Then the numbers of Ticket 3, for jumps across the top of
+//! memory, and those of Ticket 1, for class 2.
 
 use reference::fields::{high_half, insert, low_half, Field, B, CB, CJ, I, J, U};
 use reference::numbers::number_from;
@@ -219,6 +220,65 @@ fn error_stacked_from_the_objects_value() {
     ];
     let fit = Fit::code(0x1000, &word(7), &symbols, &list);
     assert_eq!(laid_word(&fit), 0x207);
+}
+
+/// Number, place and the bytes after a jump across the top of memory, in each
+/// class. Both places are so many bytes above 0 or below it.
+fn across(kind: u32, width: usize, before: u32, from: i64, to: i64) -> [(u32, u32, u64); 2] {
+    Class::ALL.map(|class| {
+        let [from, to] = [from, to].map(|place| i128::from(place).rem_euclid(class.address_end()));
+        let bytes = &word(before)[..width];
+        let mut fit = one(kind, bytes, from as u64, to as u64).of(class);
+        fit.image.truncate(64 + width);
+        match fit.answer() {
+            (0, 0) => (0, 0, number_from(&fit.laid())),
+            (number, place) => (number, place, u64::from(before)),
+        }
+    })
+}
+
+/// Ticket 3: "a JAL at 0xFFFFFFF0 to 0x10 has distance 32 and is valid"; the
+/// farthest in both directions, and one step more.
+#[test]
+fn jal_across_the_top() {
+    let over = |from, to| across(JAL, 4, 0xEF, from, to);
+    assert_eq!(over(-0x10, 0x10), [(0, 0, 0x0200_00EF); 2]);
+    assert_eq!(over(-0x10, 1_048_574 - 0x10), [(0, 0, 0x7FFF_F0EF); 2]);
+    assert_eq!(over(-0x10, 1_048_576 - 0x10), [(13, 0, 0xEF); 2]);
+    assert_eq!(over(4, 4 - 1_048_576), [(0, 0, 0x8000_00EF); 2]);
+    assert_eq!(over(4, 4 - 1_048_578), [(13, 0, 0xEF); 2]);
+    assert_eq!(over(-0x10, 0x11), [(13, 0, 0xEF); 2], "odd");
+}
+
+/// The same of a branch, with one at 4 to 0xFFFFFFFC: -8.
+#[test]
+fn branch_across_the_top() {
+    let over = |from, to| across(BRANCH, 4, 0x63, from, to);
+    assert_eq!(over(4, -4), [(0, 0, 0xFE00_0CE3); 2]);
+    assert_eq!(over(-4, 4), [(0, 0, 0x0000_0463); 2]);
+    assert_eq!(over(-4, 4_094 - 4), [(0, 0, 0x7E00_0FE3); 2]);
+    assert_eq!(over(-4, 4_096 - 4), [(13, 0, 0x63); 2]);
+    assert_eq!(over(4, 4 - 4_096), [(0, 0, 0x8000_0063); 2]);
+    assert_eq!(over(4, 4 - 4_098), [(13, 0, 0x63); 2]);
+}
+
+/// The same of compressed ones, at the last two bytes and at the first.
+#[test]
+fn compressed_across_the_top() {
+    let jump = |from, to| across(RVC_JUMP, 2, 0xA001, from, to);
+    assert_eq!(jump(-2, 2), [(0, 0, 0xA011); 2]);
+    assert_eq!(jump(0, -2), [(0, 0, 0xBFFD); 2]);
+    assert_eq!(jump(-2, 2_046 - 2), [(0, 0, 0xAFFD); 2]);
+    assert_eq!(jump(-2, 2_048 - 2), [(13, 0, 0xA001); 2]);
+    assert_eq!(jump(0, -2_048), [(0, 0, 0xB001); 2]);
+    assert_eq!(jump(0, -2_050), [(13, 0, 0xA001); 2]);
+    let branch = |from, to| across(RVC_BRANCH, 2, 0xC101, from, to);
+    assert_eq!(branch(-2, 6), [(0, 0, 0xC501); 2]);
+    assert_eq!(branch(0, -8), [(0, 0, 0xDD65); 2]);
+    assert_eq!(branch(-2, 254 - 2), [(0, 0, 0xCD7D); 2]);
+    assert_eq!(branch(-2, 256 - 2), [(13, 0, 0xC101); 2]);
+    assert_eq!(branch(0, -256), [(0, 0, 0xD101); 2]);
+    assert_eq!(branch(0, -258), [(13, 0, 0xC101); 2]);
 }
 
 /// A fit of class 2.

@@ -183,26 +183,18 @@ fn edge_line(i: u64) -> String {
 }
 
 fn reach_line(i: u64) -> String {
-    let number = i / 8;
+    let number = i / 14;
     let field = [Field::B, Field::J, Field::CB, Field::CJ][number as usize];
     let reach = field.reach().expect("a jump's or branch's field");
-    let middle: Whole = 0x8000_0000;
-    let (first, last) = (middle + reach.start(), middle + reach.end());
-    let targets = [
-        last,
-        last + 1,
-        last + 2,
-        first,
-        first - 1,
-        first - 2,
-        middle,
-    ];
-    let (t, p) = match targets.get((i % 8) as usize) {
-        Some(t) => (*t, middle),
-        None => (0xFFFF_FFFE, 0),
-    };
-    let reached = (t - p).rem_euclid(2) == 0 && reach.contains(&(t - p));
-    format!("r {number:x} {t:x} {p:x} {}", u8::from(reached))
+    let p: Whole = [0x8000_0000, 0][(i / 7 % 2) as usize];
+    let (first, last) = (p + reach.start(), p + reach.end());
+    let targets = [last, last + 1, last + 2, first, first - 1, first - 2, p];
+    let t = targets[(i % 7) as usize].rem_euclid(1 << 32);
+    let reached = [Class::Elf32, Class::Elf64].map(|class| {
+        let distance = class.signed(t - p);
+        u8::from(distance % 2 == 0 && reach.contains(&distance))
+    });
+    format!("r {number:x} {t:x} {p:x} {} {}", reached[0], reached[1])
 }
 
 /// A word whose rd and rs1 are 0 or 1 and whose funct3 is often 0.
@@ -237,7 +229,7 @@ fn lines() -> String {
         + &run(256, |i, _, _| type_line(i))
         + &run(125, |i, _, _| edge_line(i))
         + &run(40, |i, a, b| data_line(i % 5, a, b))
-        + &run(32, |i, _, _| reach_line(i))
+        + &run(56, |i, _, _| reach_line(i))
         + &run(192, form_line)
 }
 

@@ -1,5 +1,5 @@
 //! Objects made by real assemblers and compilers, installed and compared with
-//! the bytes that GNU ld lays. `objects/README.md` says how they are made.
+//! the bytes that a real linker lays. `objects/README.md` says how they are made.
 
 use std::collections::BTreeSet;
 use std::fs;
@@ -27,7 +27,7 @@ const TYPES: [u32; 30] = [
     52, 53, 54, 55, 56, 57,
 ];
 
-/// One case: the object, the order, and the image as ld lays it.
+/// One case: the object, the order, and the image as the linker lays it.
 struct Case {
     name: String,
     object: Vec<u8>,
@@ -86,8 +86,8 @@ fn relocation_types(object: &[u8]) -> (Class, BTreeSet<u32>) {
     )
 }
 
-/// The install is done and lays ld's bytes; its rollback brings image and
-/// journal back. Otherwise, what is wrong.
+/// The install is done and lays the linker's bytes; its rollback brings image
+/// and journal back. Otherwise, what is wrong.
 fn try_case(case: &Case) -> Result<(), String> {
     let mut image = vec![FILL; case.laid.len()];
     let mut journal = empty_journal(image.len());
@@ -99,7 +99,7 @@ fn try_case(case: &Case) -> Result<(), String> {
     }
     if let Some(at) = (0..image.len()).find(|&at| image[at] != case.laid[at]) {
         let (ours, laid) = (image[at], case.laid[at]);
-        return Err(format!("byte {at:#x} is {ours:02x}, ld lays {laid:02x}"));
+        return Err(format!("byte {at:#x} is {ours:02x}, laid {laid:02x}"));
     }
     let standing = Standing::read(&journal, image.len()).map(|standing| standing.spans.len());
     if standing != Some(1) {
@@ -117,7 +117,7 @@ fn try_case(case: &Case) -> Result<(), String> {
 }
 
 #[test]
-fn installs_what_ld_lays() {
+fn installs_what_a_linker_lays() {
     let cases = cases();
     assert!(cases.len() >= 25, "{} cases", cases.len());
     let faults: Vec<String> = cases

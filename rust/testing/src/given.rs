@@ -54,7 +54,7 @@ pub fn histories() -> Vec<Given> {
     fits
 }
 
-/// The real objects with their orders, and the image as GNU ld lays it. All of
+/// The real objects with their orders, and the image as a linker lays it. All of
 /// these fits are done.
 pub fn objects() -> Vec<Given> {
     let folder = Path::new(env!("CARGO_MANIFEST_DIR")).join("../../objects");

@@ -1,17 +1,19 @@
-//! Every limit of document 01 and of Ticket 1, in both classes: at its value, and
-//! one past it.
+//! Every limit of document 01 and of Tickets 1 and 3, in both classes: at its
+//! value, and one past it.
 
 use crate::build::*;
 use crate::damage::Input;
 
 const WORD: u32 = 1;
 const WORD_64: u32 = 2;
+const BRANCH: u32 = 16;
 const JAL: u32 = 17;
 const CALL: u32 = 18;
 const CALL_PLT: u32 = 19;
 const PCREL_HI20: u32 = 23;
 const HI20: u32 = 26;
 const LO12_I: u32 = 27;
+const RVC_BRANCH: u32 = 44;
 const RVC_JUMP: u32 = 45;
 const RELAX: u32 = 51;
 
@@ -47,6 +49,7 @@ pub fn limits() -> Vec<Limit> {
         limits.windows();
         limits.placing();
         limits.ledger_room();
+        limits.jumps();
         match class {
             Class::Elf32 => limits.of_class_1(),
             Class::Elf64 => limits.of_class_2(),
@@ -299,19 +302,42 @@ impl Limits {
                 self.add(format!("type {kind} at {offset:#x}"), fit, (9, 0));
             }
         }
-        // "the whole number T - P", which does not go around 2^64.
-        let jal = [0x6F, 0, 0, 0];
-        for (place, target, answer) in [
-            (0, self.top - 1, (13, 0)),
-            (self.top - 3, 0, (13, 0)),
-            (self.top - 3, self.top - 1, DONE),
-            (0, 2, DONE),
-        ] {
-            let list = [Relocation::new(0, JAL, 1, 0)];
-            let mut fit = Fit::code(place, &jal, &[Symbol::absolute(target)], &list);
-            fit.image.truncate(68);
-            self.add(format!("jal from {place:#x} to {target:#x}"), fit, answer);
+    }
+
+    /// "T - P reduced to the signed range of the address width": jumps and branches
+    /// in the middle of memory and from each end of it across the top. Half of it
+    /// away is too far, both ways.
+    fn jumps(&mut self) {
+        let rows: [(u32, &[u8], u64); 4] = [
+            (BRANCH, &[0x63, 0, 0, 0], 4_096),
+            (JAL, &[0x6F, 0, 0, 0], 1_048_576),
+            (RVC_BRANCH, &[0x01, 0xC1], 256),
+            (RVC_JUMP, &[0x01, 0xA0], 2_048),
+        ];
+        let half = self.top / 2 + 1;
+        for (kind, bytes, reach) in rows {
+            for place in [0, half, self.top - 3] {
+                for (distance, answer) in [
+                    (0_u64.wrapping_sub(reach), DONE),
+                    (0_u64.wrapping_sub(reach + 2), (13, 0)),
+                    (reach - 2, DONE),
+                    (reach, (13, 0)),
+                    (half, (13, 0)),
+                ] {
+                    let target = place.wrapping_add(distance) & self.top;
+                    self.from(place, kind, bytes, target, answer);
+                }
+            }
         }
+    }
+
+    /// One relocation at the start of a section that may end with the memory.
+    fn from(&mut self, place: u64, kind: u32, bytes: &[u8], target: u64, answer: (u32, u32)) {
+        let list = [Relocation::new(0, kind, 1, 0)];
+        let mut fit = Fit::code(place, bytes, &[Symbol::absolute(target)], &list);
+        fit.image.truncate(64 + bytes.len());
+        let name = format!("type {kind} from {place:#x} to {target:#x}");
+        self.add(name, fit, answer);
     }
 
     /// "-2,147,485,696..2,147,481,599", and one step past each end.
@@ -334,11 +360,7 @@ impl Limits {
                     (lowest.wrapping_sub(step), (13, 0)),
                     (highest.wrapping_add(step), (13, 0)),
                 ] {
-                    let list = [Relocation::new(0, kind, 1, 0)];
-                    let mut fit = Fit::code(place, bytes, &[Symbol::absolute(target)], &list);
-                    fit.image.truncate(64 + bytes.len());
-                    let name = format!("type {kind} from {place:#x} to {target:#x}");
-                    self.add(name, fit, answer);
+                    self.from(place, kind, bytes, target, answer);
                 }
             }
         }

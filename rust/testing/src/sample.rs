@@ -46,7 +46,7 @@ struct Sampler<'r> {
     class: Class,
     random: &'r mut Random,
     /// Whether some low halves have no pair, some padding misses its boundary,
-    /// and some halves lead one step too far.
+    /// and some halves and jumps lead one step too far.
     is_faulty: bool,
     symbols: Vec<Symbol>,
     /// S of each symbol; `None` where it does not resolve.
@@ -365,17 +365,17 @@ impl Sampler<'_> {
         self.random.u32() & kept | opcode
     }
 
-    /// An even distance that a field of this reach takes, if the target is an
-    /// address at all.
+    /// A target at an even distance that a field of this reach takes, unless the
+    /// call is faulty. It may be across the top of memory.
     fn target(&mut self, place: u64, reach: i64) -> u64 {
-        let distance = match self.random.below(4) {
-            0 => -reach,
-            1 => reach - 2,
+        let distance = match self.random.below(8) {
+            0 | 1 => -reach,
+            2 | 3 => reach - 2,
+            4 if self.is_faulty => -reach - 2,
+            5 if self.is_faulty => reach,
             _ => self.random.below(reach as usize) as i64 * 2 - reach,
         };
-        let target = place.checked_add_signed(distance);
-        let target = target.filter(|target| i128::from(*target) < self.class.address_end());
-        target.unwrap_or(place)
+        self.reduced(place.wrapping_add_signed(distance))
     }
 
     fn jump(&mut self, offset: u64, place: u64, kind: u32, opcode: u32, reach: i64) -> Item {

@@ -238,7 +238,7 @@ module _ (object : List ℕ) (x : Site) where
   unfolding reaches
   part-reached c Whole o f t p e = tt
   part-reached c Distance o f t p e =
-      let z : ℤ = distance t p in
+      let z : ℤ = distance (bits c) t p in
       record {
         is-even = even-is z (and-left (even z) (within (rangeOf f .back) (rangeOf f .ahead) z) e);
         in-range = within-is (rangeOf f .back) (rangeOf f .ahead) z (and-right (even z) (within (rangeOf f .back) (rangeOf f .ahead) z) e);
@@ -268,7 +268,8 @@ module _ (object : List ℕ) (x : Site) where
   unfolding reaches
   part-back c Whole o f t p r = refl
   part-back c Distance o f t p r =
-      both _ _ (is-even (distance t p) (r .is-even)) (is-within (rangeOf f .back) (rangeOf f .ahead) (distance t p) (r .in-range))
+      let z : ℤ = distance (bits c) t p in
+      both _ _ (is-even z (r .is-even)) (is-within (rangeOf f .back) (rangeOf f .ahead) z (r .in-range))
   part-back c High o f t p r = operand-back c o t p r
   part-back c Low o f t p r = refl
   part-back c BothHalves o f t p r =

@@ -372,7 +372,7 @@ says₁ before after l =
     record {
       pair = halves-add object order₁ before after l 4 1 0 (record { there = omega arith; counts = refl; entry = omega arith }) low-half refl refl refl;
       call = l .fields 4 2 (record { there = omega arith; counts = refl; entry = omega arith }) .0;
-      branch = l .fields 4 3 (record { there = omega arith; counts = refl; entry = omega arith }) .0;
+      branch = l .fields 4 3 (record { there = omega arith; counts = refl; entry = omega arith }) .0 .0;
       stack = l .fields 5 1 (record { there = omega arith; counts = refl; entry = omega arith }) .0;
     }
 
@@ -382,7 +382,7 @@ says₂ before after l =
     record {
       pair = halves-add object order₂ before after l 4 1 0 (record { there = omega arith; counts = refl; entry = omega arith }) low-half refl refl refl;
       call = l .fields 4 2 (record { there = omega arith; counts = refl; entry = omega arith }) .0;
-      branch = l .fields 4 3 (record { there = omega arith; counts = refl; entry = omega arith }) .0;
+      branch = l .fields 4 3 (record { there = omega arith; counts = refl; entry = omega arith }) .0 .0;
       stack = l .fields 5 1 (record { there = omega arith; counts = refl; entry = omega arith }) .0;
     }
 

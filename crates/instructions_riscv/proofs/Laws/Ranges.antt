@@ -1,23 +1,23 @@
 -- Laws of the ranges of distances.
 use mathlib.Core.Path.{_≡_, refl, sym, ap, _∙_}
-use Prim.Native.Nat.{ℕ, suc, _-_, _+_, _*_, _%_, _^_, _≤_, _<_}
-use mathlib.Core.Bool.{Bool, true, false, cond}
-use lib.Dec.{ltb, leb}
-use borrow.Author.Tests.{ltb-true, ltb-false, le-leb}
+use Prim.Native.Nat.{ℕ, zero, suc, _-_, _+_, _*_, _%_, _^_, _≤_, _<_}
+use mathlib.Core.Bool.{Bool, true, false, cond, _&&_}
+use lib.Dec.{ltb, leb, eqb}
+use borrow.Author.Tests.{ltb-true, ltb-false, lt-ltb, le-ltb}
 use native.Mathlib.Decide.{decLt}
-use native.Mathlib.Nat.{mod-eq-of-lt}
+use native.Mathlib.Nat.{mod-eq-of-lt, mod-self, add-comm}
 use native.Mathlib.Omega.{arith}
-use lib.IntN.{ℤ, pos, negℤ, _-ℤ_}
+use lib.IntN.{ℤ, pos, negsuc, negℤ, _+ℤ_, _-ℤ_}
 use Rattle.numbers_definitions.specs.declared.Class.the-variants.{Elf64}
-use Rattle.numbers_definitions.specs.Whole.{residue, signed, within, even, plus}
-use Rattle.numbers_definitions.proofs.Laws.Tests.{and-left, and-right, and-true, same-test}
-use Rattle.numbers_definitions.proofs.Laws.Whole.{even-residue, within-spelt, sub-ahead, sub-back}
+use Rattle.numbers_definitions.specs.Whole.{residue, signed, within, even, plus, minus}
+use Rattle.numbers_definitions.proofs.Laws.Tests.{and-left, and-right, same-test}
+use Rattle.numbers_definitions.proofs.Laws.Whole.{residue-lt, residue-add, residue-sub, residue-signed, even-residue, within-spelt, sub-back, minus-unique}
 use Rattle.instructions_fields.specs.declared.Field.{Field}
 use Rattle.instructions_fields.specs.declared.Field.the-variants.{B, J, Cb, Cj}
 use Rattle.instructions_fields.specs.Layouts.{read, put}
 use Rattle.instructions_fields.specs.Fields.{layout, valueBits, unit}
 use Rattle.instructions_riscv.specs.declared.ranges.Range.{Range}
-use Rattle.instructions_riscv.specs.Ranges.{distance, branch, jal, rvcBranch, rvcJump, anywhere, reaches, halvesReach}
+use Rattle.instructions_riscv.specs.Ranges.{distance, branch, jal, rvcBranch, rvcJump, reaches, halvesReach}
 use Rattle.instructions_fields.proofs.Laws.Fields.{reads-back-signed}
 use Rattle.instructions_riscv.proofs.Laws.Halves.{at-least}
 
@@ -46,15 +46,6 @@ pub rvc-jump-ends : Ends rvcJump 2048 2046
 unfolding reaches within even
 rvc-jump-ends = record { ahead-in = refl; ahead-odd = refl; ahead-out = refl; back-in = refl; back-odd = refl; back-out = refl }
 
--- every distance between two addresses is within the range of the other fields
-pub anywhere-reaches : (t p : ℕ) → t < 2 ^ 64 → p < 2 ^ 64 → reaches anywhere (distance t p) ≡ even (distance t p)
-unfolding reaches within
-anywhere-reaches t p ht hp = go (ltb t p) refl
-  where
-    go : (b : Bool) → ltb t p ≡ b → reaches anywhere (distance t p) ≡ even (distance t p)
-    go true e = rw (sub-back t p (ltb-true t p e), le-leb (suc (p - suc t)) 0xFFFFFFFFFFFFFFFF (omega arith)) (and-true _)
-    go false e = rw (sub-ahead t p (ltb-false t p e), le-leb (t - p) 0xFFFFFFFFFFFFFFFF (omega arith)) (and-true _)
-
 -- a distance that is reached, and put into its field modulo 2^w, is read back whole
 reached-reads-back : (f : Field) (r : Range) (w b : ℕ) (z : ℤ) → valueBits f ≤ w → 1 ≤ w → unit f ≡ 2 → 2 * r .back ≤ 2 ^ valueBits f → 2 * r .ahead < 2 ^ valueBits f
     → reaches r z ≡ true → signed (valueBits f) (read (layout f) (put (layout f) b (residue w z))) ≡ z
@@ -65,7 +56,7 @@ reached-reads-back f r w b z wide one two back ahead e =
     (λ j low. reads-back-signed f b j z (within-spelt (valueBits f) (r .back) (r .ahead) z back ahead (and-right (even z) _ e)) (rw two low))
     is-even
 
--- every jump and branch gives its whole distance when it is read as the manual says
+-- every jump and branch gives its distance when it is read as the manual says
 pub branch-reads-back : (w b : ℕ) (z : ℤ) → 32 ≤ w → reaches branch z ≡ true → signed 13 (read (layout B) (put (layout B) b (residue w z))) ≡ z
 branch-reads-back w b z h e = reached-reads-back B branch w b z (omega arith) (omega arith) refl (omega arith) (omega arith) e
 
@@ -77,6 +68,52 @@ rvc-branch-reads-back w b z h e = reached-reads-back Cb rvcBranch w b z (omega a
 
 pub rvc-jump-reads-back : (w b : ℕ) (z : ℤ) → 32 ≤ w → reaches rvcJump z ≡ true → signed 12 (read (layout Cj) (put (layout Cj) b (residue w z))) ≡ z
 rvc-jump-reads-back w b z h e = reached-reads-back Cj rvcJump w b z (omega arith) (omega arith) refl (omega arith) (omega arith) e
+
+-- ---- a distance modulo 2^w, ahead and back
+
+-- what is left of d to 2^w
+left-over : (w d : ℕ) → 0 < d → d < 2 ^ w → minus w 0 d ≡ 2 ^ w - d
+left-over w d some h =
+    let full : 2 ^ w - d + d ≡ 2 ^ w = omega arith in
+    let none : 0 % 2 ^ w ≡ 0 = mod-eq-of-lt (omega arith) in
+    sym (minus-unique w 0 d (2 ^ w - d) (omega arith) (ap (λ n. n % 2 ^ w) full ∙ mod-self (2 ^ w) ∙ sym none))
+
+none-left : (w : ℕ) → 0 < 2 ^ w → minus w 0 0 ≡ 0
+none-left w some = sym (minus-unique w 0 0 0 some refl)
+
+-- read as signed, it is d where d is less than what is left
+pub nearer-ahead : (w d : ℕ) → d < 2 ^ w → d < minus w 0 d → signed w d ≡ pos d
+unfolding signed
+nearer-ahead w zero h near = rw (lt-ltb 0 (2 ^ w) h)
+nearer-ahead w (suc d) h near =
+    let left : minus w 0 (suc d) ≡ 2 ^ w - suc d = left-over w (suc d) (omega arith) h in
+    rw (lt-ltb (2 * suc d) (2 ^ w) (omega arith))
+
+-- and what is left, back, where it is not
+pub nearer-back : (w d : ℕ) → d < 2 ^ w → minus w 0 d ≤ d → signed w d ≡ negℤ (pos (minus w 0 d))
+unfolding signed
+nearer-back w zero h near = rw (lt-ltb 0 (2 ^ w) h, none-left w h)
+nearer-back w (suc d) h near =
+    let left : minus w 0 (suc d) ≡ 2 ^ w - suc d = left-over w (suc d) (omega arith) h in
+    let one-more : 2 ^ w - suc d ≡ suc (2 ^ w - suc (suc d)) = omega arith in
+    rw (le-ltb (2 * suc d) (2 ^ w) (omega arith)) (sub-back (suc d) (2 ^ w) h ∙ ap (λ n. negℤ (pos n)) (sym (left ∙ one-more)))
+
+-- a distance back is within a range as far as the range has it back
+pub reaches-back : (r : Range) (n : ℕ) → reaches r (negℤ (pos n)) ≡ (eqb (n % 2) 0 && leb n (r .back))
+unfolding reaches within even
+reaches-back r zero = same-test 0 (r .ahead) 0 (r .back) (λ l. omega arith) (λ l. omega arith)
+reaches-back r (suc n) = refl
+
+-- P and the distance lead to T
+pub distance-leads : (w t p : ℕ) → t < 2 ^ w → residue w (pos p +ℤ distance w t p) ≡ t
+unfolding minus residue
+distance-leads w t p h =
+    let d : ℕ = residue w (pos t -ℤ pos p) in
+    residue-add w (pos p) (signed w d)
+    ∙ ap (λ n. (residue w (pos p) + n) % 2 ^ w) (residue-signed w d (residue-lt w (pos t -ℤ pos p)))
+    ∙ ap (λ n. n % 2 ^ w) (add-comm (residue w (pos p)) d)
+    ∙ residue-sub w (pos t) (pos p)
+    ∙ mod-eq-of-lt h
 
 -- ---- the range of two halves, as one comparison
 

@@ -83,6 +83,11 @@ minus-unique w a b r h e =
     mod-unique (2 ^ w) r (residue w (pos a -ℤ pos b)) b h (residue-lt w (pos a -ℤ pos b))
     (e ∙ sym (residue-sub w (pos a) (pos b)) ∙ add-mod-mod (residue w (pos a -ℤ pos b)) b (2 ^ w))
 
+-- it has w bits
+pub minus-lt : (w a b : ℕ) → minus w a b < 2 ^ w
+unfolding minus
+minus-lt w a b = residue-lt w (pos a -ℤ pos b)
+
 -- a difference is known by what its two numbers are modulo 2^w
 pub minus-mod : (w a b m n : ℕ) → a % 2 ^ w ≡ m % 2 ^ w → b % 2 ^ w ≡ n % 2 ^ w → minus w a b ≡ minus w m n
 unfolding minus residue

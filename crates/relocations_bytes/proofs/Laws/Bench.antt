@@ -1,4 +1,4 @@
--- Document 01's bench numbers marked K, and those of class 2, as one list with one claim. Each number is what the definitions give of a whole
+-- Document 01's bench numbers marked K, those of class 2 and those of jumps across the top of memory, as one list with one claim. Each number is what the definitions give of a whole
 -- object with one relocation: the bytes of its section afterwards, or the number of the first rule that the relocation breaks.
 use mathlib.Core.Path.{_≡_, refl}
 use mathlib.Core.List.{List, [], _∷_, _++_, map}
@@ -143,6 +143,32 @@ numbers =
     -- the low 32 bits of T and of T - P
     ∷ (laid64 1 0 0x123456789A 0 is pos 0x3456789A)
     ∷ (laid64 57 0 0x1000 0x1004 is pos 0xFFFFFFFC)
+    -- "a JAL at 0xFFFFFFF0 to 0x10 has distance 32 and is valid"; the same backwards, by a branch and -8; RVC_JUMP; and at 2^64
+    ∷ (laid 17 0x000000EF 0x10 0xFFFFFFF0 is pos 0x020000EF)
+    ∷ (gives 17 0x000000EF 0x10 0xFFFFFFF0 is pos 0)
+    ∷ (laid 16 0x00000063 0xFFFFFFFC 0x4 is pos 0xFE000CE3)
+    ∷ (gives 16 0x00000063 0xFFFFFFFC 0x4 is pos 0)
+    ∷ (laid 45 0xA001 0 0xFFFFFFF8 is pos 0xA021)
+    ∷ (gives 45 0xA001 0 0xFFFFFFF8 is pos 0)
+    ∷ (laid64 17 0x000000EF 0x10 0xFFFFFFFFFFFFFFF0 is pos 0x020000EF)
+    ∷ (gives64 17 0x000000EF 0x10 0xFFFFFFFFFFFFFFF0 is pos 0)
+    ∷ (laid64 16 0x00000063 0xFFFFFFFFFFFFFFFC 0x4 is pos 0xFE000CE3)
+    ∷ (gives64 16 0x00000063 0xFFFFFFFFFFFFFFFC 0x4 is pos 0)
+    ∷ (laid64 45 0xA001 0 0xFFFFFFFFFFFFFFF8 is pos 0xA021)
+    ∷ (gives64 45 0xA001 0 0xFFFFFFFFFFFFFFF8 is pos 0)
+    -- in class 2 nothing wraps at 2^32
+    ∷ (gives64 17 0x000000EF 0x10 0xFFFFFFF0 is pos 13)
+    -- the farthest JAL across the top, ahead and back, is done, and one step more gives 13; so does half of all addresses
+    ∷ (gives 17 0x000000EF 0xFFFEE 0xFFFFFFF0 is pos 0)
+    ∷ (gives 17 0x000000EF 0xFFFF0 0xFFFFFFF0 is pos 13)
+    ∷ (gives 17 0x000000EF 0xFFF00010 0x10 is pos 0)
+    ∷ (gives 17 0x000000EF 0xFFF0000E 0x10 is pos 13)
+    ∷ (gives 17 0x000000EF 0x80000000 0 is pos 13)
+    ∷ (gives64 17 0x000000EF 0xFFFEE 0xFFFFFFFFFFFFFFF0 is pos 0)
+    ∷ (gives64 17 0x000000EF 0xFFFF0 0xFFFFFFFFFFFFFFF0 is pos 13)
+    ∷ (gives64 17 0x000000EF 0xFFFFFFFFFFF00010 0x10 is pos 0)
+    ∷ (gives64 17 0x000000EF 0xFFFFFFFFFFF0000E 0x10 is pos 13)
+    ∷ (gives64 17 0x000000EF 0x8000000000000000 0 is pos 13)
     ∷ []
 
 pub right : map (λ n. n .given) numbers ≡ map (λ n. n .said) numbers

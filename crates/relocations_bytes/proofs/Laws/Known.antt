@@ -70,7 +70,7 @@ so-many u n f b e =
 part-known : (w : ℕ) → 32 ≤ w → (part : Part) (f : Field) (b u v t p : ℕ) → suitsPart part f ≡ true → SaidPart w part f b v t p → SaidPart w part f u v t p
     → read (layout f) b ≡ read (layout f) u
 part-known w h Whole f b u v t p e x y = x ∙ sym y
-part-known w h Distance f b u v t p e x y = signed-known (valueBits f) _ _ _ (read-lt f b) (read-lt f u) x y
+part-known w h Distance f b u v t p e x y = signed-known (valueBits f) _ _ _ (read-lt f b) (read-lt f u) (x .0) (y .0)
 part-known w h High f b u v t p e x y = extended-known w _ _ h (so-many 4096 32 f b e) (so-many 4096 32 f u e) (x ∙ sym y)
 part-known w h Low f b u v t p e x y = signed-known 12 _ _ _ (so-many 1 12 f b e) (so-many 1 12 f u e) x y
 part-known w h BothHalves f b u v t p e x y = call-known w h f b u v e x y

@@ -1,5 +1,5 @@
 -- What a relocation has stored, read by the manual's fields, is what document 01's table says.
-use mathlib.Core.Path.{_≡_, refl, sym, ap, _∙_}
+use mathlib.Core.Path.{_≡_, refl, sym, ap, _∙_, subst}
 use mathlib.Core.Bool.{Bool, true, false, _&&_}
 use Prim.Native.Nat.{ℕ, _+_, _*_, _/_, _%_, _^_, _≤_, _<_}
 use native.Mathlib.Nat.{mod-eq-of-lt, mod-one, mul-mod-right}
@@ -12,7 +12,7 @@ use Rattle.numbers_definitions.specs.declared.Class.the-variants.{Elf32, Elf64}
 use Rattle.numbers_definitions.specs.Classes.{bits}
 use Rattle.numbers_definitions.specs.Whole.{residue, signed, even, minus}
 use Rattle.numbers_definitions.proofs.Laws.Tests.{and-left, and-right, never}
-use Rattle.numbers_definitions.proofs.Laws.Whole.{residue-lt, signed-residue}
+use Rattle.numbers_definitions.proofs.Laws.Whole.{residue-lt, signed-residue, residue-signed, minus-lt}
 use Rattle.instructions_fields.specs.declared.Field.{Field}
 use Rattle.instructions_fields.specs.declared.Field.the-variants.{U, I, S, B, J, Cb, Cj, Call, Data}
 use Rattle.instructions_fields.specs.Layouts.{formatU, formatI, read, put}
@@ -32,7 +32,7 @@ use Rattle.relocations_types.specs.Types.{table, decision}
 use Rattle.instructions_riscv.specs.Halves.{high, low}
 use Rattle.instructions_riscv.specs.Ranges.{distance, rangeOf, reaches, halvesReach}
 use Rattle.instructions_riscv.proofs.Laws.Halves.{HighSpelt, high-spelt-32, near-spelt, high-extended, low-half-spelt, halves-whole}
-use Rattle.instructions_riscv.proofs.Laws.Ranges.{branch-reads-back, jal-reads-back, rvc-branch-reads-back, rvc-jump-reads-back}
+use Rattle.instructions_riscv.proofs.Laws.Ranges.{branch-reads-back, jal-reads-back, rvc-branch-reads-back, rvc-jump-reads-back, distance-leads}
 use Rattle.relocations_decisions.specs.Decisions.{stacks}
 use Rattle.relocations_rules.specs.Rules.{partReaches, reachesWell}
 use Rattle.relocations_decisions.specs.Widths.{isDataField}
@@ -216,10 +216,6 @@ call-back w b d h near small =
     (ap (extended w) (call-high b (high w d) (lowPart w d) ls) ∙ high-extended w d h near)
     (ap (signed 12) (call-low b (high w d) (lowPart w d) ls) ∙ signed-residue 12 (low w d) (low-half-spelt w d (omega arith)))
 
-minus-lt : (w t p : ℕ) → minus w t p < 2 ^ w
-unfolding minus
-minus-lt w t p = residue-lt w (distance t p)
-
 -- both halves of T - P, which only a CALL has
 both-back : (w : ℕ) (f : Field) (b d : ℕ) → 32 ≤ w → isCall f ≡ true → HighSpelt w d → d < 2 ^ w
     → residue w (signed 32 (read formatU (put (layout f) b (highPart w d + lowPart w d))) +ℤ signed 12 (read formatI (put (layout f) b (highPart w d + lowPart w d) / 2 ^ 32))) ≡ d
@@ -243,9 +239,13 @@ module _ (k : Class) (f : Field) (b t p d : ℕ) (small : t < 2 ^ bits k) where
   Back part o = SaidPart w part f (put (layout f) b (partOf w part (operandOf w o t p d))) (operandOf w o t p d) t p
 
   back-part : (part : Part) (o : Operand) → suitsPart part f ≡ true → hasPart part o ≡ true → partReaches k part o f t p ≡ true → Back part o
-  unfolding minus
   back-part Whole o e g r = plain-back f b (operandOf w o t p d) e
-  back-part Distance PcRelative e g r = jump-back f w b (distance t p) (wide k) e r
+  back-part Distance PcRelative e g r =
+      let field : signed (valueBits f) (read (layout f) (put (layout f) b (minus w t p))) ≡ distance w t p =
+      subst (λ n. signed (valueBits f) (read (layout f) (put (layout f) b n)) ≡ distance w t p)
+      (residue-signed w (minus w t p) (minus-lt w t p))
+      (jump-back f w b (distance w t p) (wide k) e r) in
+      (field, ap (λ z. residue w (pos p +ℤ z)) field ∙ distance-leads w t p small)
   back-part Distance Absolute e g r = never g
   back-part Distance Paired e g r = never g
   back-part High Absolute e g r = high-back f b w t (wide k) (reach-spelt k t small r) e

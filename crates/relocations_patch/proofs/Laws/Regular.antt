@@ -9,7 +9,7 @@ use Rattle.numbers_definitions.specs.declared.Class.the-variants.{Elf32, Elf64}
 use Rattle.numbers_definitions.specs.Classes.{bits}
 use Rattle.numbers_definitions.specs.Whole.{residue, signed, even, minus}
 use Rattle.numbers_definitions.proofs.Laws.Tests.{never}
-use Rattle.numbers_definitions.proofs.Laws.Whole.{cut-signed}
+use Rattle.numbers_definitions.proofs.Laws.Whole.{cut-signed, minus-lt}
 use Rattle.instructions_fields.specs.declared.Width.{Width}
 use Rattle.instructions_fields.specs.declared.Field.{Field}
 use Rattle.instructions_fields.specs.declared.Field.the-variants.{Data}
@@ -18,7 +18,8 @@ use Rattle.instructions_fields.specs.Fields.{layout}
 use Rattle.instructions_riscv.specs.declared.forms.Form.{Form}
 use Rattle.instructions_riscv.specs.declared.forms.Form.the-variants.{Any, Lui, Auipc, Jal, Branch, LowI, LowS, CallPair, CBranch, CJump}
 use Rattle.instructions_riscv.specs.Forms.{hasForm}
-use Rattle.instructions_riscv.specs.Ranges.{halvesReach}
+use Rattle.instructions_riscv.specs.declared.ranges.Range.{Range}
+use Rattle.instructions_riscv.specs.Ranges.{rangeOf, reaches, halvesReach}
 use Rattle.relocations_types.specs.declared.Operand.{Operand}
 use Rattle.relocations_types.specs.declared.Operand.the-variants.{Absolute, PcRelative, Paired}
 use Rattle.relocations_types.specs.declared.Part.{Part}
@@ -62,13 +63,13 @@ regular-each =
             (
               (refl, refl),
               (
-                (by PcRelative, refl),
+                (refl, refl),
                 (
-                  (by PcRelative, refl),
+                  (refl, refl),
                   (
-                    (by PcRelative, refl),
+                    (refl, refl),
                     (
-                      (by PcRelative, refl),
+                      (refl, refl),
                       (
                         (refl, refl),
                         (
@@ -193,6 +194,17 @@ pub both-reach : (k : Class) (c : Calculation) (t p d v : ℕ) → c ≡ Of Both
     → (eqb (v % 2) 0 && halvesReach k v) ≡ (even (pos (minus (bits k) t p)) && operandReaches k PcRelative t p)
 unfolding even
 both-reach k c t p d v is v-is = ap (λ v. eqb (v % 2) 0 && halvesReach k v) (v-is ∙ ap (λ c. operandBy (bits k) c t p d) is)
+
+-- ---- check 13 of a jump or branch, whose operand is T - P
+
+pub jump-reaches :
+    (k : Class) (c : Calculation) (f : Field) (t p d v : ℕ) (r : Range) (b : Bool) → c ≡ Of Distance PcRelative → v ≡ operandBy (bits k) c t p d → r ≡ rangeOf f
+    → (v < 2 ^ bits k → b ≡ reaches r (signed (bits k) v)) → b ≡ partReaches k Distance PcRelative f t p
+jump-reaches k c f t p d v r b is v-is r-is e =
+    let v-known : v ≡ minus (bits k) t p = v-is ∙ ap (λ c. operandBy (bits k) c t p d) is in
+    e (subst (λ n. n < 2 ^ bits k) (sym v-known) (minus-lt (bits k) t p))
+    ∙ ap (λ r. reaches r (signed (bits k) v)) r-is
+    ∙ ap (λ v. reaches (rangeOf f) (signed (bits k) v)) v-known
 
 -- ---- data
 

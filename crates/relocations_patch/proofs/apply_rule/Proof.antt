@@ -12,7 +12,7 @@ use Rattle.instructions_riscv.specs.declared.forms.Form.the-variants.{LowI, Low
 use Rattle.relocations_types.specs.declared.Operand.the-variants.{PcRelative}
 use Rattle.relocations_types.specs.declared.Part.the-variants.{Distance, High, Low, BothHalves}
 use Rattle.relocations_patch.specs.Regular.{Regular}
-use Rattle.relocations_patch.proofs.Laws.Regular.{upper-instruction, high-reaches, both-reach, instruction-made, data-made}
+use Rattle.relocations_patch.proofs.Laws.Regular.{upper-instruction, high-reaches, both-reach, jump-reaches, instruction-made, data-made}
 use borrow.Author.Needs.{needs}
 use Rattle.relocations_patch.proofs.apply_rule.Statement.{statement}
 use Rattle.relocations_patch.proofs.apply_rule.Tie as tie
@@ -93,16 +93,17 @@ returns-4 c =
     let s : tie.Start = search in
     let a = s .args in
     let o : tie.After-operand-value = search in
-    let told = c .before .before .before .enum-told4 .given .1 in
+    let told = c .before .before .before .before .enum-told4 .given .1 in
     let g : Regular (a .calculation) B (a .form) = subst (λ f. Regular (a .calculation) f (a .form)) told (s .pre) in
     instruction-made (a .class) (a .calculation) (a .form) (a .found) (a .w) (target s) (a .p .0) (a .d) (signed 64 (a .x))
     (a .field) B Distance Branch _ _ _ _
     told
-    (g .0)
+    (record { operand = PcRelative; is = g .0 })
     (g .1)
     refl
-    (c .before .before .has-form3 .ensures)
-    (c .before .jump-reaches .ensures)
+    (c .before .before .before .has-form3 .ensures)
+    (jump-reaches (a .class) (a .calculation) B (target s) (a .p .0) (a .d) _ _ _ (g .0)
+    (o .operand-value .ensures) (c .before .before .range-of .ensures) (c .before .in-reach .ensures))
     (o .operand-value .ensures)
     (c .put-b .ensures)
 
@@ -111,16 +112,17 @@ returns-5 c =
     let s : tie.Start = search in
     let a = s .args in
     let o : tie.After-operand-value = search in
-    let told = c .before .before .before .enum-told5 .given .1 in
+    let told = c .before .before .before .before .enum-told5 .given .1 in
     let g : Regular (a .calculation) J (a .form) = subst (λ f. Regular (a .calculation) f (a .form)) told (s .pre) in
     instruction-made (a .class) (a .calculation) (a .form) (a .found) (a .w) (target s) (a .p .0) (a .d) (signed 64 (a .x))
     (a .field) J Distance Jal _ _ _ _
     told
-    (g .0)
+    (record { operand = PcRelative; is = g .0 })
     (g .1)
     refl
-    (c .before .before .has-form4 .ensures)
-    (c .before .jump-reaches2 .ensures)
+    (c .before .before .before .has-form4 .ensures)
+    (jump-reaches (a .class) (a .calculation) J (target s) (a .p .0) (a .d) _ _ _ (g .0)
+    (o .operand-value .ensures) (c .before .before .range-of2 .ensures) (c .before .in-reach2 .ensures))
     (o .operand-value .ensures)
     (c .put-j .ensures)
 
@@ -129,16 +131,17 @@ returns-6 c =
     let s : tie.Start = search in
     let a = s .args in
     let o : tie.After-operand-value = search in
-    let told = c .before .before .before .enum-told6 .given .1 in
+    let told = c .before .before .before .before .enum-told6 .given .1 in
     let g : Regular (a .calculation) Cb (a .form) = subst (λ f. Regular (a .calculation) f (a .form)) told (s .pre) in
     instruction-made (a .class) (a .calculation) (a .form) (a .found) (a .w) (target s) (a .p .0) (a .d) (signed 64 (a .x))
     (a .field) Cb Distance CBranch _ _ _ _
     told
-    (g .0)
+    (record { operand = PcRelative; is = g .0 })
     (g .1)
     refl
-    (c .before .before .has-form5 .ensures)
-    (c .before .jump-reaches3 .ensures)
+    (c .before .before .before .has-form5 .ensures)
+    (jump-reaches (a .class) (a .calculation) Cb (target s) (a .p .0) (a .d) _ _ _ (g .0)
+    (o .operand-value .ensures) (c .before .before .range-of3 .ensures) (c .before .in-reach3 .ensures))
     (o .operand-value .ensures)
     (c .put-cb .ensures)
 
@@ -147,16 +150,17 @@ returns-7 c =
     let s : tie.Start = search in
     let a = s .args in
     let o : tie.After-operand-value = search in
-    let told = c .before .before .before .enum-told7 .given .1 in
+    let told = c .before .before .before .before .enum-told7 .given .1 in
     let g : Regular (a .calculation) Cj (a .form) = subst (λ f. Regular (a .calculation) f (a .form)) told (s .pre) in
     instruction-made (a .class) (a .calculation) (a .form) (a .found) (a .w) (target s) (a .p .0) (a .d) (signed 64 (a .x))
     (a .field) Cj Distance CJump _ _ _ _
     told
-    (g .0)
+    (record { operand = PcRelative; is = g .0 })
     (g .1)
     refl
-    (c .before .before .has-form6 .ensures)
-    (c .before .jump-reaches4 .ensures)
+    (c .before .before .before .has-form6 .ensures)
+    (jump-reaches (a .class) (a .calculation) Cj (target s) (a .p .0) (a .d) _ _ _ (g .0)
+    (o .operand-value .ensures) (c .before .before .range-of4 .ensures) (c .before .in-reach4 .ensures))
     (o .operand-value .ensures)
     (c .put-cj .ensures)
 
@@ -216,15 +220,19 @@ apply-rule-spec =
     (λ c κs. search needs)
     (λ c κs. search needs)
     (λ c κs. search needs)
-    (λ c. search needs)
-    (λ c κs. search needs)
-    (λ c κs. search needs)
     (λ c κs. search needs)
     (λ c. search needs)
     (λ c κs. search needs)
     (λ c κs. search needs)
     (λ c κs. search needs)
+    (λ c κs. search needs)
     (λ c. search needs)
+    (λ c κs. search needs)
+    (λ c κs. search needs)
+    (λ c κs. search needs)
+    (λ c κs. search needs)
+    (λ c. search needs)
+    (λ c κs. search needs)
     (λ c κs. search needs)
     (λ c κs. search needs)
     (λ c κs. search needs)

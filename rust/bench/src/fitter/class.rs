@@ -100,7 +100,7 @@ pub trait Class: 'static {
     fn split_pairs(bytes: &[u8], count: usize) -> Option<(&[Self::Pair], &[u8])>;
     fn pair(pair: &Self::Pair) -> (u32, u64);
 
-    /// T - P, as far as 64 bits hold it.
+    /// T - P, reduced to a signed number as long as an address.
     fn distance(t: Self::Word, place: u64) -> i64;
 }
 
@@ -207,7 +207,7 @@ impl Class for Elf32 {
 
     #[inline(always)]
     fn distance(t: u32, place: u64) -> i64 {
-        i64::from(t) - place as i64
+        i64::from(t.wrapping_sub(place as u32) as i32)
     }
 }
 

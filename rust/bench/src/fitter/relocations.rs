@@ -66,14 +66,12 @@ impl Entry {
 #[inline(always)]
 pub fn wrong_distance<C: Class>(value: C::Word, entry: Entry, place: u64, rules: &Rules) -> i64 {
     let t = C::Word::cut(value.whole().wrapping_add_signed(entry.addend));
-    if !C::IS_64 {
-        return (C::distance(t, place) + rules.reach) & rules.outside;
-    }
-    let from = place & i64::from(rules.from_place) as u64;
-    let distance = C::distance(t, from);
-    // The sign of the distance is that of the whole one, unless it went around.
-    let around = (distance ^ -i64::from(t.whole() < from)) & i64::MIN;
-    distance.wrapping_add(rules.reach) & rules.outside | around & i64::from(rules.is_whole)
+    // HI20 has no range in class 1.
+    let from = match C::IS_64 {
+        true => place & i64::from(rules.from_place) as u64,
+        false => place,
+    };
+    C::distance(t, from).wrapping_add(rules.reach) & rules.outside
 }
 
 /// What a relocation's rules ask about those before it.

@@ -36,8 +36,6 @@ pub struct Rules {
     pub width: u8,
     /// -1 where the distance is from P on, and 0 where it is from 0 on.
     pub from_place: i8,
-    /// -1 where the distance must not go around the end of memory.
-    pub is_whole: i8,
     /// A bit of [`form`]: what must stand at the place.
     pub form: u8,
     /// 1 where the place's address must be even.
@@ -94,7 +92,6 @@ const REFUSED: Rules = Rules {
     outside: 0,
     width: 0,
     from_place: -1,
-    is_whole: 0,
     form: 0,
     even: 0,
     way: Way::Refused,
@@ -140,7 +137,6 @@ const fn jump(width: u8, form: u8, reach: i64) -> Rules {
     Rules {
         reach,
         outside: !(2 * reach - 1) | 1,
-        is_whole: -1,
         ..instruction(width, form)
     }
 }
@@ -301,7 +297,7 @@ const S: Effect = instruction_field(Effect {
     up_7: 0xF80,
     ..NOTHING
 });
-/// The top bit is that of the whole distance, since it is in reach.
+/// The top bit is the distance's sign, since it is in reach.
 const B: Effect = instruction_field(Effect {
     straight: 0x8000_0000,
     up_20: 0x7E00_0000,
@@ -309,7 +305,7 @@ const B: Effect = instruction_field(Effect {
     bit_11: 0x80,
     ..NOTHING
 });
-/// The top bit is that of the whole distance.
+/// The top bit is the distance's sign.
 const J: Effect = instruction_field(Effect {
     straight: 0x800F_F000,
     up_20: 0x7FE0_0000,

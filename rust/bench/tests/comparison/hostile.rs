@@ -43,9 +43,9 @@ fn answer_of_both(fit: &Fit) -> (u32, u32) {
 /// Far halves and jumps: T and P anywhere, often just in reach or just out of it.
 fn distances(random: &mut Random) -> Fit {
     let place = match random.below(4) {
-        0 => 0x1000,
+        0 => random.pick(&[0, 0x1000]),
         1 => random.u64() & !0xFFF,
-        2 => 0_u64.wrapping_sub(0x1000),
+        2 => 0_u64.wrapping_sub(random.pick(&[8, 0x1000])),
         _ => 1 << random.pick(&[31, 32, 63]),
     };
     let (kind, words, reach) = random.pick(&[

@@ -74,7 +74,7 @@ fn lists_of_calls() {
     }
 }
 
-/// The bytes that GNU ld lays, and all as before after a rollback.
+/// The bytes that a linker lays, and all as before after a rollback.
 #[test]
 fn real_objects() {
     let objects = objects();

@@ -86,13 +86,15 @@ fn calls() -> Vec<Case> {
     cases
 }
 
-/// "16, 17, 44, 45 keep the whole number T - P", and T is modulo 2^64.
+/// 16, 17, 44 and 45: the distance and T go around 2^64, and not around 2^32.
 fn jumps() -> Vec<Case> {
-    let rows: [(u64, u64, i64, Answer); 13] = [
+    let rows: [(u64, u64, i64, Answer); 15] = [
         (0, 2, 0, DONE),
-        (0, TOP - 1, 0, (13, 0)),
-        (TOP - 15, 0, 0, (13, 0)),
+        (0, TOP - 1, 0, DONE),
+        (TOP - 15, 0, 0, DONE),
         (TOP - 15, TOP - 1, 0, DONE),
+        (0, 0xFFFF_FFFE, 0, (13, 0)),
+        (0xFFFF_FFF0, 0, 0, (13, 0)),
         (0xFFFF_FFF0, 1 << 32, 0, DONE),
         (1 << 32, 0xFFFF_FFF0, 0, DONE),
         ((1 << 63) - 8, 1 << 63, 0, DONE),

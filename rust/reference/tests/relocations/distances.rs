@@ -108,12 +108,10 @@ impl Jump {
         both.map(case).collect()
     }
 
-    /// "the distance is the whole number T - P", and only T is reduced.
-    fn wrapping(&self) -> Vec<Case> {
-        let rows: [(&str, u64, u64, Answer); 8] = [
+    /// Between the ends of the address space and its middle, but not around it.
+    fn inside(&self) -> Vec<Case> {
+        let rows: [(&str, u64, u64, Answer); 6] = [
             ("from 0 up", 0, 2, DONE),
-            ("from 0 down around", 0, 0xFFFF_FFFE, (13, 0)),
-            ("from the top around", 0xFFFF_FFF0, 0, (13, 0)),
             ("to the top", 0xFFFF_FFF0, 0xFFFF_FFFE, DONE),
             ("up across 2^31", 0x7FFF_FFF8, 0x8000_0006, DONE),
             ("down across 2^31", 0x8000_0006, 0x7FFF_FFF8, DONE),
@@ -125,12 +123,46 @@ impl Jump {
             .collect()
     }
 
+    /// "T - P reduced to the signed range of the address width", from the last
+    /// instruction of the address space and from its first: the farthest, with
+    /// the bytes, and one step more.
+    fn across_the_top(&self, class: Class) -> Vec<Case> {
+        let end = class.address_end();
+        let last = (end - self.width as i128) as u64;
+        let over = |place: u64, distance: i64| {
+            let target = (i128::from(place) + i128::from(distance)).rem_euclid(end);
+            let bytes = self.bytes(self.word);
+            match class {
+                Class::Elf32 => one(self.kind, &bytes, place, target as u64),
+                Class::Elf64 => one_64(self.kind, &bytes, place, target as u64),
+            }
+        };
+        let name = |d: i64| self.name(format!("{d} across the top, {class:?}"));
+        let (low, high) = (-self.reach, self.reach - 2);
+        let mut cases = vec![
+            Case::done(name(low), &over(0, low), &self.bytes(self.lowest)),
+            Case::done(name(high), &over(last, high), &self.bytes(self.highest)),
+        ];
+        let kept = [(0, -2), (0, -8), (last, 4), (last, 32)];
+        cases.extend(kept.map(|(p, d)| Case::new(name(d), &over(p, d), DONE)));
+        let broken = [
+            (0, -1),
+            (0, low - 1),
+            (0, low - 2),
+            (last, 5),
+            (last, high + 1),
+            (last, high + 2),
+        ];
+        cases.extend(broken.map(|(p, d)| Case::new(name(d), &over(p, d), (13, 0))));
+        cases.into_iter().map(Case::only_in_class_1).collect()
+    }
+
     /// "S + A is reduced modulo 2^32, then called T."
     fn reduced(&self) -> Vec<Case> {
         let rows: [(u64, u64, i64, Answer); 7] = [
             (0, 0xFFFF_FFFE, 4, DONE),
             (0xFFFF_FFF0, 2, -4, DONE),
-            (0, 0, -2, (13, 0)),
+            (0, 0, -2, DONE),
             (0, 0x8000_0000, LOWEST, DONE),
             (0x7FFF_FFF8, 0, HIGHEST, (13, 0)),
             (0x7FFF_FFF8, 1, HIGHEST, DONE),
@@ -184,7 +216,10 @@ pub fn cases() -> Vec<Case> {
     for jump in &JUMPS {
         cases.extend(jump.ends());
         cases.extend(jump.bits());
-        cases.extend(jump.wrapping());
+        cases.extend(jump.inside());
+        for class in Class::ALL {
+            cases.extend(jump.across_the_top(class));
+        }
         cases.extend(jump.reduced());
     }
     cases.extend(calls(CALL));

@@ -1,5 +1,5 @@
-//! Document 01's "Errors we have met" and its bench numbers, each stated by
-//! hand.
+//! Document 01's "Errors we have met" and its bench numbers, with those of Ticket
+//! 3, each stated by hand.
 
 use crate::fits::*;
 use crate::{Case, DONE};
@@ -42,6 +42,27 @@ fn jumps() -> Vec<Case> {
         short("c.j -2", RVC_JUMP, 0xA001, PLACE - 2, 0xBFFD),
         short("c.beqz 8", RVC_BRANCH, 0xC101, PLACE + 8, 0xC501),
     ]
+}
+
+/// Ticket 3: "a JAL at 0xFFFFFFF0 to 0x10 has distance 32 and is valid"; a branch
+/// the other way; and both in class 2, with a short jump.
+fn across_the_top() -> Vec<Case> {
+    const TOP: u64 = u64::MAX;
+    let (jal, branch) = (words(&[0xEF]), words(&[0x63]));
+    let (jal_after, branch_after) = (words(&[0x0200_00EF]), words(&[0xFE00_0CE3]));
+    let forward = one(JAL, &jal, 0xFFFF_FFF0, 0x10);
+    let back = one(BRANCH, &branch, 4, 0xFFFF_FFFC);
+    let forward_64 = one_64(JAL, &jal, TOP - 15, 0x10);
+    let back_64 = one_64(BRANCH, &branch, 4, TOP - 3);
+    let short_64 = one_64(RVC_JUMP, &[0x01, 0xA0], TOP - 1, 2);
+    let cases = [
+        Case::done("jal across the top", &forward, &jal_after),
+        Case::done("branch across the top", &back, &branch_after),
+        Case::done("jal across 2^64", &forward_64, &jal_after),
+        Case::done("branch across 2^64", &back_64, &branch_after),
+        Case::done("c.j across 2^64", &short_64, &[0x11, 0xA0]),
+    ];
+    cases.map(Case::only_in_class_1).into()
 }
 
 fn data_and_padding() -> Vec<Case> {
@@ -112,6 +133,7 @@ pub fn cases() -> Vec<Case> {
     cases.extend(strong_symbol_without_value());
     cases.extend(halves());
     cases.extend(jumps());
+    cases.extend(across_the_top());
     cases.extend(data_and_padding());
     cases
 }

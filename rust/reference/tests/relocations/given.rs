@@ -1,5 +1,5 @@
 //! The pairs of the repository: of the vectors, and real objects with the bytes
-//! that GNU ld lays.
+//! that a linker lays.
 
 use crate::lines::{loaded_sections, starts_in_image};
 use crate::{Case, Laid};

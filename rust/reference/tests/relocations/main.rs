@@ -40,7 +40,7 @@ pub const DONE: Answer = (0, 0);
 pub type Laid = (usize, Vec<u8>);
 
 /// What the program is asked, and where it comes from. What is stated is
-/// stated by hand, by a vector or by GNU ld.
+/// stated by hand, by a vector or by a linker.
 #[derive(Clone, Debug)]
 pub struct Case {
     pub name: String,

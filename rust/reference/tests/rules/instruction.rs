@@ -1,6 +1,8 @@
 //! Instruction forms (check 11) and distances (check 13).
 
 use crate::DONE;
+use reference::fields::{extract, Layout, B, CB, CJ, J};
+use reference::numbers::number_from;
 use testing::build::*;
 
 const PLACE: u64 = 0x1000;
@@ -138,16 +140,18 @@ fn instructions_lie_at_even_addresses() {
     }
 }
 
+/// Jumps and branches: type, instruction, its field, and how far that reaches.
+const JUMPS: [(u32, u64, Layout, i64); 4] = [
+    (16, 0x63, B, 4_096),
+    (17, 0x6F, J, 1_048_576),
+    (44, 0xC101, CB, 256),
+    (45, 0xA001, CJ, 2_048),
+];
+
 #[test]
 fn distances_at_both_ends() {
     const PLACE: i64 = 0x2000_0000;
-    let words = [
-        (16, 0x63, 4_096),
-        (17, 0x6F, 1_048_576),
-        (44, 0xC101, 256),
-        (45, 0xA001, 2_048),
-    ];
-    for (kind, word, reach) in words {
+    for (kind, word, _, reach) in JUMPS {
         let to = |distance: i64| towards(kind, word, PLACE as u64, (PLACE + distance) as u64);
         assert_eq!(to(-reach), DONE, "type {kind}");
         assert_eq!(to(reach - 2), DONE, "type {kind}");
@@ -166,24 +170,60 @@ fn distances_at_both_ends() {
     }
 }
 
-/// "the distance is the whole number T - P": it does not wrap around.
+/// "T - P reduced to the signed range of the address width": the field reads as
+/// this distance, which goes around the end of memory as far as the field reaches.
 #[test]
-fn distances_do_not_wrap() {
-    for (class, top) in [
-        (Class::Elf32, u64::from(u32::MAX)),
-        (Class::Elf64, u64::MAX),
-    ] {
-        for (kind, word) in [(16, 0x63), (17, 0x6F), (44, 0xC101), (45, 0xA001)] {
+fn distances_across_the_top() {
+    for class in Class::ALL {
+        let end = class.address_end();
+        let last = (end - 8) as u64;
+        for (kind, word, field, reach) in JUMPS {
+            let over = |place: u64, distance: i64| {
+                let target = (i128::from(place) + i128::from(distance)).rem_euclid(end);
+                at(kind, word, place, target as u64).of(class)
+            };
+            for (place, kept, broken) in [
+                (last, [8, 10, reach - 2], [9, reach - 1, reach]),
+                (0, [-2, -8, -reach], [-1, -reach - 1, -reach - 2]),
+            ] {
+                for distance in kept {
+                    let laid = number_from(&over(place, distance).laid());
+                    let read = extract(field, laid);
+                    assert_eq!(read, i128::from(distance), "type {kind}, {class:?}");
+                }
+                for distance in broken {
+                    let answer = over(place, distance).answer();
+                    assert_eq!(answer, (13, 0), "type {kind}, {distance}, {class:?}");
+                }
+            }
+        }
+    }
+}
+
+/// What lies in the middle of memory, and half of it away: both ways are too far.
+#[test]
+fn distances_at_half_the_range() {
+    for class in Class::ALL {
+        let half = (class.address_end() / 2) as u64;
+        for (kind, word, ..) in JUMPS {
             let to = |place, target| at(kind, word, place, target).of(class).answer();
-            assert_eq!(to(0, 2), DONE, "type {kind}");
-            assert_eq!(to(0, top - 1), (13, 0), "type {kind}");
-            assert_eq!(to(top - 15, 0), (13, 0), "type {kind}");
-            assert_eq!(to(top - 15, top - 1), DONE, "type {kind}");
-            let half = top / 2 + 1;
             assert_eq!(to(half - 8, half), DONE, "type {kind}");
             assert_eq!(to(half, half - 8), DONE, "type {kind}");
-            assert_eq!(to(0, half), (13, 0), "type {kind}");
-            assert_eq!(to(half, 0), (13, 0), "type {kind}");
+            for (place, target) in [(0, half), (half, 0), (0, half - 2), (half - 2, 0)] {
+                assert_eq!(to(place, target), (13, 0), "type {kind}");
+            }
+        }
+    }
+}
+
+/// In class 2 nothing goes around 2^32.
+#[test]
+fn no_top_at_2_32_in_class_2() {
+    for (kind, word, ..) in JUMPS {
+        for (place, target) in [(0, 0xFFFF_FFF8), (0xFFFF_FFF8, 0)] {
+            let fit = at(kind, word, place, target);
+            assert_eq!(fit.answer(), DONE, "type {kind}");
+            assert_eq!(fit.of(Class::Elf64).answer(), (13, 0), "type {kind}");
         }
     }
 }
