@@ -21,14 +21,14 @@ fn lay_at(
     object: &[u8],
     order: &[u8],
     counts: OrderHeader,
-    addresses: Addresses,
+    addresses: &[u64],
     words: &[u64],
     sizes: &[u8],
     t: usize,
     at: usize,
     image: &mut [u8],
 )
-    requires { ⌜ Fitting (now object) (now order) counts (length (now image)) × (addresses ≡ addressesFor (now object) (now order)) × Worked (now object) (now order) addresses (now words) (now sizes) × (t < sectionCount (now object)) × (loaded (sectionAt (now object) t) ≡ true) × (at + sectionAt (now object) t .size ≤ length (now image)) ⌝ }
+    requires { ⌜ Fitting (now object) (now order) counts (length (now image)) × (now addresses ≡ addressesFor (now object) (now order)) × Worked (now object) (now order) (now addresses) (now words) (now sizes) × (t < sectionCount (now object)) × (loaded (sectionAt (now object) t) ≡ true) × (at + sectionAt (now object) t .size ≤ length (now image)) × (sectionCount (now object) ≤ length (now addresses)) ⌝ }
     ensures { λ _. ⌜ now (image .exit) ≡ sets (now (image .entry)) at (relocated (now (object .entry)) (now (order .entry)) (addressesFor (now (object .entry)) (now (order .entry))) t) ⌝ }
 {
     let h = elf_read::read_section(object, t);
@@ -49,13 +49,13 @@ fn lay_one(
     object: &[u8],
     order: &[u8],
     counts: OrderHeader,
-    addresses: Addresses,
+    addresses: &[u64],
     words: &[u64],
     sizes: &[u8],
     t: usize,
     image: &mut [u8],
 )
-    requires { ⌜ Fitting (now object) (now order) counts (length (now image)) × (addresses ≡ addressesFor (now object) (now order)) × Worked (now object) (now order) addresses (now words) (now sizes) × (t < sectionCount (now object)) ⌝ }
+    requires { ⌜ Fitting (now object) (now order) counts (length (now image)) × (now addresses ≡ addressesFor (now object) (now order)) × Worked (now object) (now order) (now addresses) (now words) (now sizes) × (t < sectionCount (now object)) × (sectionCount (now object) ≤ length (now addresses)) ⌝ }
     ensures { λ _. ⌜ now (image .exit) ≡ withSection (now (object .entry)) (now (order .entry)) t (now (image .entry)) ⌝ }
 {
     let h = elf_read::read_section(object, t);
@@ -92,7 +92,7 @@ pub fn lay(
     let n = elf_read::section_count(object);
     let mut t: usize = 0;
     while t < n {
-        lay_one(object, order, counts, addresses, words, sizes, t, image);
+        lay_one(object, order, counts, &addresses, words, sizes, t, image);
         t += 1;
     }
 }

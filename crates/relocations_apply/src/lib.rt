@@ -18,7 +18,6 @@ ghost use Rattle.relocations_bytes.specs.Sections.{after, relaOf, relocated};
 ghost use Rattle.relocations_check_all.specs.Sites.{Worded, Worked};
 ghost use Rattle.relocations_apply.specs.Requires.{Storable};
 use numbers_bytes::write_bytes;
-use order_lookup::Addresses;
 use relocations_rela::sites::Site;
 use relocations_rela::sites::site_at;
 use relocations_rules::RelocationCheck;
@@ -88,16 +87,17 @@ fn rela_of(object: &[u8], t: usize) -> usize
 pub fn lay_section(
     object: &[u8],
     order: &[u8],
-    addresses: Addresses,
+    addresses: &[u64],
     words: &[u64],
     sizes: &[u8],
     t: usize,
     part: &mut [u8],
 )
-    requires { ⌜ SoundObject (now object) × Placed (now object) addresses × (relocationCheck (now object) (now order) addresses ≡ RelocationCheck.Passed)
-        × Worked (now object) (now order) addresses (now words) (now sizes)
-        × (t < sectionCount (now object)) × (loaded (sectionAt (now object) t) ≡ true) × (length (now part) ≡ sectionAt (now object) t .size) ⌝ }
-    ensures { λ _. ⌜ now (part .exit) ≡ relocated (now (object .entry)) (now (order .entry)) addresses t ⌝ }
+    requires { ⌜ SoundObject (now object) × Placed (now object) (now addresses) × (relocationCheck (now object) (now order) (now addresses) ≡ RelocationCheck.Passed)
+        × Worked (now object) (now order) (now addresses) (now words) (now sizes)
+        × (t < sectionCount (now object)) × (loaded (sectionAt (now object) t) ≡ true) × (length (now part) ≡ sectionAt (now object) t .size)
+        × (sectionCount (now object) ≤ length (now addresses)) ⌝ }
+    ensures { λ _. ⌜ now (part .exit) ≡ relocated (now (object .entry)) (now (order .entry)) (now (addresses .entry)) t ⌝ }
 {
     let h = elf_read::read_section(object, t);
     copy(elf_read::section_bytes(object, h), part);

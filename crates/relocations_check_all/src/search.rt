@@ -143,7 +143,7 @@ pub fn check_relocations(
             i += 1;
             continue 'search;
         }
-        let site = site_at(object, addresses, i);
+        let site = site_at(object, &addresses, i);
         let halt = check_site(
             object,
             symbols,

@@ -1,14 +1,14 @@
 // RELA sections and what they relocate.
 ghost use mathlib.Core.Path.{_≡_};
 ghost use mathlib.Core.Bool.{true};
-ghost use Prim.Native.Nat.{_<_};
+ghost use Prim.Native.Nat.{_≤_, _<_};
+ghost use lib.ListN.{length};
 ghost use Rattle.elf_read.specs.Headers.{sectionCount};
 ghost use Rattle.elf_read.specs.Sections.{countingRela};
 ghost use Rattle.elf_check.specs.Requires.{SoundObject};
 ghost use Rattle.relocations_rela.specs.Sites.{siteAt};
 use elf_read::Section;
 use numbers_definitions::Address;
-use order_lookup::Addresses;
 
 // A RELA section, the section that it relocates (document 01: the target row), and the number and address of that section.
 pub struct Site {
@@ -18,10 +18,10 @@ pub struct Site {
     pub address: Address,
 }
 
-// The site of RELA section i.
-pub fn site_at(object: &[u8], addresses: Addresses, i: usize) -> Site
-    requires { ⌜ SoundObject (now object) × (i < sectionCount (now object)) × (countingRela (now object) i ≡ true) ⌝ }
-    ensures { λ r. ⌜ r ≡ siteAt (now (object .entry)) addresses i ⌝ }
+// The site of RELA section i. The address array is lent: it would be copied for each site.
+pub fn site_at(object: &[u8], addresses: &[u64], i: usize) -> Site
+    requires { ⌜ SoundObject (now object) × (i < sectionCount (now object)) × (countingRela (now object) i ≡ true) × (sectionCount (now object) ≤ length (now addresses)) ⌝ }
+    ensures { λ r. ⌜ r ≡ siteAt (now (object .entry)) (now (addresses .entry)) i ⌝ }
 {
     let rela = elf_read::read_section(object, i);
     let index = rela.info as usize;

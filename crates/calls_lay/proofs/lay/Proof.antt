@@ -14,10 +14,10 @@ use Rattle.calls_lay.proofs.lay.Statement.{statement}
 use Rattle.calls_lay.proofs.lay.Tie as tie
 
 abbrev Inv-loop : tie.InvT-loop
-Inv-loop object order counts addresses words sizes image₀ n t₀ image t = (t ≤ n) × (length image ≡ length image₀) × (image ≡ laidBelow object order image₀ t)
+Inv-loop object order counts words sizes image₀ addresses n t₀ image t = (t ≤ n) × (length image ≡ length image₀) × (image ≡ laidBelow object order image₀ t)
 
 abbrev μ-loop : tie.MeasureT-loop
-μ-loop object order counts addresses words sizes image₀ n t₀ image t = n - t
+μ-loop object order counts words sizes image₀ addresses n t₀ image t = n - t
 
 -- ---- at the start
 
@@ -51,7 +51,8 @@ lay-one-requires : tie.Need-lay-one-requires Inv-loop μ-loop
 lay-one-requires c κs =
     let s : Start = search in
     let l : tie.At-loop Inv-loop μ-loop = search in
-    (subst (Fitting (S s) (O s) (s .args .counts)) (sym (l .loop .inv .1)) (s .pre .0), s .pre .1, s .pre .2, omega (arith, count-is (search)))
+    let long : sectionCount (S s) ≤ length (s .args .t4) = omega (arith, is-sound _ _ _ _ (s .pre .0) .table .few) in
+    (subst (Fitting (S s) (O s) (s .args .counts)) (sym (l .loop .inv .1)) (s .pre .0), s .pre .1, s .pre .2, omega (arith, count-is (search)), long)
 
 loop-again : tie.Need-loop-again Inv-loop μ-loop
 loop-again c =
@@ -78,6 +79,7 @@ lay-spec =
     μ-loop
     section-count-requires
     loop-holds
+    (λ c. search needs)
     lay-one-requires
     (λ c. search needs)
     (λ c. search needs)

@@ -32,7 +32,7 @@ Len c = length (c .args .image .now)
 base-is : (c : tie.Start) → c .args .counts .base .0 ≡ baseFor (S c) (O c)
 base-is c = reading-sound (classOf (S c)) (O c) (c .args .counts) (c .pre .0 .placeable .named .readable .reading-is) .base-is
 
-address : (c : tie.Start) → getD (c .args .t4) (c .args .t) 0 ≡ getD (addressesFor (S c) (O c)) (c .args .t) 0
+address : (c : tie.Start) → getD (c .args .addresses .now) (c .args .t) 0 ≡ getD (addressesFor (S c) (O c)) (c .args .t) 0
 address c = ap (λ l. getD l (c .args .t) 0) (c .pre .1)
 
 -- ---- where the header has been read, and whether the section has bytes
@@ -71,11 +71,8 @@ returns c =
     let s = st r in
     sym (with-none (S s) (O s) (s .args .image .now) (s .args .t) (has-bytes-is r ∙ not-true _ (c .if1 .taken)))
 
-mul-at : tie.Need-mul-at
-mul-at c = let s : tie.Start = search in omega (arith, is-sound _ _ _ _ (s .pre .0) .table .few, s .pre .3)
-
-array-read-at : tie.Need-array-read-at
-array-read-at c = let s : tie.Start = search in omega (arith, is-sound _ _ _ _ (s .pre .0) .table .few, s .pre .3)
+shared-slice-read-at : tie.Need-shared-slice-read-at
+shared-slice-read-at c = let s : tie.Start = search in omega (arith, s .pre .3, s .pre .4)
 
 sub-at : tie.Need-sub-at
 sub-at c = let s : tie.Start = search in omega (arith, inside (search) .0, base-is s, address s)
@@ -84,13 +81,13 @@ lay-at-requires : tie.Need-lay-at-requires
 lay-at-requires c κs =
     let s : tie.Start = search in
     let f = s .pre in
-    (f .0, f .1, f .2, f .3, bytes-loaded (S s) (O s) (s .args .counts) (Len s) (f .0) (s .args .t) (some (search)), omega (arith, inside (search) .0, inside (search) .1, base-is s, address s))
+    (f .0, f .1, f .2, f .3, bytes-loaded (S s) (O s) (s .args .counts) (Len s) (f .0) (s .args .t) (some (search)), omega (arith, inside (search) .0, inside (search) .1, base-is s, address s), f .4)
 
 returns-2 : tie.Need-returns-2
 returns-2 c =
     let s : tie.Start = search in
     let laid : tie.After-lay-at = search in
-    let at : getD (s .args .t4) (s .args .t) 0 - s .args .counts .base .0 ≡ getD (addressesFor (S s) (O s)) (s .args .t) 0 - baseFor (S s) (O s) = omega (arith, base-is s, address s) in
+    let at : getD (s .args .addresses .now) (s .args .t) 0 - s .args .counts .base .0 ≡ getD (addressesFor (S s) (O s)) (s .args .t) 0 - baseFor (S s) (O s) = omega (arith, base-is s, address s) in
     laid .lay-at .ensures ∙ ap (λ k. sets (s .args .image .now) k (relocated (S s) (O s) (addressesFor (S s) (O s)) (s .args .t))) at ∙ sym (with-some (S s) (O s) (s .args .image .now) (s .args .t) (some (search)))
 
 pub lay-one-spec : {M : Type 1} → statement M
@@ -100,8 +97,8 @@ lay-one-spec =
     read-section-requires
     (λ c κs. search needs)
     returns
-    mul-at
-    array-read-at
+    (λ c. search needs)
+    shared-slice-read-at
     sub-at
     lay-at-requires
     (λ c. search needs)

@@ -24,7 +24,7 @@ use Rattle.relocations_apply.proofs.lay_section.Tie as tie
 -- ---- the places on the way: an inserted line moves one of them
 
 abbrev entered : tie.After-read-section → tie.Start
-entered c = c .before .before .before .before .before .before
+entered c = c .before .before .before .before .before .before .before
 
 abbrev header : tie.After-copy → tie.After-read-section
 header c = c .before .before .before
@@ -40,8 +40,8 @@ chosen c = c .before .before .before
 rela-there : (c : tie.After-site-at) → let a = entered (header (copied (chosen c))) .args in relaOf (a .object .now) (a .t) < sectionCount (a .object .now)
 rela-there c = omega (arith, chosen c .rela-of .ensures, c .before .before .section-count .ensures, c .before .if1 .taken)
 
-site-is : (c : tie.After-site-at) → let a = entered (header (copied (chosen c))) .args in c .site-at .result ≡ siteAt (a .object .now) (a .addresses) (relaOf (a .object .now) (a .t))
-site-is c = let a = entered (header (copied (chosen c))) .args in c .site-at .ensures ∙ ap (siteAt (a .object .now) (a .addresses)) (chosen c .rela-of .ensures)
+site-is : (c : tie.After-site-at) → let a = entered (header (copied (chosen c))) .args in c .site-at .result ≡ siteAt (a .object .now) (a .addresses .now) (relaOf (a .object .now) (a .t))
+site-is c = let a = entered (header (copied (chosen c))) .args in c .site-at .ensures ∙ ap (siteAt (a .object .now) (a .addresses .now)) (chosen c .rela-of .ensures)
 
 -- ---- the needs
 
@@ -68,7 +68,7 @@ site-at-requires c κs =
     let start = entered (header (copied found)) in
     let a = start .args in
     let there : relaOf (a .object .now) (a .t) < sectionCount (a .object .now) = omega (arith, found .rela-of .ensures, c .before .section-count .ensures, c .if1 .taken) in
-    (start .pre .0, rw (found .rela-of .ensures) there, rw (found .rela-of .ensures) (rela-found (a .object .now) (a .t) there .0))
+    (start .pre .0, rw (found .rela-of .ensures) there, rw (found .rela-of .ensures) (rela-found (a .object .now) (a .t) there .0), start .pre .7)
 
 relocations-below-requires : tie.Need-relocations-below-requires
 relocations-below-requires c κs =
@@ -81,7 +81,7 @@ sited c = c .before
 
 -- the words of the site's relocations
 worded : (c : tie.After-relocations-below) → let a = entered (header (copied (chosen (sited c)))) .args in
-    Worded (a .object .now) (a .order .now) (a .addresses) (sited c .site-at .result) (count (a .object .now) (sited c .site-at .result)) (a .words .now) (a .sizes .now) (c .relocations-below .result)
+    Worded (a .object .now) (a .order .now) (a .addresses .now) (sited c .site-at .result) (count (a .object .now) (sited c .site-at .result)) (a .words .now) (a .sizes .now) (c .relocations-below .result)
 worded c =
     let at = sited c in
     let start = entered (header (copied (chosen at))) in
@@ -90,8 +90,8 @@ worded c =
     let base : relocationsBelow (a .object .now) i ≡ c .relocations-below .result =
     sym (c .relocations-below .ensures ∙ ap (relocationsBelow (a .object .now)) (chosen at .rela-of .ensures)) in
     let there = start .pre .3 .worded i (rela-there at) (rela-found (a .object .now) (a .t) (rela-there at) .0) in
-    subst (λ x. Worded (a .object .now) (a .order .now) (a .addresses) x (count (a .object .now) x) (a .words .now) (a .sizes .now) (c .relocations-below .result)) (sym (site-is at))
-    (subst (Worded (a .object .now) (a .order .now) (a .addresses) (siteAt (a .object .now) (a .addresses) i) (count (a .object .now) (siteAt (a .object .now) (a .addresses) i)) (a .words .now) (a .sizes .now)) base there)
+    subst (λ x. Worded (a .object .now) (a .order .now) (a .addresses .now) x (count (a .object .now) x) (a .words .now) (a .sizes .now) (c .relocations-below .result)) (sym (site-is at))
+    (subst (Worded (a .object .now) (a .order .now) (a .addresses .now) (siteAt (a .object .now) (a .addresses .now) i) (count (a .object .now) (siteAt (a .object .now) (a .addresses .now) i)) (a .words .now) (a .sizes .now)) base there)
 
 -- and that there is room for them
 room : (c : tie.After-relocations-below) → c .relocations-below .result + count (entered (header (copied (chosen (sited c)))) .args .object .now) (sited c .site-at .result) ≤ maxRelocations
@@ -101,7 +101,7 @@ room c =
     let a = start .args in
     let i = relaOf (a .object .now) (a .t) in
     let base : c .relocations-below .result ≡ relocationsBelow (a .object .now) i = c .relocations-below .ensures ∙ ap (relocationsBelow (a .object .now)) (chosen at .rela-of .ensures) in
-    omega (arith, ap (count (a .object .now)) (site-is at), site-room (a .object .now) (a .order .now) (a .addresses) (start .pre .0) i (rela-there at) (rela-found (a .object .now) (a .t) (rela-there at) .0))
+    omega (arith, ap (count (a .object .now)) (site-is at), site-room (a .object .now) (a .order .now) (a .addresses .now) (start .pre .0) i (rela-there at) (rela-found (a .object .now) (a .t) (rela-there at) .0))
 
 abbrev numbered : tie.After-apply-all-arg → tie.After-relocations-below
 numbered c = c .before
@@ -117,15 +117,15 @@ apply-all-requires c κs =
     let s = a .object .now in
     let i = relaOf s (a .t) in
     let counts = rela-found s (a .t) (rela-there at) in
-    let fine : Checked s (a .order .now) (a .addresses) (at .site-at .result) =
-    subst (Checked s (a .order .now) (a .addresses)) (sym (site-is at)) (checked s (a .order .now) (a .addresses) (f .0) (f .1) (f .2) i (rela-there at) (counts .0)) in
-    let held = copy .copy .ensures ∙ copy .before .before .section-bytes .ensures ∙ ap (bytesOf s) (header copy .read-section .ensures) ∙ sym (found-target s (a .addresses) (a .t) (rela-there at)) ∙ ap (found s) (sym (site-is at)) in
+    let fine : Checked s (a .order .now) (a .addresses .now) (at .site-at .result) =
+    subst (Checked s (a .order .now) (a .addresses .now)) (sym (site-is at)) (checked s (a .order .now) (a .addresses .now) (f .0) (f .1) (f .2) i (rela-there at) (counts .0)) in
+    let held = copy .copy .ensures ∙ copy .before .before .section-bytes .ensures ∙ ap (bytesOf s) (header copy .read-section .ensures) ∙ sym (found-target s (a .addresses .now) (a .t) (rela-there at)) ∙ ap (found s) (sym (site-is at)) in
     let size = ap length held ∙ found-length s (at .site-at .result) (fine .site) in (
       f .0 .table .header,
       omega (arith, room below, f .3 .words-length),
       omega (arith, room below, f .3 .sizes-length),
       omega (arith, f .3 .words-length),
-      storable s (a .order .now) (a .addresses) (at .site-at .result) (a .words .now) (a .sizes .now) (below .relocations-below .result) _ fine (worded below) (omega (arith, size)),
+      storable s (a .order .now) (a .addresses .now) (at .site-at .result) (a .words .now) (a .sizes .now) (below .relocations-below .result) _ fine (worded below) (omega (arith, size)),
       held,
     )
 
@@ -137,9 +137,9 @@ returns c =
     let start = entered (header (copied (chosen at))) in
     let a = start .args in
     let s = a .object .now in
-    applied .apply-all .ensures .0 (a .order .now) (a .addresses) (worded below)
-    ∙ ap (λ x. after s (a .order .now) (a .addresses) x (count (a .object .now) x)) (site-is at)
-    ∙ sym (relocated-some s (a .order .now) (a .addresses) (a .t) (rela-there at))
+    applied .apply-all .ensures .0 (a .order .now) (a .addresses .now) (worded below)
+    ∙ ap (λ x. after s (a .order .now) (a .addresses .now) x (count (a .object .now) x)) (site-is at)
+    ∙ sym (relocated-some s (a .order .now) (a .addresses .now) (a .t) (rela-there at))
 
 returns-2 : tie.Need-returns-2
 returns-2 c =
@@ -149,7 +149,7 @@ returns-2 c =
     let a = start .args in
     let s = a .object .now in
     let none : sectionCount s ≤ relaOf s (a .t) = omega (arith, found .rela-of .ensures, c .before .section-count .ensures, c .if1 .left) in
-    copy .copy .ensures ∙ copy .before .before .section-bytes .ensures ∙ ap (bytesOf s) (header copy .read-section .ensures) ∙ sym (relocated-none s (a .order .now) (a .addresses) (a .t) none)
+    copy .copy .ensures ∙ copy .before .before .section-bytes .ensures ∙ ap (bytesOf s) (header copy .read-section .ensures) ∙ sym (relocated-none s (a .order .now) (a .addresses .now) (a .t) none)
 
 pub lay-section-spec : {M : Type 1} → statement M
 lay-section-spec =

@@ -24,7 +24,7 @@ use Rattle.relocations_check_all.proofs.search.check_relocations.Statem
 use Rattle.relocations_check_all.proofs.search.check_relocations.Tie as tie
 
 abbrev Inv-search : tie.InvT-search
-Inv-search object order symbols addresses values states highs₀ words₀ sizes₀ n result₀ number₀ i₀ highs words sizes result number i =
+Inv-search object order symbols values states highs₀ words₀ sizes₀ addresses n result₀ number₀ i₀ highs words sizes result number i =
     (i ≤ n)
     × Below object order addresses i number words sizes
     × (length highs ≡ length highs₀)
@@ -33,7 +33,7 @@ Inv-search object order symbols addresses values states highs₀ words₀ sizes�
     × (result ≡ Passed)
 
 abbrev μ-search : tie.MeasureT-search
-μ-search object order symbols addresses values states highs₀ words₀ sizes₀ n result₀ number₀ i₀ highs words sizes result number i = n - i
+μ-search object order symbols values states highs₀ words₀ sizes₀ addresses n result₀ number₀ i₀ highs words sizes result number i = n - i
 
 -- ---- the places on the way: an inserted line moves one of them
 
@@ -47,7 +47,7 @@ abbrev head : tie.After-is-counting-rela Inv-search μ-search → tie.At-search 
 head c = c .before .before
 
 abbrev counted-at : tie.After-site-at Inv-search μ-search → tie.After-is-counting-rela Inv-search μ-search
-counted-at c = c .before .before
+counted-at c = c .before .before .before
 
 -- ---- what they say
 
@@ -55,10 +55,12 @@ here : (c : tie.After-is-counting-rela Inv-search μ-search) → head c .search 
 here c = omega (arith, begun (head c) .section-count .ensures)
 
 abbrev site-of : tie.After-site-at Inv-search μ-search → Site
-site-of c = let at = entered (begun (head (counted-at c))) .args in siteAt (at .object .now) (at .addresses) (head (counted-at c) .search .i)
+site-of c = let at = entered (begun (head (counted-at c))) .args in siteAt (at .object .now) (at .t4) (head (counted-at c) .search .i)
 
 counts : (c : tie.After-site-at Inv-search μ-search) → countingRela (entered (begun (head (counted-at c))) .args .object .now) (head (counted-at c) .search .i) ≡ true
-counts c = sym (counted-at c .is-counting-rela .ensures) ∙ not-false _ (c .before .if1 .left)
+counts c =
+    let left : tie.Else1 Inv-search μ-search = search in
+    sym (counted-at c .is-counting-rela .ensures) ∙ not-false _ (left .if1 .left)
 
 site-is : (c : tie.After-site-at Inv-search μ-search) → c .site-at .result ≡ site-of c
 site-is c = c .site-at .ensures
@@ -76,8 +78,12 @@ search-again c =
 
 site-at-requires : tie.Need-site-at-requires Inv-search μ-search
 site-at-requires c κs =
-    let at = c .before in
-    (entered (begun (head at)) .pre .0, here at, sym (at .is-counting-rela .ensures) ∙ not-false _ (c .if1 .left))
+    let left : tie.Else1 Inv-search μ-search = search in
+    let at = left .before in
+    let start = entered (begun (head at)) in
+    let f = start .pre in
+    let long : sectionCount (start .args .object .now) ≤ length (start .args .t4) = omega (arith, f .0 .table .few) in
+    (f .0, here at, sym (at .is-counting-rela .ensures) ∙ not-false _ (left .if1 .left), long)
 
 abbrev sited : tie.After-check-site-arg3 Inv-search μ-search → tie.After-site-at Inv-search μ-search
 sited c = c .before .before .before
@@ -87,7 +93,7 @@ room : (c : tie.After-site-at Inv-search μ-search) → head (counted-at c) .sea
 room c =
     let at = head (counted-at c) in
     let start = entered (begun at) in
-    omega (arith, at .search .inv .1 .number-is, ap (count (start .args .object .now)) (site-is c), site-room (start .args .object .now) (start .args .order .now) (start .args .addresses) (start .pre .0) (at .search .i) (here (counted-at c)) (counts c))
+    omega (arith, at .search .inv .1 .number-is, ap (count (start .args .object .now)) (site-is c), site-room (start .args .object .now) (start .args .order .now) (start .args .t4) (start .pre .0) (at .search .i) (here (counted-at c)) (counts c))
 
 check-site-requires : tie.Need-check-site-requires Inv-search μ-search
 check-site-requires c κs =
@@ -101,9 +107,9 @@ check-site-requires c κs =
         sound = f .0;
         symbols-are = f .1;
         arrays = f .3 .arrays;
-        tabled = λ k r some. resolved-there (a .object .now) (a .order .now) (a .addresses) k (ap isResolved (sym (listed-is (f .3) (f .0) k)) ∙ r) some;
+        tabled = λ k r some. resolved-there (a .object .now) (a .order .now) (a .t4) k (ap isResolved (sym (listed-is (f .3) (f .0) k)) ∙ r) some;
       },
-      subst (SoundSite (a .object .now)) (sym (site-is at)) (sound-site (a .object .now) (a .addresses) (f .0) (now .search .i) (here (counted-at at)) (counts at) (f .2)),
+      subst (SoundSite (a .object .now)) (sym (site-is at)) (sound-site (a .object .now) (a .t4) (f .0) (now .search .i) (here (counted-at at)) (counts at) (f .2)),
       omega (arith, room at, inv .2, f .4),
       omega (arith, inv .2, f .4),
       omega (arith, room at, inv .3, f .5),
@@ -129,15 +135,15 @@ place c =
     omega (
       arith,
       relocations-few (a .object .now) (f .0),
-      broken-there (a .object .now) (a .order .now) (a .addresses) (f .0) (now .search .i) (here (counted-at at)) (counts at) _ _ _ _ _ (now .search .inv .1) _ _ _ (site-is at)
-          (one .check-site .ensures .0 (a .order .now) (a .addresses) (f .3)) (c .if2 .taken),
+      broken-there (a .object .now) (a .order .now) (a .t4) (f .0) (now .search .i) (here (counted-at at)) (counts at) _ _ _ _ _ (now .search .inv .1) _ _ _ (site-is at)
+          (one .check-site .ensures .0 (a .order .now) (a .t4) (f .3)) (c .if2 .taken),
     )
 
-add-t25 : tie.Need-add-t25 Inv-search μ-search
-add-t25 c = let at : tie.Then2 Inv-search μ-search = search in omega (arith, place at)
+add-t28 : tie.Need-add-t28 Inv-search μ-search
+add-t28 c = let at : tie.Then2 Inv-search μ-search = search in omega (arith, place at)
 
-cast-t26 : tie.Need-cast-t26 Inv-search μ-search
-cast-t26 c = let at : tie.Then2 Inv-search μ-search = search in omega (arith, place at)
+cast-t29 : tie.Need-cast-t29 Inv-search μ-search
+cast-t29 c = let at : tie.Then2 Inv-search μ-search = search in omega (arith, place at)
 
 abbrev went-on : tie.Else2 Inv-search μ-search → tie.After-check-site Inv-search μ-search
 went-on c = c .before .before .before .before .before .before .before .before
@@ -164,8 +170,8 @@ search-again-2 c =
     let inv = now .search .inv in
     let e = one .check-site .ensures in
     let next =
-    below-site (a .object .now) (a .order .now) (a .addresses) (f .0) (now .search .i) (here (counted-at at)) (counts at) _ _ _ _ _ (inv .1) _ _ _ (site-is at)
-    (e .0 (a .order .now) (a .addresses) (f .3)) (on .if2 .left) in
+    below-site (a .object .now) (a .order .now) (a .t4) (f .0) (now .search .i) (here (counted-at at)) (counts at) _ _ _ _ _ (inv .1) _ _ _ (site-is at)
+    (e .0 (a .order .now) (a .t4) (f .3)) (on .if2 .left) in
     (omega (arith, counted-at at .before .search-test .taken), rw (add-one, c .relocation-entries .ensures) next, e .3 ∙ inv .2, e .1 ∙ inv .3, e .2 ∙ inv .4, inv .5)
 
 returns : tie.Need-returns Inv-search μ-search
@@ -176,9 +182,9 @@ returns c =
     let f = start .pre in
     let inv = at .search .inv in
     let stop : at .search .i ≡ sectionCount (a .object .now) = omega (arith, inv .0, begun at .section-count .ensures) in
-    let all : Below (a .object .now) (a .order .now) (a .addresses) (sectionCount (a .object .now)) (at .search .number) (at .search .words) (at .search .sizes) =
-    subst (λ i. Below (a .object .now) (a .order .now) (a .addresses) i (at .search .number) (at .search .words) (at .search .sizes)) stop (inv .1) in
-    (inv .5 ∙ sym (below-all (a .object .now) (a .order .now) (a .addresses) _ _ _ all), (λ _. all .worded), inv .2 ∙ f .4, inv .3 ∙ f .5, inv .4 ∙ f .6)
+    let all : Below (a .object .now) (a .order .now) (a .t4) (sectionCount (a .object .now)) (at .search .number) (at .search .words) (at .search .sizes) =
+    subst (λ i. Below (a .object .now) (a .order .now) (a .t4) i (at .search .number) (at .search .words) (at .search .sizes)) stop (inv .1) in
+    (inv .5 ∙ sym (below-all (a .object .now) (a .order .now) (a .t4) _ _ _ all), (λ _. all .worded), inv .2 ∙ f .4, inv .3 ∙ f .5, inv .4 ∙ f .6)
 
 returns-2 : tie.Need-returns-2 Inv-search μ-search
 returns-2 c =
@@ -192,8 +198,8 @@ returns-2 c =
     let inv = now .search .inv in
     let e = one .check-site .ensures in
     let is =
-    below-broken (a .object .now) (a .order .now) (a .addresses) (f .0) (now .search .i) (here (counted-at at)) (counts at) _ _ _ _ _ (inv .1) _ _ _ (site-is at)
-    (e .0 (a .order .now) (a .addresses) (f .3)) (on .if2 .taken) in
+    below-broken (a .object .now) (a .order .now) (a .t4) (f .0) (now .search .i) (here (counted-at at)) (counts at) _ _ _ _ _ (inv .1) _ _ _ (site-is at)
+    (e .0 (a .order .now) (a .t4) (f .3)) (on .if2 .taken) in
     (ap (λ g. Broken g (now .search .number + one .check-site .result .at)) (c .before .finding-of .ensures) ∙ sym is, (λ z. broken-passed _ _ z), e .3 ∙ inv .2 ∙ f .4, e .1 ∙ inv .3 ∙ f .5, e .2 ∙ inv .4 ∙ f .6)
 
 pub check-relocations-spec : {M : Type 1} → statement M
@@ -208,11 +214,12 @@ check-relocations-spec =
     (λ c. search needs)
     (λ c. search needs)
     search-again
+    (λ c. search needs)
     site-at-requires
     check-site-requires
     (λ c κs. search needs)
-    add-t25
-    cast-t26
+    add-t28
+    cast-t29
     relocation-entries-requires
     add-number
     (λ c. search needs)
