@@ -104,7 +104,8 @@ pub fn stack_width(decision: Decision) -> u32
     }
 }
 
-fn is_paired(operand: Operand) -> bool
+// Whether it is that of a paired high half.
+pub fn is_paired(operand: Operand) -> bool
     ensures { λ r. ⌜ r ≡ isPaired operand ⌝ }
 {
     match operand {

@@ -1,14 +1,15 @@
 // What a relocation makes of the bytes that it touches, worked out from numbers.
 ghost use mathlib.Core.Path.{_≡_};
-ghost use mathlib.Core.Bool.{true};
+ghost use mathlib.Core.Bool.{true, false};
 ghost use Prim.Native.Nat.{ℕ, _+_, _%_, _^_, _≤_, _<_};
 ghost use lib.IntN.{pos, _+ℤ_};
 ghost use lib.Dec.{eqb};
 ghost use Rattle.numbers_definitions.specs.declared.Class.{Class};
 ghost use Rattle.numbers_definitions.specs.Classes.{bits};
-ghost use Rattle.numbers_definitions.specs.Whole.{residue, signed};
+ghost use Rattle.numbers_definitions.specs.Whole.{residue, signed, minus};
 ghost use Rattle.instructions_riscv.specs.Forms.{hasForm};
 ghost use Rattle.relocations_values.specs.Values.{S};
+ghost use Rattle.relocations_decisions.specs.Decisions.{isPaired};
 ghost use Rattle.relocations_rules.specs.Rules.{standsWell, reachesWell};
 ghost use Rattle.relocations_bytes.specs.Patches.{highPart, lowPart, operandOf, patched};
 ghost use Rattle.relocations_patch.specs.Regular.{isUpper, fills, Regular, operandBy};
@@ -34,10 +35,10 @@ use instructions_riscv::ranges::in_halves_reach;
 use instructions_riscv::ranges::in_reach;
 use instructions_riscv::ranges::range_of;
 use numbers_arithmetic::difference;
-use numbers_arithmetic::reduce;
 use numbers_definitions::Address;
 use numbers_definitions::Class;
 use placing_symbols::SymbolValue;
+use relocations_decisions::is_paired;
 use relocations_types::Calculation;
 use relocations_types::Operand;
 
@@ -61,15 +62,23 @@ fn low_part(x: u64) -> u64
     lo12(x)
 }
 
+// What T is counted from: P where the operand is T - P, and 0 where it is T itself. A paired operand has no T of its own.
+fn origin(operand: Operand, p: Address) -> u64
+    ensures { λ r. ⌜ ((w t d : ℕ) → t < 2 ^ w → isPaired operand ≡ false → minus w t r ≡ operandOf w operand t (p .0) d) ⌝ }
+{
+    match operand {
+        Operand::Absolute => 0,
+        Operand::PcRelative => p.0,
+        Operand::Paired => 0,
+    }
+}
+
 // The operand. x is S + A in two's complement, p is P, and d is the paired high half's T - P. T is x, reduced; T - P is reduced once.
 fn operand_of(class: Class, operand: Operand, x: u64, p: Address, d: u64) -> u64
     ensures { λ r. ⌜ r ≡ operandOf (bits class) operand (residue (bits class) (signed 64 x)) (p .0) d ⌝ }
 {
-    match operand {
-        Operand::Absolute => reduce(class, x),
-        Operand::PcRelative => difference(class, x, p.0),
-        Operand::Paired => d,
-    }
+    let v = difference(class, x, origin(operand, p));
+    if is_paired(operand) { d } else { v }
 }
 
 // The operand of a calculation, where x is S + A. ADD, SUB and SET have none.
