@@ -440,7 +440,15 @@ pub fn read_offset(object: &[u8], h: Section, k: usize) -> SectionOffset
     requires { ⌜ EntryInside (now object) h (relocationEntries (classOf (now object)) h) k ⌝ }
     ensures { λ r. ⌜ r ≡ relocationAt (now (object .entry)) h k .offset ⌝ }
 {
-    match class_of(object) {
+    offset_in(class_of(object), object, h, k)
+}
+
+// The same, for a caller that has the class.
+pub fn offset_in(class: Class, object: &[u8], h: Section, k: usize) -> SectionOffset
+    requires { ⌜ EntryInside (now object) h (relocationEntries (classOf (now object)) h) k × (class ≡ classOf (now object)) ⌝ }
+    ensures { λ r. ⌜ r ≡ relocationAt (now (object .entry)) h k .offset ⌝ }
+{
+    match class {
         Class::Elf32 => {
             SectionOffset(numbers_bytes::read32(object, h.offset.0 as usize + 12 * k) as u64)
         }

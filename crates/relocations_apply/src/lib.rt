@@ -8,7 +8,7 @@ ghost use lib.ListN.{length, getD};
 ghost use lib.Seq.{sets};
 ghost use Rattle.numbers_definitions.specs.Bytes.{bytes};
 ghost use Rattle.elf_read.specs.Requires.{HeaderInside};
-ghost use Rattle.elf_read.specs.Headers.{sectionCount};
+ghost use Rattle.elf_read.specs.Headers.{classOf, sectionCount};
 ghost use Rattle.elf_read.specs.Sections.{sectionAt, loaded};
 ghost use Rattle.elf_check.specs.Requires.{SoundObject};
 ghost use Rattle.relocations_rela.specs.Sites.{count, offset, found};
@@ -18,12 +18,14 @@ ghost use Rattle.relocations_bytes.specs.Sections.{after, relaOf, relocated};
 ghost use Rattle.relocations_check_all.specs.Sites.{Worded, Worked};
 ghost use Rattle.relocations_apply.specs.Requires.{Storable};
 use numbers_bytes::write_bytes;
+use numbers_definitions::Class;
 use relocations_rela::sites::Site;
 use relocations_rela::sites::site_at;
 use relocations_rules::RelocationCheck;
 
 // Stores what relocation j of a site leaves, if it leaves anything. Its word and its size are at place k of the lists.
 fn store_one(
+    class: Class,
     object: &[u8],
     site: Site,
     words: &[u64],
@@ -32,14 +34,14 @@ fn store_one(
     j: usize,
     part: &mut [u8],
 )
-    requires { ⌜ Storable (now object) site j (getD (now sizes) k 0) (length (now part)) × (k < length (now words)) × (k < length (now sizes)) × (length (now words) < 2 ^ 32) ⌝ }
+    requires { ⌜ Storable (now object) site j (getD (now sizes) k 0) (length (now part)) × (k < length (now words)) × (k < length (now sizes)) × (length (now words) < 2 ^ 32) × (class ≡ classOf (now object)) ⌝ }
     ensures { λ _. ⌜ now (part .exit) ≡ sets (now (part .entry)) (offset (now (object .entry)) site j) (bytes (getD (now (sizes .entry)) k 0) (getD (now (words .entry)) k 0)) ⌝ }
 {
     let size = sizes[k];
     if size == 0 {
         return;
     }
-    let at = elf_read::read_offset(object, site.rela, j);
+    let at = elf_read::offset_in(class, object, site.rela, j);
     write_bytes(part, at.0 as usize, size as usize, words[k]);
 }
 
@@ -50,10 +52,11 @@ fn apply_all(object: &[u8], site: Site, words: &[u64], sizes: &[u8], base: usize
     ensures { λ _. ⌜ ((order addresses : List ℕ) → Worded (now (object .entry)) order addresses site (count (now (object .entry)) site) (now (words .entry)) (now (sizes .entry)) base
         → now (part .exit) ≡ after (now (object .entry)) order addresses site (count (now (object .entry)) site)) × (length (now (part .exit)) ≡ length (now (part .entry))) ⌝ }
 {
+    let class = elf_read::class_of(object);
     let n = elf_read::relocation_entries(object, site.rela);
     let mut j: usize = 0;
     while j < n {
-        store_one(object, site, words, sizes, base + j, j, part);
+        store_one(class, object, site, words, sizes, base + j, j, part);
         j += 1;
     }
 }

@@ -7,6 +7,7 @@ use native.Mathlib.Omega.{arith}
 use lib.ListN.{length, getD}
 use lib.Seq.{length-sets}
 use Rattle.numbers_definitions.specs.Bytes.{bytes}
+use Rattle.elf_read.proofs.Laws.Headers.{header-there}
 use Rattle.relocations_rela.specs.Sites.{count, offset}
 use Rattle.relocations_bytes.specs.Sections.{after}
 use Rattle.relocations_check_all.specs.Sites.{Worded}
@@ -17,18 +18,21 @@ use Rattle.relocations_apply.proofs.apply_all.Statement.{statement}
 use Rattle.relocations_apply.proofs.apply_all.Tie as tie
 
 abbrev Inv-loop : tie.InvT-loop
-Inv-loop object site words sizes base part₀ n j₀ part j =
+Inv-loop object site words sizes base part₀ class n j₀ part j =
     (j ≤ n)
     × (length part ≡ length part₀)
     × ((o a : List ℕ) → Worded object o a site (count object site) words sizes base → part ≡ after object o a site j)
 
 abbrev μ-loop : tie.MeasureT-loop
-μ-loop object site words sizes base part₀ n j₀ part j = n - j
+μ-loop object site words sizes base part₀ class n j₀ part j = n - j
 
 -- ---- the places on the way: an inserted line moves one of them
 
 abbrev entered : tie.After-relocation-entries Inv-loop μ-loop → tie.Start Inv-loop μ-loop
-entered c = c .before .before .before .before .before
+entered c = search
+
+abbrev classed : tie.After-relocation-entries Inv-loop μ-loop → tie.After-class-of Inv-loop μ-loop
+classed c = search
 
 abbrev begun : tie.In-loop Inv-loop μ-loop → tie.After-relocation-entries Inv-loop μ-loop
 begun c = c .before .before
@@ -39,6 +43,9 @@ there : (c : tie.In-loop Inv-loop μ-loop) → c .before .loop .j < count (enter
 there c = omega (arith, c .loop-test .taken, begun c .relocation-entries .ensures)
 
 -- ---- the needs
+
+class-of-requires : tie.Need-class-of-requires Inv-loop μ-loop
+class-of-requires c κs = let start : tie.Start Inv-loop μ-loop = search in header-there _ (start .pre .0)
 
 loop-holds : tie.Need-loop-holds Inv-loop μ-loop
 unfolding after
@@ -57,6 +64,7 @@ store-one-requires c κs =
       omega (arith, there at, f .1),
       omega (arith, there at, f .2),
       f .3,
+      classed (begun at) .class-of .ensures,
     )
 
 loop-again : tie.Need-loop-again Inv-loop μ-loop
@@ -85,6 +93,7 @@ apply-all-spec =
     (tie.spec
     Inv-loop
     μ-loop
+    class-of-requires
     (λ c κs. search needs)
     loop-holds
     add-store-one

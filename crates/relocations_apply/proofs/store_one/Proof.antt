@@ -12,9 +12,9 @@ use Rattle.relocations_apply.proofs.store_one.Tie as tie
 -- ---- the places on the way: an inserted line moves one of them
 
 abbrev entered : tie.Else1 → tie.Start
-entered c = c .before .before .before .before .before .before
+entered c = search
 
-abbrev passed : tie.After-read-offset → tie.Else1
+abbrev passed : tie.After-offset-in → tie.Else1
 passed c = c .before
 
 -- ---- the needs
@@ -22,29 +22,30 @@ passed c = c .before
 returns : tie.Need-returns
 unfolding bytes
 returns c =
-    let a = c .before .before .before .before .before .before .args in
+    let at : tie.Start = search in
+    let a = at .args in
     sym (ap (λ n. sets (a .part .now) (offset (a .object .now) (a .site) (a .j)) (bytes n (getD (a .words .now) (a .k) 0))) (c .if1 .taken))
 
-read-offset-requires : tie.Need-read-offset-requires
-read-offset-requires c κs =
-    let f = entered c .pre .0 in
-    record { header = f .there .site .header; bytes = record { inside = f .there .site .entries }; there = f .there .there }
+offset-in-requires : tie.Need-offset-in-requires
+offset-in-requires c κs =
+    let f = entered c .pre in
+    (record { header = f .0 .there .site .header; bytes = record { inside = f .0 .there .site .entries }; there = f .0 .there .there }, f .4)
 
 mul-write-bytes : tie.Need-mul-write-bytes
-mul-write-bytes c = let at : tie.After-read-offset = search in let f = entered (passed at) .pre in omega (arith, f .1, f .3)
+mul-write-bytes c = let at : tie.After-offset-in = search in let f = entered (passed at) .pre in omega (arith, f .1, f .3)
 
 write-bytes-requires : tie.Need-write-bytes-requires
 write-bytes-requires c κs =
-    let at : tie.After-read-offset = search in
+    let at : tie.After-offset-in = search in
     let f = entered (passed at) .pre .0 in
-    (rw (at .read-offset .ensures) (f .inside), f .width (omega (arith, passed at .if1 .left)))
+    (rw (at .offset-in .ensures) (f .inside), f .width (omega (arith, passed at .if1 .left)))
 
 returns-2 : tie.Need-returns-2
 returns-2 c =
     let wrote : tie.After-write-bytes = search in
-    let at : tie.After-read-offset = search in
+    let at : tie.After-offset-in = search in
     let a = entered (passed at) .args in
-    wrote .write-bytes .ensures ∙ ap (λ o. sets (a .part .now) (o .0) (bytes (getD (a .sizes .now) (a .k) 0) (getD (a .words .now) (a .k) 0))) (at .read-offset .ensures)
+    wrote .write-bytes .ensures ∙ ap (λ o. sets (a .part .now) (o .0) (bytes (getD (a .sizes .now) (a .k) 0) (getD (a .words .now) (a .k) 0))) (at .offset-in .ensures)
 
 pub store-one-spec : {M : Type 1} → statement M
 store-one-spec =
@@ -52,7 +53,7 @@ store-one-spec =
     (tie.spec
     (λ c. search needs)
     returns
-    read-offset-requires
+    offset-in-requires
     (λ c. search needs)
     mul-write-bytes
     (λ c. search needs)
