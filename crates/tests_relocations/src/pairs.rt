@@ -127,6 +127,6 @@ fn lay(
 )
     requires { ⌜ Layable (now object) (now order) array (now words) (now sizes) × (t < sectionCount (now object)) × (loaded (sectionAt (now object) t) ≡ true) × (length (now part) ≡ sectionAt (now object) t .size) ⌝ }
 {
-    relocations_apply::lay_section(object, order, array, words, sizes, t, part);
+    relocations_apply::lay_section(object, order, &array, words, sizes, t, part);
     lines::section(t, part);
 }
