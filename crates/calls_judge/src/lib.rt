@@ -1,17 +1,20 @@
 // What a call answers, and the judgement: check 3 and checks 5 to 14 over lent bytes of object and order.
 ghost use mathlib.Core.Path.{_≡_};
 ghost use mathlib.Core.Bool.{true};
+ghost use Prim.Native.Nat.{_≤_};
 ghost use lib.Dec.{eqb};
 ghost use Rattle.elf_read.specs.Headers.{classOf};
 ghost use Rattle.elf_header.specs.Headers.{headerAllowed};
 ghost use Rattle.order_format.specs.Orders.{reading};
+ghost use Rattle.placing_symbols.specs.Requires.{SymbolsOf};
+ghost use Rattle.placing_symbols.specs.Arrays.{Blank};
 ghost use Rattle.placing_match.specs.Placements.{placementCheck};
 ghost use Rattle.relocations_rules.specs.Search.{number, isBroken};
 ghost use Rattle.calls_judgement.specs.Requires.{Readable, Named, Placeable};
 ghost use Rattle.plan_pieces.specs.Answers.{says, packed};
 ghost use Rattle.order_lookup.specs.Addresses.{noAddresses, addressesFor};
 ghost use Rattle.calls_judge.specs.Answers.{answerOf};
-ghost use Rattle.calls_judge.specs.Judged.{Lent, JudgedWell};
+ghost use Rattle.calls_judge.specs.Judged.{Lent, PlacedWell, JudgedWell};
 use elf_check::MAX_SYMBOLS;
 use elf_check::SectionCheck;
 use elf_read::class_of;
@@ -19,6 +22,7 @@ use order_format::OrderHeader;
 use order_format::Reading;
 use order_lookup::Addresses;
 use placing_match::Fault;
+use placing_symbols::Symbols;
 use placing_symbols::symbol_values;
 use relocations_check_all::search::check_relocations;
 use relocations_rules::Finding;
@@ -68,39 +72,35 @@ pub struct Judged {
     pub addresses: Addresses,
 }
 
-// Checks 9 to 14. S is worked out for every symbol first.
-fn judge_relocations(
+// How many symbols most objects have at most. Arrays for more are set to 0 only where they are needed.
+const FEW_SYMBOLS: usize = 1024;
+
+// Checks 9 to 14. `values` and `states` come with zeros: S is worked out for every symbol first.
+fn judge_by_values(
     object: &[u8],
     order: &[u8],
     counts: OrderHeader,
     len: usize,
     addresses: Addresses,
+    symbols: Symbols,
+    values: &mut [u64],
+    states: &mut [u8],
     highs: &mut [u32],
     words: &mut [u64],
     sizes: &mut [u8],
 ) -> Judged
-    requires { ⌜ Placeable (now object) (now order) counts len × (addresses ≡ addressesFor (now object) (now order)) × Lent (now highs) (now words) (now sizes) ⌝ }
+    requires { ⌜ Placeable (now object) (now order) counts len × (addresses ≡ addressesFor (now object) (now order)) × SymbolsOf (now object) symbols × Blank (now object) (now values) (now states)
+        × Lent (now object) (now highs) (now words) (now sizes) ⌝ }
     ensures { λ r. ⌜ JudgedWell (now (object .entry)) (now (order .entry)) len r (now (words .exit)) (now (sizes .exit)) ⌝ }
 {
-    let mut values = [0u64; MAX_SYMBOLS];
-    let mut states = [0u8; MAX_SYMBOLS];
-    let symbols = placing_symbols::symbols_of(object);
-    let placed = symbol_values(
-        object,
-        order,
-        counts,
-        symbols,
-        addresses,
-        &mut values,
-        &mut states,
-    );
+    let placed = symbol_values(object, order, counts, symbols, addresses, values, states);
     match check_relocations(
         object,
         order,
         symbols,
         placed,
-        &values,
-        &states,
+        values,
+        states,
         highs,
         words,
         sizes,
@@ -116,8 +116,75 @@ fn judge_relocations(
     }
 }
 
-// Check 8, and those after it. The address array is filled here, once.
-fn judge_placing(
+// The same, with the arrays of the symbols' values for an object that has few.
+fn judge_few_symbols(
+    object: &[u8],
+    order: &[u8],
+    counts: OrderHeader,
+    len: usize,
+    addresses: Addresses,
+    symbols: Symbols,
+    highs: &mut [u32],
+    words: &mut [u64],
+    sizes: &mut [u8],
+) -> Judged
+    requires { ⌜ Placeable (now object) (now order) counts len × (addresses ≡ addressesFor (now object) (now order)) × SymbolsOf (now object) symbols × (symbols .count ≤ 1024)
+        × Lent (now object) (now highs) (now words) (now sizes) ⌝ }
+    ensures { λ r. ⌜ JudgedWell (now (object .entry)) (now (order .entry)) len r (now (words .exit)) (now (sizes .exit)) ⌝ }
+{
+    let mut values = [0u64; FEW_SYMBOLS];
+    let mut states = [0u8; FEW_SYMBOLS];
+    judge_by_values(
+        object,
+        order,
+        counts,
+        len,
+        addresses,
+        symbols,
+        &mut values,
+        &mut states,
+        highs,
+        words,
+        sizes,
+    )
+}
+
+// The same, with arrays for as many symbols as an object may have.
+fn judge_all_symbols(
+    object: &[u8],
+    order: &[u8],
+    counts: OrderHeader,
+    len: usize,
+    addresses: Addresses,
+    symbols: Symbols,
+    highs: &mut [u32],
+    words: &mut [u64],
+    sizes: &mut [u8],
+) -> Judged
+    requires { ⌜ Placeable (now object) (now order) counts len × (addresses ≡ addressesFor (now object) (now order)) × SymbolsOf (now object) symbols
+        × Lent (now object) (now highs) (now words) (now sizes) ⌝ }
+    ensures { λ r. ⌜ JudgedWell (now (object .entry)) (now (order .entry)) len r (now (words .exit)) (now (sizes .exit)) ⌝ }
+{
+    let mut values = [0u64; MAX_SYMBOLS];
+    let mut states = [0u8; MAX_SYMBOLS];
+    judge_by_values(
+        object,
+        order,
+        counts,
+        len,
+        addresses,
+        symbols,
+        &mut values,
+        &mut states,
+        highs,
+        words,
+        sizes,
+    )
+}
+
+// Checks 9 to 14, of an object and an order that pass the others. Where the answer is that of an install that is done, `words` and
+// `sizes` say what each relocation stores.
+pub fn judge_relocations(
     object: &[u8],
     order: &[u8],
     counts: OrderHeader,
@@ -127,24 +194,56 @@ fn judge_placing(
     words: &mut [u64],
     sizes: &mut [u8],
 ) -> Judged
-    requires { ⌜ Named (now object) (now order) counts len × (addresses ≡ noAddresses) × Lent (now highs) (now words) (now sizes) ⌝ }
+    requires { ⌜ Placeable (now object) (now order) counts len × (addresses ≡ addressesFor (now object) (now order)) × Lent (now object) (now highs) (now words) (now sizes) ⌝ }
     ensures { λ r. ⌜ JudgedWell (now (object .entry)) (now (order .entry)) len r (now (words .exit)) (now (sizes .exit)) ⌝ }
+{
+    let symbols = placing_symbols::symbols_of(object);
+    if symbols.count <= FEW_SYMBOLS {
+        return judge_few_symbols(
+            object,
+            order,
+            counts,
+            len,
+            addresses,
+            symbols,
+            highs,
+            words,
+            sizes,
+        );
+    }
+    judge_all_symbols(
+        object,
+        order,
+        counts,
+        len,
+        addresses,
+        symbols,
+        highs,
+        words,
+        sizes,
+    )
+}
+
+// Check 8. The address array is filled here, once.
+fn judge_placing(
+    object: &[u8],
+    order: &[u8],
+    counts: OrderHeader,
+    len: usize,
+    addresses: Addresses,
+) -> Judged
+    requires { ⌜ Named (now object) (now order) counts len × (addresses ≡ noAddresses) ⌝ }
+    ensures { λ r. ⌜ PlacedWell (now (object .entry)) (now (order .entry)) counts len r ⌝ }
 {
     let filled = order_lookup::fill_addresses(class_of(object), addresses, order, counts);
     let placing = placing_check::check_placing(object, filled, counts.base, len);
     let placed = placing.addresses;
     let fault = placing.fault;
     match fault {
-        Fault::Nowhere => judge_relocations(
-            object,
-            order,
-            counts,
-            len,
-            placed,
-            highs,
-            words,
-            sizes,
-        ),
+        Fault::Nowhere => Judged {
+            answer: Answer::Done,
+            addresses: placed,
+        },
         Fault::At(i) => Judged {
             answer: Answer::Misplaced(i),
             addresses: placed,
@@ -152,22 +251,19 @@ fn judge_placing(
     }
 }
 
-// Check 7, and those after it.
+// Checks 7 and 8.
 fn judge_externals(
     object: &[u8],
     order: &[u8],
     counts: OrderHeader,
     len: usize,
     addresses: Addresses,
-    highs: &mut [u32],
-    words: &mut [u64],
-    sizes: &mut [u8],
 ) -> Judged
-    requires { ⌜ Readable (now object) (now order) counts len × (placementCheck (now object) (now order) ≡ Fault.Nowhere) × (addresses ≡ noAddresses) × Lent (now highs) (now words) (now sizes) ⌝ }
-    ensures { λ r. ⌜ JudgedWell (now (object .entry)) (now (order .entry)) len r (now (words .exit)) (now (sizes .exit)) ⌝ }
+    requires { ⌜ Readable (now object) (now order) counts len × (placementCheck (now object) (now order) ≡ Fault.Nowhere) × (addresses ≡ noAddresses) ⌝ }
+    ensures { λ r. ⌜ PlacedWell (now (object .entry)) (now (order .entry)) counts len r ⌝ }
 {
     match placing_match::check_externals(object, order, counts) {
-        Fault::Nowhere => judge_placing(object, order, counts, len, addresses, highs, words, sizes),
+        Fault::Nowhere => judge_placing(object, order, counts, len, addresses),
         Fault::At(k) => Judged {
             answer: Answer::WrongExternal(k),
             addresses,
@@ -175,31 +271,19 @@ fn judge_externals(
     }
 }
 
-// Check 6, and those after it.
+// Checks 6 to 8.
 fn judge_placements(
     object: &[u8],
     order: &[u8],
     counts: OrderHeader,
     len: usize,
     addresses: Addresses,
-    highs: &mut [u32],
-    words: &mut [u64],
-    sizes: &mut [u8],
 ) -> Judged
-    requires { ⌜ Readable (now object) (now order) counts len × (addresses ≡ noAddresses) × Lent (now highs) (now words) (now sizes) ⌝ }
-    ensures { λ r. ⌜ JudgedWell (now (object .entry)) (now (order .entry)) len r (now (words .exit)) (now (sizes .exit)) ⌝ }
+    requires { ⌜ Readable (now object) (now order) counts len × (addresses ≡ noAddresses) ⌝ }
+    ensures { λ r. ⌜ PlacedWell (now (object .entry)) (now (order .entry)) counts len r ⌝ }
 {
     match placing_match::check_placements(object, order, counts) {
-        Fault::Nowhere => judge_externals(
-            object,
-            order,
-            counts,
-            len,
-            addresses,
-            highs,
-            words,
-            sizes,
-        ),
+        Fault::Nowhere => judge_externals(object, order, counts, len, addresses),
         Fault::At(i) => Judged {
             answer: Answer::PlacementsDiffer(i),
             addresses,
@@ -207,21 +291,17 @@ fn judge_placements(
     }
 }
 
-// Check 3 and checks 5 to 14 for an image of `len` bytes, of an object whose header passes check 4, by an order that has been read.
-// `addresses` comes with zeros and goes back filled.
-// Where the answer is that of an install that is done, `words` and `sizes` say what each relocation stores.
-pub fn judge(
+// Check 3 and checks 5 to 8 for an image of `len` bytes, of an object whose header passes check 4, by an order that has been read.
+// `addresses` comes with zeros and goes back filled, where the answer is that of an install that is done.
+pub fn judge_sections(
     object: &[u8],
     order: &[u8],
     counts: OrderHeader,
     len: usize,
     addresses: Addresses,
-    highs: &mut [u32],
-    words: &mut [u64],
-    sizes: &mut [u8],
 ) -> Judged
-    requires { ⌜ (headerAllowed (now object) ≡ true) × (reading (classOf (now object)) (now order) ≡ Reading.WellFormed counts) × (addresses ≡ noAddresses) × Lent (now highs) (now words) (now sizes) ⌝ }
-    ensures { λ r. ⌜ JudgedWell (now (object .entry)) (now (order .entry)) len r (now (words .exit)) (now (sizes .exit)) ⌝ }
+    requires { ⌜ (headerAllowed (now object) ≡ true) × (reading (classOf (now object)) (now order) ≡ Reading.WellFormed counts) × (addresses ≡ noAddresses) ⌝ }
+    ensures { λ r. ⌜ PlacedWell (now (object .entry)) (now (order .entry)) counts len r ⌝ }
 {
     if !order_format::window_allowed(class_of(object), counts.base, len) {
         return Judged {
@@ -230,16 +310,7 @@ pub fn judge(
         };
     }
     match elf_check::check_sections(object) {
-        SectionCheck::Sound => judge_placements(
-            object,
-            order,
-            counts,
-            len,
-            addresses,
-            highs,
-            words,
-            sizes,
-        ),
+        SectionCheck::Sound => judge_placements(object, order, counts, len, addresses),
         SectionCheck::Broken(i) => Judged {
             answer: Answer::BadSection(i),
             addresses,

@@ -1,20 +1,20 @@
 -- S of every symbol, worked out once: an array of values, and an array of states. A state is 1 for a symbol that resolves and 0 for any
--- other. Both arrays have an entry for each symbol number below `maxSymbols`, however many symbols there are.
+-- other. Both arrays are of one length, with an entry for symbol 0 and for each symbol of the table.
 use mathlib.Core.Path.{_≡_}
-use Prim.Native.Nat.{ℕ, _<_}
+use Prim.Native.Nat.{ℕ, _≤_, _<_}
 use mathlib.Core.Bool.{cond}
 use mathlib.Core.List.{List}
 use lib.ListN.{length, getD, replicate}
 use lib.Dec.{ltb, eqb}
 use Rattle.numbers_definitions.specs.Places.{address}
-use Rattle.elf_check.specs.Rules.{maxSymbols}
+use Rattle.elf_read.specs.Entries.{symbolCount}
 use Rattle.placing_symbols.specs.declared.SymbolValue.{SymbolValue}
 use Rattle.placing_symbols.specs.declared.SymbolValue.the-variants.{Resolved, Unresolved}
 use Rattle.placing_symbols.specs.Values.{symbolValue}
 
--- an array before anything is stored
-abbrev pub noValues : List ℕ
-noValues = replicate maxSymbols 0
+-- an array of n entries before anything is stored
+abbrev pub noValues : ℕ → List ℕ
+noValues n = replicate n 0
 
 -- the state and the value that are stored for S
 abbrev pub stateOf : SymbolValue → ℕ
@@ -31,14 +31,25 @@ decoded state value = cond (eqb state 1) (Resolved (address value)) Unresolved
 
 -- what two arrays say about symbol k; nothing past their end resolves
 unfoldable pub listed : List ℕ → List ℕ → ℕ → SymbolValue
-listed values states k = cond (ltb k maxSymbols) (decoded (getD states k 0) (getD values k 0)) Unresolved
+listed values states k = cond (ltb k (length states)) (decoded (getD states k 0) (getD values k 0)) Unresolved
 
--- arrays of the right length
+-- arrays of one length
 pub record ValueArrays (values states : List ℕ) : Type 0 where
-  pub values-length : length values ≡ maxSymbols
-  pub states-length : length states ≡ maxSymbols
+  pub same-length : length values ≡ length states
+
+-- arrays of one length with an entry for symbol 0 and for each symbol of the table
+pub record Long (object values states : List ℕ) : Type 0 where
+  pub arrays : ValueArrays values states
+  pub some : 0 < length states
+  pub all : symbolCount object ≤ length states
+
+-- such arrays before anything is stored
+pub record Blank (object values states : List ℕ) : Type 0 where
+  pub long : Long object values states
+  pub values-are : values ≡ noValues (length values)
+  pub states-are : states ≡ noValues (length states)
 
 -- the arrays hold S of every symbol
 pub record Valued (object order addresses values states : List ℕ) : Type 0 where
-  pub arrays : ValueArrays values states
-  pub is : (k : ℕ) → k < maxSymbols → decoded (getD states k 0) (getD values k 0) ≡ symbolValue object order addresses k
+  pub long : Long object values states
+  pub is : (k : ℕ) → k < length states → decoded (getD states k 0) (getD values k 0) ≡ symbolValue object order addresses k

@@ -4,9 +4,8 @@ ghost use Rattle.elf_read.specs.Headers.{classOf};
 ghost use Rattle.elf_check.specs.Requires.{SoundObject};
 ghost use Rattle.order_format.specs.Orders.{reading};
 ghost use Rattle.placing_symbols.specs.Values.{ofUndefined, ofSection, ofEntry};
-ghost use Rattle.placing_symbols.specs.Arrays.{noValues, stateOf, numberOf, listed, ValueArrays, Valued};
+ghost use Rattle.placing_symbols.specs.Arrays.{stateOf, numberOf, listed, ValueArrays, Blank, Valued};
 ghost use Rattle.placing_symbols.specs.Requires.{SymbolsOf};
-use elf_check::MAX_SYMBOLS;
 use elf_read::MAX_SECTIONS;
 use elf_read::SHN_ABS;
 use elf_read::SHN_UNDEF;
@@ -136,7 +135,7 @@ pub fn symbol_values(
     values: &mut [u64],
     states: &mut [u8],
 ) -> Addresses
-    requires { ⌜ SoundObject (now object) × (reading (classOf (now object)) (now order) ≡ Reading.WellFormed counts) × SymbolsOf (now object) symbols × (now values ≡ noValues) × (now states ≡ noValues) ⌝ }
+    requires { ⌜ SoundObject (now object) × (reading (classOf (now object)) (now order) ≡ Reading.WellFormed counts) × SymbolsOf (now object) symbols × Blank (now object) (now values) (now states) ⌝ }
     ensures { λ r. ⌜ (r ≡ addresses) × Valued (now (object .entry)) (now (order .entry)) addresses (now (values .exit)) (now (states .exit)) ⌝ }
 {
     let table = symbols.table;
@@ -172,7 +171,7 @@ pub fn value_at(values: &[u64], states: &[u8], k: u32) -> SymbolValue
     ensures { λ r. ⌜ r ≡ listed (now (values .entry)) (now (states .entry)) k ⌝ }
 {
     let at = k as usize;
-    if MAX_SYMBOLS <= at {
+    if states.len() <= at {
         return SymbolValue::Unresolved;
     }
     if states[at] != 1 {

@@ -2,12 +2,12 @@
 use mathlib.Core.Path.{_≡_}
 use mathlib.Core.Bool.{true, cond}
 use mathlib.Core.List.{List}
-use Prim.Native.Nat.{ℕ, _+_, _<_}
+use Prim.Native.Nat.{ℕ, _+_, _^_, _≤_, _<_}
 use lib.ListN.{length, getD}
 use lib.Dec.{eqb}
 use Rattle.elf_read.specs.Headers.{sectionCount}
 use Rattle.elf_read.specs.Sections.{countingRela, relocationsBelow}
-use Rattle.elf_check.specs.Rules.{maxRelocations}
+use Rattle.elf_read.specs.Entries.{relocationCount}
 use Rattle.relocations_rela.specs.declared.sites.Site.{Site}
 use Rattle.relocations_rela.specs.Sites.{siteAt, count, decisionAt}
 use Rattle.relocations_decisions.specs.Decisions.{touched}
@@ -43,11 +43,16 @@ module _ (object order addresses : List ℕ) where
   WordedBelow i words sizes =
       (s : ℕ) → s < i → countingRela object s ≡ true → Worded (siteAt object addresses s) (count object (siteAt object addresses s)) words sizes (relocationsBelow object s)
 
--- the words and sizes of all relocations, in lists of the right length
+-- a list with an entry for each relocation of the object; a number of 32 bits counts them
+pub record Roomy (object list : List ℕ) : Type 0 where
+  pub room : relocationCount object ≤ length list
+  pub short : length list < 2 ^ 32
+
+-- the words and sizes of all relocations, in such lists
 pub record Worked (object order addresses words sizes : List ℕ) : Type 0 where
   pub worded : WordedBelow object order addresses (sectionCount object) words sizes
-  pub words-length : length words ≡ maxRelocations
-  pub sizes-length : length sizes ≡ maxRelocations
+  pub words-room : Roomy object words
+  pub sizes-room : Roomy object sizes
 
 -- lists that are the same below a place, and of one length
 pub record SameBelow (n : ℕ) (before after : List ℕ) : Type 0 where

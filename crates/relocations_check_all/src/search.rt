@@ -5,7 +5,6 @@ ghost use mathlib.Core.List.{List};
 ghost use Prim.Native.Nat.{ℕ, _+_, _^_, _≤_, _<_};
 ghost use lib.ListN.{length};
 ghost use Rattle.elf_read.specs.Headers.{sectionCount};
-ghost use Rattle.elf_check.specs.Rules.{maxRelocations};
 ghost use Rattle.elf_check.specs.Requires.{SoundObject};
 ghost use Rattle.placing_symbols.specs.Requires.{SymbolsOf};
 ghost use Rattle.placing_symbols.specs.Arrays.{Valued};
@@ -13,7 +12,7 @@ ghost use Rattle.relocations_rela.specs.Sites.{count};
 ghost use Rattle.relocations_rela.specs.Requires.{SoundSite, Placed};
 ghost use Rattle.relocations_rules.specs.Search.{relocationCheck};
 ghost use Rattle.relocations_check_one.specs.Requires.{Lookups};
-ghost use Rattle.relocations_check_all.specs.Sites.{findingOfNumber, WordedBelow, SiteChecked};
+ghost use Rattle.relocations_check_all.specs.Sites.{findingOfNumber, WordedBelow, Roomy, SiteChecked};
 use order_lookup::Addresses;
 use placing_symbols::Symbols;
 use relocations_check_one::check_one;
@@ -129,10 +128,10 @@ pub fn check_relocations(
     sizes: &mut [u8],
 ) -> RelocationCheck
     requires { ⌜ SoundObject (now object) × SymbolsOf (now object) symbols × Placed (now object) addresses × Valued (now object) (now order) addresses (now values) (now states)
-        × (length (now highs) ≡ maxRelocations) × (length (now words) ≡ maxRelocations) × (length (now sizes) ≡ maxRelocations) ⌝ }
+        × Roomy (now object) (now highs) × Roomy (now object) (now words) × Roomy (now object) (now sizes) ⌝ }
     ensures { λ r. ⌜ (r ≡ relocationCheck (now (object .entry)) (now (order .entry)) addresses)
         × (r ≡ RelocationCheck.Passed → WordedBelow (now (object .entry)) (now (order .entry)) addresses (sectionCount (now (object .entry))) (now (words .exit)) (now (sizes .exit)))
-        × (length (now (highs .exit)) ≡ maxRelocations) × (length (now (words .exit)) ≡ maxRelocations) × (length (now (sizes .exit)) ≡ maxRelocations) ⌝ }
+        × (length (now (highs .exit)) ≡ length (now (highs .entry))) × (length (now (words .exit)) ≡ length (now (words .entry))) × (length (now (sizes .exit)) ≡ length (now (sizes .entry))) ⌝ }
 {
     let n = elf_read::section_count(object);
     let mut result = RelocationCheck::Passed;

@@ -8,10 +8,13 @@ ghost use Rattle.elf_read.specs.Headers.{classOf, sectionCount};
 ghost use Rattle.elf_read.specs.Sections.{sectionAt, loaded};
 ghost use Rattle.elf_header.specs.Headers.{headerAllowed};
 ghost use Rattle.order_format.specs.Orders.{reading};
+ghost use Rattle.order_lookup.specs.Addresses.{addressesFor};
+ghost use Rattle.calls_judgement.specs.Requires.{Placeable};
 ghost use Rattle.tests_relocations.specs.Requires.{Layable};
 use super::lines;
 use calls_judge::Answer;
 use elf_check::MAX_RELOCATIONS;
+use elf_read::MAX_SECTIONS;
 use order_format::OrderHeader;
 use order_format::Reading;
 use order_lookup::Addresses;
@@ -43,15 +46,29 @@ fn write(answer: Answer) {
 fn judged(object: &[u8], order: &[u8], counts: OrderHeader, len: usize)
     requires { ⌜ (headerAllowed (now object) ≡ true) × (reading (classOf (now object)) (now order) ≡ Reading.WellFormed counts) ⌝ }
 {
+    let placed = calls_judge::judge_sections(object, order, counts, len, [0u64; MAX_SECTIONS]);
+    let answer = placed.answer;
+    if calls_judge::is_done(answer) {
+        let array = placed.addresses;
+        relocations(object, order, counts, len, array);
+    } else {
+        write(answer);
+    }
+}
+
+// Checks 9 to 14.
+fn relocations(object: &[u8], order: &[u8], counts: OrderHeader, len: usize, array: Addresses)
+    requires { ⌜ Placeable (now object) (now order) counts len × (array ≡ addressesFor (now object) (now order)) ⌝ }
+{
     let mut highs = [0u32; MAX_RELOCATIONS];
     let mut words = [0u64; MAX_RELOCATIONS];
     let mut sizes = [0u8; MAX_RELOCATIONS];
-    let judged = calls_judge::judge(
+    let judged = calls_judge::judge_relocations(
         object,
         order,
         counts,
         len,
-        [0u64; 32],
+        array,
         &mut highs,
         &mut words,
         &mut sizes,
@@ -59,8 +76,8 @@ fn judged(object: &[u8], order: &[u8], counts: OrderHeader, len: usize)
     let answer = judged.answer;
     write(answer);
     if calls_judge::is_done(answer) {
-        let array = judged.addresses;
-        passed(object, order, array, &words, &sizes);
+        let known = judged.addresses;
+        passed(object, order, known, &words, &sizes);
     }
 }
 

@@ -2,7 +2,7 @@
 use mathlib.Core.Path.{refl, sym, _∙_}
 use Rattle.elf_check.proofs.Laws.Objects.{sound-object}
 use Rattle.calls_judgement.proofs.Laws.Judgement.{gives-6}
-use Rattle.calls_judge.proofs.Laws.Answers.{refused-well}
+use Rattle.calls_judge.proofs.Laws.Answers.{not-placed}
 use borrow.Author.Needs.{needs}
 use Rattle.calls_judge.proofs.judge_placements.Statement.{statement}
 use Rattle.calls_judge.proofs.judge_placements.Tie as tie
@@ -18,7 +18,7 @@ judge-externals-requires c κs =
     let p : tie.After-check-placements = search in
     let told : tie.After-enum-told = search in
     let s : tie.Start = search in
-    (s .pre .0, sym (p .check-placements .ensures) ∙ told .enum-told .given .1, s .pre .1, s .pre .2)
+    (s .pre .0, sym (p .check-placements .ensures) ∙ told .enum-told .given .1, s .pre .1)
 
 returns : tie.Need-returns
 returns c = let j : tie.After-judge-externals = search in j .judge-externals .ensures
@@ -29,7 +29,7 @@ returns-2 c =
     let p : tie.After-check-placements = search in
     let s : tie.Start = search in
     let a = s .args in
-    refused-well (a .object .now) (a .order .now) (a .len) _ _ _ refl
+    not-placed (a .object .now) (a .order .now) (a .counts) (a .len) _ refl
     (gives-6 (a .object .now) (a .order .now) (a .len) (a .counts) _ (s .pre .0) (sym (p .check-placements .ensures) ∙ i .i .given .1))
 
 pub judge-placements-spec : {M : Type 1} → statement M
@@ -39,9 +39,6 @@ judge-placements-spec =
     check-placements-requires
     (λ c. search needs)
     judge-externals-requires
-    (λ c. search needs)
-    (λ c. search needs)
-    (λ c. search needs)
     (λ c. search needs)
     returns
     returns-2)

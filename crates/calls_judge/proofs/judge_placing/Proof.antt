@@ -14,7 +14,7 @@ use Rattle.order_format.proofs.Laws.Sound.{reading-sound}
 use Rattle.elf_check.proofs.Laws.Objects.{sound-object}
 use Rattle.placing_check.specs.Placing.{placingCheck}
 use Rattle.calls_judgement.proofs.Laws.Judgement.{gives-8}
-use Rattle.calls_judge.proofs.Laws.Answers.{refused-well}
+use Rattle.calls_judge.proofs.Laws.Answers.{not-placed, all-placed}
 use borrow.Author.Needs.{needs}
 use Rattle.calls_judge.proofs.judge_placing.Statement.{statement}
 use Rattle.calls_judge.proofs.judge_placing.Tie as tie
@@ -36,7 +36,7 @@ abbrev classed : tie.After-fill-addresses → tie.After-class-of
 classed c = c .before
 
 abbrev st : tie.After-check-placing → tie.Start
-st c = classed (filled c) .before .before .before .before .before .before
+st c = search
 
 -- the array is that of the order
 array-is : (c : tie.After-check-placing) → filled c .fill-addresses .result ≡ addressesFor (S (st c)) (O (st c))
@@ -68,22 +68,18 @@ check-placing-requires c κs =
     let f = s .pre .0 .readable in
     (sound-object (S s) (f .header) (f .sections), leb-true _ _ (and-left (lengthAllowed (s .args .len)) _ (f .window)))
 
-judge-relocations-requires : tie.Need-judge-relocations-requires
-judge-relocations-requires c κs =
-    let p : tie.After-check-placing = search in
-    let told : tie.After-enum-told = search in
-    let s = st p in
-    (record { named = s .pre .0; placing = found p ∙ told .enum-told .given .1 }, p .check-placing .ensures .1 ∙ array-is p, s .pre .2)
-
 returns : tie.Need-returns
-returns c = let j : tie.After-judge-relocations = search in j .judge-relocations .ensures
+returns c =
+    let p : tie.After-check-placing = search in
+    let s = st p in
+    all-placed (S s) (O s) (s .args .counts) (s .args .len) _ refl (record { named = s .pre .0; placing = found p ∙ c .enum-told .given .1 }) (p .check-placing .ensures .1 ∙ array-is p)
 
 returns-2 : tie.Need-returns-2
 returns-2 c =
     let p : tie.After-check-placing = search in
     let f : tie.After-fault = search in
     let s = st p in
-    refused-well (S s) (O s) (s .args .len) _ _ _ refl (gives-8 (S s) (O s) (s .args .len) (s .args .counts) _ (s .pre .0) (found p ∙ f .fault .given .1))
+    not-placed (S s) (O s) (s .args .counts) (s .args .len) _ refl (gives-8 (S s) (O s) (s .args .len) (s .args .counts) _ (s .pre .0) (found p ∙ f .fault .given .1))
 
 pub judge-placing-spec : {M : Type 1} → statement M
 judge-placing-spec =
@@ -92,10 +88,6 @@ judge-placing-spec =
     class-of-requires
     fill-addresses-requires
     check-placing-requires
-    (λ c. search needs)
-    judge-relocations-requires
-    (λ c. search needs)
-    (λ c. search needs)
     (λ c. search needs)
     (λ c. search needs)
     returns

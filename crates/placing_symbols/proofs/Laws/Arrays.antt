@@ -1,5 +1,5 @@
 -- The arrays of S, as they fill.
-use mathlib.Core.Path.{_≡_, refl, sym, _∙_}
+use mathlib.Core.Path.{_≡_, refl, sym, ap, _∙_}
 use mathlib.Core.Bool.{Bool, true, false, cond}
 use mathlib.Core.List.{List}
 use Prim.Native.Nat.{ℕ, _+_, _≤_, _<_}
@@ -10,13 +10,10 @@ use lib.Dec.{ltb}
 use borrow.Author.Tests.{ltb-true, ltb-false}
 use borrow.Author.Count.{below-more}
 use Rattle.elf_read.specs.Entries.{symbolCount}
-use Rattle.elf_check.specs.Rules.{maxSymbols}
-use Rattle.elf_check.specs.Requires.{SoundObject}
-use Rattle.elf_check.proofs.Laws.Bounds.{symbols-few}
 use Rattle.placing_symbols.specs.declared.SymbolValue.{SymbolValue}
 use Rattle.placing_symbols.specs.declared.SymbolValue.the-variants.{Resolved, Unresolved}
 use Rattle.placing_symbols.specs.Values.{symbolValue}
-use Rattle.placing_symbols.specs.Arrays.{noValues, stateOf, numberOf, decoded, listed, ValueArrays, Valued}
+use Rattle.placing_symbols.specs.Arrays.{noValues, stateOf, numberOf, decoded, listed, ValueArrays, Long, Blank, Valued}
 use Rattle.placing_symbols.proofs.Laws.Values.{value-past}
 
 -- what is stored for S is read as S
@@ -38,49 +35,68 @@ zeros-at n k = go (ltb k n) refl
     go true e = getD-replicate n k 0 0 (ltb-true k n e)
     go false e = List·getD-eq-default (zeros n) 0 (rw (zeros-length n) (ltb-false k n e))
 
+zero-at : (l : List ℕ) → l ≡ noValues (length l) → (k : ℕ) → getD l k 0 ≡ 0
+zero-at l e k = ap (λ s. getD s k 0) e ∙ zeros-at (length l) k
+
+-- two arrays of n zeros
+pub blank : (object : List ℕ) (n : ℕ) → 0 < n → symbolCount object ≤ n → Blank object (noValues n) (noValues n)
+blank object n some all =
+    let long = zeros-length n in
+    record {
+      long = record { arrays = record { same-length = refl }; some = omega (arith, long); all = omega (arith, long) };
+      values-are = sym (ap noValues long);
+      states-are = sym (ap noValues long);
+    }
+
 module _ (object order addresses : List ℕ) where
   -- the arrays hold S of each symbol below n, and no state is stored from n on
   pub record ValuedBelow (values states : List ℕ) (n : ℕ) : Type 0 where
-    pub arrays : ValueArrays values states
+    pub long : Long object values states
     pub below : (k : ℕ) → k < n → decoded (getD states k 0) (getD values k 0) ≡ symbolValue object order addresses k
     pub rest : (k : ℕ) → n ≤ k → getD states k 0 ≡ 0
 
   -- the zeros, with the state of symbol 0
-  pub below-one : ValuedBelow noValues (set noValues 0 1) 1
+  pub below-one : (values states : List ℕ) → Blank object values states → ValuedBelow values (set states 0 1) 1
   unfolding symbolValue
-  below-one =
+  below-one values states b =
+      let l = b .long in
+      let same = length-set states 0 1 in
       record {
-        arrays = record {
-          values-length = zeros-length maxSymbols;
-          states-length = length-set noValues 0 1 ∙ zeros-length maxSymbols;
+        long = record {
+          arrays = record { same-length = l .arrays .same-length ∙ sym same };
+          some = omega (arith, same, l .some);
+          all = omega (arith, same, l .all);
         };
-        below = λ k h. let z : k ≡ 0 = omega arith in rw z;
-        rest = λ k h. getD-set-other noValues 0 k 1 0 (λ z. omega arith) ∙ zeros-at maxSymbols k;
+        below = λ k h. let z : k ≡ 0 = omega arith in rw (z, getD-set-same states 0 1 0 (l .some), zero-at values (b .values-are) 0);
+        rest = λ k h. getD-set-other states 0 k 1 0 (λ z. omega arith) ∙ zero-at states (b .states-are) k;
       }
 
   -- one more symbol
-  pub below-next : (values states : List ℕ) (n : ℕ) → ValuedBelow values states n → n < maxSymbols
+  pub below-next : (values states : List ℕ) (n : ℕ) → ValuedBelow values states n → n < length states
       → (v : SymbolValue) → v ≡ symbolValue object order addresses n
       → ValuedBelow (set values n (numberOf v)) (set states n (stateOf v)) (n + 1)
   below-next values states n b h v is =
-      let long : n < length values = omega (arith, b .arrays .values-length) in
-      let wide : n < length states = omega (arith, b .arrays .states-length) in
+      let l = b .long in
+      let long : n < length values = omega (arith, l .arrays .same-length) in
+      let wider = length-set values n (numberOf v) in
+      let same = length-set states n (stateOf v) in
       record {
-        arrays = record {
-          values-length = length-set values n (numberOf v) ∙ b .arrays .values-length;
-          states-length = length-set states n (stateOf v) ∙ b .arrays .states-length;
+        long = record {
+          arrays = record { same-length = wider ∙ l .arrays .same-length ∙ sym same };
+          some = omega (arith, same, l .some);
+          all = omega (arith, same, l .all);
         };
         below =
             below-more (λ k. decoded (getD (set states n (stateOf v)) k 0) (getD (set values n (numberOf v)) k 0) ≡ symbolValue object order addresses k) n
             (λ k l. rw (getD-set-other states n k (stateOf v) 0 (λ z. omega arith), getD-set-other values n k (numberOf v) 0 (λ z. omega arith)) (b .below k l))
-            (rw (getD-set-same states n (stateOf v) 0 wide, getD-set-same values n (numberOf v) 0 long) (decoded-stored v ∙ is));
+            (rw (getD-set-same states n (stateOf v) 0 h, getD-set-same values n (numberOf v) 0 long) (decoded-stored v ∙ is));
         rest = λ k l. getD-set-other states n k (stateOf v) 0 (λ z. omega arith) ∙ b .rest k (omega arith);
       }
 
   -- every symbol of the table
   pub below-all : (values states : List ℕ) (n : ℕ) → ValuedBelow values states n → 0 < n → symbolCount object ≤ n
       → Valued object order addresses values states
-  below-all values states n b some all = record { arrays = b .arrays; is = λ k h. go k (ltb k n) refl }
+  below-all values states n b some all = record { long = b .long; is = λ k h. go k (ltb k n) refl }
     where
       go : (k : ℕ) (t : Bool) → ltb k n ≡ t → decoded (getD states k 0) (getD values k 0) ≡ symbolValue object order addresses k
       go k true e = b .below k (ltb-true k n e)
@@ -89,13 +105,13 @@ module _ (object order addresses : List ℕ) where
           rw (b .rest k past, value-past object order addresses k (omega arith) (omega arith))
 
 -- what the arrays say about any symbol is S of that symbol
-pub listed-is : {object order addresses values states : List ℕ} → Valued object order addresses values states → SoundObject object
+pub listed-is : {object order addresses values states : List ℕ} → Valued object order addresses values states
     → (k : ℕ) → listed values states k ≡ symbolValue object order addresses k
 unfolding listed
-listed-is {object} {order} {addresses} {values} {states} v f k = go (ltb k maxSymbols) refl
+listed-is {object} {order} {addresses} {values} {states} v k = go (ltb k (length states)) refl
   where
-    go : (b : Bool) → ltb k maxSymbols ≡ b → cond b (decoded (getD states k 0) (getD values k 0)) Unresolved ≡ symbolValue object order addresses k
-    go true e = v .is k (ltb-true k maxSymbols e)
+    go : (b : Bool) → ltb k (length states) ≡ b → cond b (decoded (getD states k 0) (getD values k 0)) Unresolved ≡ symbolValue object order addresses k
+    go true e = v .is k (ltb-true k (length states) e)
     go false e =
-        let past : maxSymbols ≤ k = ltb-false k maxSymbols e in
-        sym (value-past object order addresses k (omega arith) (omega (arith, symbols-few object f)))
+        let past : length states ≤ k = ltb-false k (length states) e in
+        sym (value-past object order addresses k (omega (arith, v .long .some)) (omega (arith, v .long .all)))

@@ -3,7 +3,7 @@ use mathlib.Core.Path.{_≡_, refl, sym, ap, _∙_}
 use mathlib.Core.Logic.{⊎-elim}
 use Prim.Native.Nat.{_-_, _≤_, _<_}
 use native.Mathlib.Omega.{arith}
-use lib.ListN.{getD, List·getD-eq-default}
+use lib.ListN.{length, getD, length-set, List·getD-eq-default}
 use Rattle.elf_read.specs.Sections.{sectionAt, symbolTable}
 use Rattle.elf_read.specs.Entries.{symbolAt, symbolCount}
 use Rattle.elf_check.specs.Rules.{maxSymbols}
@@ -22,7 +22,11 @@ use Rattle.placing_symbols.proofs.symbol_values.Tie as tie
 
 abbrev Inv-loop : tie.InvT-loop
 Inv-loop object order counts values₀ states₀ addresses table count class next₀ k₀ values states next k =
-    (0 < k) × ValuedBelow object order addresses values states k × Reached class order next k
+    (0 < k)
+    × ValuedBelow object order addresses values states k
+    × Reached class order next k
+    × (length values ≡ length values₀)
+    × (length states ≡ length states₀)
 
 abbrev μ-loop : tie.MeasureT-loop
 μ-loop object order counts values₀ states₀ addresses table count class next₀ k₀ values states next k = count - k
@@ -44,12 +48,14 @@ reads c = ap (λ k. reading k (entered c .args .order .now)) (c .class-of .ensur
 
 -- ---- in a turn
 
--- the symbol is one of the table
-in-table : (c : tie.In-loop Inv-loop μ-loop) → let s = entered (classed (c .before)) .args .object .now in
-    (c .before .loop .k < symbolCount s) × (symbolCount s ≤ maxSymbols)
+-- the symbol is one of the table, and both arrays have room for it
+in-table : (c : tie.In-loop Inv-loop μ-loop) → let h = c .before .loop in let s = entered (classed (c .before)) .args .object .now in
+    (h .k < symbolCount s) × (h .k < length (h .values)) × (h .k < length (h .states)) × (symbolCount s ≤ maxSymbols)
 in-table c =
     let start = entered (classed (c .before)) in
-    (omega (arith, start .pre .2 .count), symbols-few (start .args .object .now) (start .pre .0))
+    let l = c .before .loop .inv .1 .long in
+    let there : c .before .loop .k < symbolCount (start .args .object .now) = omega (arith, start .pre .2 .count) in
+    (there, omega (arith, l .all, l .arrays .same-length), omega (arith, l .all), symbols-few (start .args .object .now) (start .pre .0))
 
 -- ---- the needs
 
@@ -68,13 +74,13 @@ class-of-requires c κs = let start : tie.Start Inv-loop μ-loop = search in hea
 slice-write-states : tie.Need-slice-write-states Inv-loop μ-loop
 slice-write-states c =
     let start : tie.Start Inv-loop μ-loop = search in
-    rw (start .pre .4) (omega arith)
+    omega (arith, start .pre .3 .long .some)
 
 loop-holds : tie.Need-loop-holds Inv-loop μ-loop
 loop-holds c =
     let start : tie.Start Inv-loop μ-loop = search in
     let taken : tie.After-take-external Inv-loop μ-loop = search in
-    (search needs, rw (start .pre .3, start .pre .4) (below-one _ _ _), taken .take-external .ensures .1)
+    (search needs, below-one _ _ _ _ _ (start .pre .3), taken .take-external .ensures .1, refl, refl)
 
 read-symbol-requires : tie.Need-read-symbol-requires Inv-loop μ-loop
 read-symbol-requires c κs =
@@ -106,21 +112,22 @@ loop-again c =
     ∙ value-read s (start .args .order .now) (start .args .t5) k (head .loop .inv .0) (in-table turn .0) _ symbol _ (start-is chosen) in (
       search needs,
       rw (c .before .number-of .ensures, c .state-of .ensures)
-          (below-next _ _ _ _ _ _ (head .loop .inv .1) (omega (arith, in-table turn)) (valued .entry-value .result) is),
+          (below-next _ _ _ _ _ _ (head .loop .inv .1) (in-table turn .2) (valued .entry-value .result) is),
       taken .take-external2 .ensures .1,
+      length-set (head .loop .values) k (c .before .number-of .result) ∙ head .loop .inv .3,
+      length-set (head .loop .states) k (c .state-of .result) ∙ head .loop .inv .4,
     )
 
 same-length : tie.Need-same-length Inv-loop μ-loop
 same-length c =
-    let start : tie.Start Inv-loop μ-loop = search in
     let head : tie.At-loop Inv-loop μ-loop = search in
-    rw (start .pre .3) (head .loop .inv .1 .arrays .values-length)
+    head .loop .inv .3
 
 same-length-2 : tie.Need-same-length-2 Inv-loop μ-loop
 same-length-2 c =
-    let start : tie.Start Inv-loop μ-loop = search in
     let head : tie.At-loop Inv-loop μ-loop = search in
-    rw (start .pre .4) (head .loop .inv .1 .arrays .states-length)
+    let start : tie.Start Inv-loop μ-loop = search in
+    head .loop .inv .4 ∙ length-set (start .args .states .now) 0 1
 
 returns : tie.Need-returns Inv-loop μ-loop
 returns c =

@@ -6,8 +6,7 @@ use lib.ListN.{length}
 use Rattle.numbers_definitions.proofs.Laws.Lists.{length-part}
 use Rattle.elf_read.specs.Headers.{sectionCount}
 use Rattle.elf_read.specs.Sections.{sectionAt, relocationsBelow}
-use Rattle.elf_read.specs.Entries.{bytesOf}
-use Rattle.elf_check.specs.Rules.{maxRelocations}
+use Rattle.elf_read.specs.Entries.{bytesOf, relocationCount}
 use Rattle.elf_check.proofs.Laws.Bounds.{loaded-inside, few-below}
 use Rattle.relocations_rela.specs.Sites.{siteAt, count, found}
 use Rattle.relocations_rela.proofs.Laws.Sites.{found-length}
@@ -94,7 +93,7 @@ worded c =
     (subst (Worded (a .object .now) (a .order .now) (a .addresses .now) (siteAt (a .object .now) (a .addresses .now) i) (count (a .object .now) (siteAt (a .object .now) (a .addresses .now) i)) (a .words .now) (a .sizes .now)) base there)
 
 -- and that there is room for them
-room : (c : tie.After-relocations-below) → c .relocations-below .result + count (entered (header (copied (chosen (sited c)))) .args .object .now) (sited c .site-at .result) ≤ maxRelocations
+room : (c : tie.After-relocations-below) → c .relocations-below .result + count (entered (header (copied (chosen (sited c)))) .args .object .now) (sited c .site-at .result) ≤ relocationCount (entered (header (copied (chosen (sited c)))) .args .object .now)
 room c =
     let at = sited c in
     let start = entered (header (copied (chosen at))) in
@@ -122,9 +121,9 @@ apply-all-requires c κs =
     let held = copy .copy .ensures ∙ copy .before .before .section-bytes .ensures ∙ ap (bytesOf s) (header copy .read-section .ensures) ∙ sym (found-target s (a .addresses .now) (a .t) (rela-there at)) ∙ ap (found s) (sym (site-is at)) in
     let size = ap length held ∙ found-length s (at .site-at .result) (fine .site) in (
       f .0 .table .header,
-      omega (arith, room below, f .3 .words-length),
-      omega (arith, room below, f .3 .sizes-length),
-      omega (arith, f .3 .words-length),
+      omega (arith, room below, f .3 .words-room .room),
+      omega (arith, room below, f .3 .sizes-room .room),
+      f .3 .words-room .short,
       storable s (a .order .now) (a .addresses .now) (at .site-at .result) (a .words .now) (a .sizes .now) (below .relocations-below .result) _ fine (worded below) (omega (arith, size)),
       held,
     )

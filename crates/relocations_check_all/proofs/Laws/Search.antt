@@ -11,8 +11,6 @@ use Rattle.numbers_definitions.proofs.Laws.Tests.{never}
 use Rattle.elf_read.specs.Headers.{sectionCount}
 use Rattle.elf_read.specs.Sections.{countingRela, relocationsIn, relocationsBelow}
 use Rattle.elf_read.specs.Entries.{relocationCount}
-use Rattle.elf_check.specs.Rules.{maxRelocations}
-use Rattle.elf_check.proofs.Laws.Bounds.{relocations-few}
 use Rattle.elf_check.specs.Requires.{SoundObject}
 use Rattle.relocations_rela.specs.declared.sites.Site.{Site}
 use Rattle.relocations_rela.specs.Sites.{siteAt, count}
@@ -145,9 +143,9 @@ module _ (object order addresses : List ℕ) where
           check-broken object order addresses (n + at) broken-there (kept-up-to at (omega (arith, b .there)) (b .below)) breaks ∙ ap (λ f. Broken f (n + at)) same
 
   -- all relocations of a site have room
-  pub site-room : SoundObject object → (i : ℕ) → i < sectionCount object → countingRela object i ≡ true → relocationsBelow object i + count object (siteAt object addresses i) ≤ maxRelocations
+  pub site-room : SoundObject object → (i : ℕ) → i < sectionCount object → countingRela object i ≡ true → relocationsBelow object i + count object (siteAt object addresses i) ≤ relocationCount object
   unfolding sum
-  site-room sound i h e = omega (arith, count-is object addresses sound i h e, sum-mono (relocationsIn object) (suc i) (sectionCount object) h, relocations-few object sound)
+  site-room sound i h e = omega (arith, count-is object addresses sound i h e, sum-mono (relocationsIn object) (suc i) (sectionCount object) h)
 
   -- all sections
   pub below-all : (n : ℕ) (words sizes : List ℕ) → Below (sectionCount object) n words sizes → relocationCheck object order addresses ≡ Passed

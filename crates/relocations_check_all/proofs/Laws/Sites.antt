@@ -92,7 +92,7 @@ module _ (object order addresses : List ℕ) (x : Site) where
     v = listed values states
 
     same : _≡_ {A = ℕ → SymbolValue} v (symbolValue object order addresses)
-    same = λ i k. listed-is valued sound k i
+    same = λ i k. listed-is valued k i
 
     pub number-found : (j b n w : ℕ) → Comes v object x j b n w → n ≡ number (finding object order addresses x j)
     number-found j b n w c = c .number-is ∙ ap (λ v. number (findingBy v object x j)) same ∙ ap number (finding-by object order addresses x j)

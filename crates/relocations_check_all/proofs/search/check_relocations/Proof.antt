@@ -8,6 +8,7 @@ use lib.ListN.{length}
 use borrow.Author.Tests.{not-true, not-false}
 use Rattle.elf_read.specs.Headers.{sectionCount}
 use Rattle.elf_read.specs.Sections.{countingRela}
+use Rattle.elf_read.specs.Entries.{relocationCount}
 use Rattle.elf_check.specs.Rules.{maxRelocations}
 use Rattle.elf_check.proofs.Laws.Bounds.{relocations-few}
 use Rattle.placing_symbols.proofs.Laws.Arrays.{listed-is}
@@ -82,14 +83,14 @@ site-at-requires c κs =
     let at = left .before in
     let start = entered (begun (head at)) in
     let f = start .pre in
-    let long : sectionCount (start .args .object .now) ≤ length (start .args .t4) = omega (arith, f .0 .table .few) in
+    let long : sectionCount (start .args .object .now) ≤ length (start .args .t4) = omega (arith, f .0 .table .few, start .good .1 .1 .1 .0) in
     (f .0, here at, sym (at .is-counting-rela .ensures) ∙ not-false _ (left .if1 .left), long)
 
 abbrev sited : tie.After-check-site-arg3 Inv-search μ-search → tie.After-site-at Inv-search μ-search
 sited c = c .before .before .before
 
 -- the relocations of the site have room in the lists
-room : (c : tie.After-site-at Inv-search μ-search) → head (counted-at c) .search .number + count (entered (begun (head (counted-at c))) .args .object .now) (c .site-at .result) ≤ maxRelocations
+room : (c : tie.After-site-at Inv-search μ-search) → head (counted-at c) .search .number + count (entered (begun (head (counted-at c))) .args .object .now) (c .site-at .result) ≤ relocationCount (entered (begun (head (counted-at c))) .args .object .now)
 room c =
     let at = head (counted-at c) in
     let start = entered (begun at) in
@@ -106,15 +107,15 @@ check-site-requires c κs =
       record {
         sound = f .0;
         symbols-are = f .1;
-        arrays = f .3 .arrays;
-        tabled = λ k r some. resolved-there (a .object .now) (a .order .now) (a .t4) k (ap isResolved (sym (listed-is (f .3) (f .0) k)) ∙ r) some;
+        arrays = f .3 .long .arrays;
+        tabled = λ k r some. resolved-there (a .object .now) (a .order .now) (a .t4) k (ap isResolved (sym (listed-is (f .3) k)) ∙ r) some;
       },
       subst (SoundSite (a .object .now)) (sym (site-is at)) (sound-site (a .object .now) (a .t4) (f .0) (now .search .i) (here (counted-at at)) (counts at) (f .2)),
-      omega (arith, room at, inv .2, f .4),
-      omega (arith, inv .2, f .4),
-      omega (arith, room at, inv .3, f .5),
-      omega (arith, room at, inv .4, f .6),
-      omega (arith, inv .3, f .5),
+      omega (arith, room at, inv .2, f .4 .room),
+      omega (arith, inv .2, f .4 .short),
+      omega (arith, room at, inv .3, f .5 .room),
+      omega (arith, room at, inv .4, f .6 .room),
+      omega (arith, inv .3, f .5 .short),
     )
 
 abbrev site-checked : tie.After-check-site Inv-search μ-search → tie.After-site-at Inv-search μ-search
@@ -156,7 +157,8 @@ relocation-entries-requires c κs =
 add-number : tie.Need-add-number Inv-search μ-search
 add-number c =
     let on : tie.Else2 Inv-search μ-search = search in
-    omega (arith, room (site-checked (went-on on)), c .relocation-entries .ensures)
+    let start = entered (begun (head (counted-at (site-checked (went-on on))))) in
+    omega (arith, room (site-checked (went-on on)), c .relocation-entries .ensures, start .pre .5 .room, start .pre .5 .short)
 
 search-again-2 : tie.Need-search-again-2 Inv-search μ-search
 search-again-2 c =
@@ -184,7 +186,7 @@ returns c =
     let stop : at .search .i ≡ sectionCount (a .object .now) = omega (arith, inv .0, begun at .section-count .ensures) in
     let all : Below (a .object .now) (a .order .now) (a .t4) (sectionCount (a .object .now)) (at .search .number) (at .search .words) (at .search .sizes) =
     subst (λ i. Below (a .object .now) (a .order .now) (a .t4) i (at .search .number) (at .search .words) (at .search .sizes)) stop (inv .1) in
-    (inv .5 ∙ sym (below-all (a .object .now) (a .order .now) (a .t4) _ _ _ all), (λ _. all .worded), inv .2 ∙ f .4, inv .3 ∙ f .5, inv .4 ∙ f .6)
+    (inv .5 ∙ sym (below-all (a .object .now) (a .order .now) (a .t4) _ _ _ all), (λ _. all .worded), inv .2, inv .3, inv .4)
 
 returns-2 : tie.Need-returns-2 Inv-search μ-search
 returns-2 c =
@@ -200,7 +202,7 @@ returns-2 c =
     let is =
     below-broken (a .object .now) (a .order .now) (a .t4) (f .0) (now .search .i) (here (counted-at at)) (counts at) _ _ _ _ _ (inv .1) _ _ _ (site-is at)
     (e .0 (a .order .now) (a .t4) (f .3)) (on .if2 .taken) in
-    (ap (λ g. Broken g (now .search .number + one .check-site .result .at)) (c .before .finding-of .ensures) ∙ sym is, (λ z. broken-passed _ _ z), e .3 ∙ inv .2 ∙ f .4, e .1 ∙ inv .3 ∙ f .5, e .2 ∙ inv .4 ∙ f .6)
+    (ap (λ g. Broken g (now .search .number + one .check-site .result .at)) (c .before .finding-of .ensures) ∙ sym is, (λ z. broken-passed _ _ z), e .3 ∙ inv .2, e .1 ∙ inv .3, e .2 ∙ inv .4)
 
 pub check-relocations-spec : {M : Type 1} → statement M
 check-relocations-spec =

@@ -1,4 +1,4 @@
--- `calls_judge::judge` meets its contract.
+-- `calls_judge::judge_sections` meets its contract.
 use mathlib.Core.Path.{_≡_, refl, sym, ap, _∙_}
 use mathlib.Core.Bool.{true}
 use mathlib.Core.List.{List}
@@ -12,10 +12,10 @@ use Rattle.numbers_definitions.specs.Classes.{bits}
 use Rattle.order_format.specs.Windows.{windowAllowed}
 use Rattle.order_format.proofs.Laws.Sound.{reading-sound}
 use Rattle.calls_judgement.proofs.Laws.Judgement.{gives-3, gives-5}
-use Rattle.calls_judge.proofs.Laws.Answers.{refused-well}
+use Rattle.calls_judge.proofs.Laws.Answers.{not-placed}
 use borrow.Author.Needs.{needs}
-use Rattle.calls_judge.proofs.judge.Statement.{statement}
-use Rattle.calls_judge.proofs.judge.Tie as tie
+use Rattle.calls_judge.proofs.judge_sections.Statement.{statement}
+use Rattle.calls_judge.proofs.judge_sections.Tie as tie
 
 -- ---- at the start
 
@@ -28,7 +28,7 @@ O c = c .args .order .now
 -- ---- where check 3 has been made
 
 abbrev st : tie.After-window-allowed → tie.Start
-st c = c .before .before .before .before .before .before .before
+st c = search
 
 asked : (c : tie.After-window-allowed) → windowAllowed (addressWidth (S (st c))) (baseFor (S (st c)) (O (st c))) (st c .args .len) ≡ c .window-allowed .result
 asked c =
@@ -55,7 +55,7 @@ returns : tie.Need-returns
 returns c =
     let w : tie.After-window-allowed = search in
     let s = st w in
-    refused-well (S s) (O s) (s .args .len) _ _ _ refl (gives-3 (S s) (O s) (s .args .len) (s .args .counts) (s .pre .0) (s .pre .1) (asked w ∙ not-true _ (c .if1 .taken)))
+    not-placed (S s) (O s) (s .args .counts) (s .args .len) _ refl (gives-3 (S s) (O s) (s .args .len) (s .args .counts) (s .pre .0) (s .pre .1) (asked w ∙ not-true _ (c .if1 .taken)))
 
 check-sections-requires : tie.Need-check-sections-requires
 check-sections-requires c κs = let s : tie.Start = search in header-long _ (s .pre .0)
@@ -66,7 +66,7 @@ judge-placements-requires c κs =
     let told : tie.After-enum-told = search in
     let e : tie.Else1 = search in
     let s = st (allowed e) in
-    (record { header = s .pre .0; reading-is = s .pre .1; window = window e; sections = sym (o .check-sections .ensures) ∙ told .enum-told .given .1 }, s .pre .2, s .pre .3)
+    (record { header = s .pre .0; reading-is = s .pre .1; window = window e; sections = sym (o .check-sections .ensures) ∙ told .enum-told .given .1 }, s .pre .2)
 
 returns-2 : tie.Need-returns-2
 returns-2 c = let j : tie.After-judge-placements = search in j .judge-placements .ensures
@@ -77,10 +77,10 @@ returns-3 c =
     let o : tie.After-check-sections = search in
     let e : tie.Else1 = search in
     let s = st (allowed e) in
-    refused-well (S s) (O s) (s .args .len) _ _ _ refl (gives-5 (S s) (O s) (s .args .len) (s .args .counts) _ (s .pre .0) (s .pre .1) (window e) (sym (o .check-sections .ensures) ∙ i .i .given .1))
+    not-placed (S s) (O s) (s .args .counts) (s .args .len) _ refl (gives-5 (S s) (O s) (s .args .len) (s .args .counts) _ (s .pre .0) (s .pre .1) (window e) (sym (o .check-sections .ensures) ∙ i .i .given .1))
 
-pub judge-spec : {M : Type 1} → statement M
-judge-spec =
+pub judge-sections-spec : {M : Type 1} → statement M
+judge-sections-spec =
     tie.close
     (tie.spec
     class-of-requires
@@ -89,9 +89,6 @@ judge-spec =
     check-sections-requires
     (λ c. search needs)
     judge-placements-requires
-    (λ c. search needs)
-    (λ c. search needs)
-    (λ c. search needs)
     (λ c. search needs)
     returns-2
     returns-3)
