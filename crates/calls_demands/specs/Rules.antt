@@ -57,10 +57,10 @@ pub record OrderWell (c : Class) (order : List ℕ) : Type 0 where
   -- "window base (count 1; one u32)"; the three counts and the base are there
   pub long : 12 + addressBytes c ≤ length order
   pub one-base : leAt 4 order 0 ≡ 1
-  -- "placements (count at most 32; row u32, address u32)"
+  -- "placements (count at most 32; row u32, address u32)"; document 02: up to 128
   pub few-placements : placementCount c order ≤ maxPlacements
   pub placements-inside : externalsStart c order ≤ length order
-  -- "outside values (count at most 1,024; symbol u32, value u32)"
+  -- "outside values (count at most 1,024; symbol u32, value u32)"; document 02: up to 8,192
   pub few-externals : externalCount c order ≤ maxExternals
   -- "no byte left over"
   pub whole : length order ≡ externalsStart c order + (4 + addressBytes c) * externalCount c order
@@ -69,7 +69,7 @@ pub record OrderWell (c : Class) (order : List ℕ) : Type 0 where
   pub externals-ascend : (i : ℕ) → suc i < externalCount c order → external c order i .index < external c order (suc i) .index
 
 -- ---- 3 "window rule broken": "the image covers base up to base + its length; length 0 to 65,536, end at most 2^32", in
--- class 2 2^64: 2^w, where addresses have w bits
+-- class 2 2^64: 2^w, where addresses have w bits; document 02: length up to 1,048,576
 
 pub record WindowWell (w start len : ℕ) : Type 0 where
   pub short : len ≤ maxImage
@@ -78,7 +78,7 @@ pub record WindowWell (w start len : ℕ) : Type 0 where
 -- ---- 4 "header or file length"
 
 pub record HeaderWell (object : List ℕ) : Type 0 where
-  -- "at most 65,536 bytes", "at least 52 bytes"; in class 2 "header 64 bytes"
+  -- "at most 65,536 bytes", "at least 52 bytes"; in class 2 "header 64 bytes"; document 02: up to 1,048,576 bytes
   pub short : length object ≤ maxObject
   pub long : headerSize (classOf object) ≤ length object
   -- "magic 7F 45 4C 46, class 1, data 1, ident version 1, e_type 1, e_machine 243, e_version 1, e_ehsize 52"; "Accept ELF class 2"
@@ -93,7 +93,7 @@ pub record HeaderWell (object : List ℕ) : Type 0 where
 
 -- ---- 5 "row table (place 0) or row rule"
 
--- "e_shentsize 40, 1 to 32 rows of 40 bytes, wholly inside the file"; in class 2 "rows 64"
+-- "e_shentsize 40, 1 to 32 rows of 40 bytes, wholly inside the file"; in class 2 "rows 64"; document 02: up to 128
 pub record TableWell (object : List ℕ) : Type 0 where
   pub entry-size : leAt 2 object (by (classOf object) 46 58) ≡ sectionSize (classOf object)
   pub some : 1 ≤ sectionCount object

@@ -13,11 +13,12 @@ use Rattle.elf_check.specs.declared.SectionCheck.{SectionCheck}
 use Rattle.elf_check.specs.declared.SectionCheck.the-variants.{Sound, Broken}
 use Rattle.elf_header.specs.Headers.{tableAllowed}
 
+-- "at most 1,024" symbols and "at most 4,096 records"; document 02: "symbols and outside values up to 8,192, records up to 32,768"
 abbrev pub maxSymbols : ℕ
-maxSymbols = 1024
+maxSymbols = 8192
 
 abbrev pub maxRelocations : ℕ
-maxRelocations = 4096
+maxRelocations = 32768
 
 -- "Row 0 is NULL."
 unfoldable pub startsNull : List ℕ → ℕ → Bool

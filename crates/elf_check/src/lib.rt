@@ -17,10 +17,10 @@ use elf_read::SYMTAB;
 use elf_read::class_of;
 use numbers_arithmetic::ends_within;
 
-// "whole entries, at most 1,024", and "at most 4,096 records"
-pub const MAX_SYMBOLS: usize = 1024;
+// Document 02: "symbols and outside values up to 8,192, records up to 32,768"
+pub const MAX_SYMBOLS: usize = 8192;
 
-pub const MAX_RELOCATIONS: usize = 4096;
+pub const MAX_RELOCATIONS: usize = 32768;
 
 // What check 5 finds: nothing, or the first section that breaks a rule. A fault of the table itself has place 0.
 pub enum SectionCheck {

@@ -12,8 +12,8 @@ use elf_read::header_size;
 use numbers_arithmetic::ends_within;
 use numbers_definitions::Class;
 
-// "at most 65,536 bytes"
-pub const MAX_OBJECT: usize = 65536;
+// Document 02: "object and image up to 1,048,576 bytes"
+pub const MAX_OBJECT: usize = 1_048_576;
 
 // Whether the header says its own size.
 fn is_size_said(object: &[u8]) -> bool

@@ -37,6 +37,6 @@ sectionTable s = leAt (addressBytes (classOf s)) s (by (classOf s) 32 40)
 abbrev pub sectionCount : List ℕ → ℕ
 sectionCount s = leAt 2 s (by (classOf s) 48 60)
 
--- "1 to 32 rows"
+-- "1 to 32 rows"; document 02: "Rows and placements up to 128"
 abbrev pub maxSections : ℕ
-maxSections = 32
+maxSections = 128

@@ -12,8 +12,8 @@ use numbers_definitions::Class;
 use numbers_definitions::FileOffset;
 use numbers_definitions::SectionOffset;
 
-// "1 to 32 rows"
-pub const MAX_SECTIONS: usize = 32;
+// Document 02: "Rows and placements up to 128"
+pub const MAX_SECTIONS: usize = 128;
 
 // "Types used"
 pub const NULL: u32 = 0;

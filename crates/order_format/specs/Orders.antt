@@ -1,10 +1,11 @@
 -- Document 01, "Order": the bytes that say where sections go and which values undefined symbols have.
 --
 --     base          count 1; one u32 (u64 in an order for class 2)
---     placements    count at most 32; section u32, address u32 (u64)
---     externals     count at most 1,024; symbol u32, value u32 (u64)         (document 01: outside values)
+--     placements    count at most 128; section u32, address u32 (u64)
+--     externals     count at most 8,192; symbol u32, value u32 (u64)         (document 01: outside values)
 --
--- Document 02: "The order's base, addresses and values become u64 for such an object": one of class 2.
+-- Document 02: "The order's base, addresses and values become u64 for such an object": one of class 2; "Rows and placements up to 128, symbols
+-- and outside values up to 8,192".
 --
 -- "Both lists strictly ascending by index; no byte left over."
 use Prim.Native.Nat.{ℕ, suc, _+_, _-_, _*_}
@@ -30,11 +31,12 @@ pub record Order : Type 0 where
   pub placements : List Entry
   pub externals : List Entry
 
+-- document 01: 32 and 1,024; document 02: 128 and 8,192
 abbrev pub maxPlacements : ℕ
-maxPlacements = 32
+maxPlacements = 128
 
 abbrev pub maxExternals : ℕ
-maxExternals = 1024
+maxExternals = 8192
 
 -- the sizes in bytes of an entry, and of an order without entries, which is three counts and the base
 abbrev pub entrySize : Class → ℕ

@@ -8,11 +8,12 @@ ghost use Rattle.order_format.specs.Windows.{lengthAllowed, windowAllowe
 use numbers_definitions::Address;
 use numbers_definitions::Class;
 
-pub const MAX_PLACEMENTS: usize = 32;
+// Document 02: "Rows and placements up to 128, symbols and outside values up to 8,192, [..] object and image up to 1,048,576 bytes"
+pub const MAX_PLACEMENTS: usize = 128;
 
-pub const MAX_EXTERNALS: usize = 1024;
+pub const MAX_EXTERNALS: usize = 8192;
 
-pub const MAX_IMAGE: usize = 65536;
+pub const MAX_IMAGE: usize = 1_048_576;
 
 // A section and its address, or a symbol and its value, which is a run-time address too.
 pub struct Entry {
