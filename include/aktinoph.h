@@ -10,9 +10,11 @@
  *   - The buffers of one call must not overlap.
  *   - No other thread uses image, ledger or answers, or writes object, order or calls, during the call.
  *
- * Lengths: any length is answered. A call can be done with an object of at most 65,536 bytes, an image of 0 to
- * 65,536 bytes, and a ledger of at least AKTINOPH_LEDGER_HEAD bytes and the old bytes of every standing fit.
- * A ledger of zero bytes is one in which no fit stands.
+ * Lengths: any length is answered. A call can be done with an object of at most AKTINOPH_LONGEST bytes, which has at
+ * most 128 sections, 8,192 symbols and 32,768 relocations; an order of at most 128 placements and 8,192 outside values; an
+ * image of at most AKTINOPH_LONGEST bytes, 0 among them; and a ledger of at least AKTINOPH_LEDGER_HEAD bytes and the old
+ * bytes of every standing fit. A ledger of zero bytes is one in which no fit stands. The program `aktinoph` takes files of
+ * at most 65,536 bytes: an object that it calls too long can be laid by the library.
  *
  * Classes: the object decides, by its byte 4: 1 is ELF32 (RV32), 2 is ELF64 (RV64). The order is read in the format of
  * that class: counts and the numbers of sections and symbols have four bytes in both; base, addresses and values have
@@ -31,8 +33,15 @@
 extern "C" {
 #endif
 
-/* The bytes of stack that a call has to find, its own frames and scratch arrays among them. */
-#define AKTINOPH_STACK 65536
+/*
+ * The bytes of stack that a call has to find, its own frames and scratch arrays among them. The largest frame is that of a fit,
+ * of about 427,000 bytes, most of them scratch arrays for 32,768 relocations; one of about 77,000 bytes stands on it, most
+ * of them the values of 8,192 symbols.
+ */
+#define AKTINOPH_STACK 524288
+
+/* The bytes that an object and an image may have at most. */
+#define AKTINOPH_LONGEST 1048576
 
 /* The ledger's bytes before the old bytes: count, 16 entries, count. */
 #define AKTINOPH_LEDGER_HEAD 136

@@ -14,9 +14,9 @@ ghost use Rattle.elf_check.specs.Requires.{SoundObject};
 ghost use Rattle.relocations_rela.specs.Sites.{count, offset, found};
 ghost use Rattle.relocations_rela.specs.Requires.{Placed};
 ghost use Rattle.relocations_rules.specs.Search.{relocationCheck};
-ghost use Rattle.relocations_bytes.specs.Sections.{after, relaOf, relocated};
+ghost use Rattle.relocations_bytes.specs.Sections.{after, relocated};
 ghost use Rattle.relocations_check_all.specs.Sites.{Worded, Worked};
-ghost use Rattle.relocations_apply.specs.Requires.{Storable};
+ghost use Rattle.relocations_apply.specs.Requires.{Storable, Sided, Indexed};
 use numbers_bytes::write_bytes;
 use numbers_definitions::Class;
 use relocations_rela::sites::Site;
@@ -70,20 +70,27 @@ fn copy(from: &[u8], part: &mut [u8])
     numbers_bytes::copy(part, 0, from, 0, n);
 }
 
-// The RELA section of section t, or the number of sections if it has none.
-fn rela_of(object: &[u8], t: usize) -> usize
-    requires { ⌜ SoundObject (now object) ⌝ }
-    ensures { λ r. ⌜ r ≡ relaOf (now (object .entry)) t ⌝ }
+// Lists the RELA section of each section, in one way through the sections: `relas` gets one more than its number, where there was 0, and
+// `starts` gets the number of its first relocation.
+pub fn index_relas(object: &[u8], relas: &mut [u32], starts: &mut [u32])
+    requires { ⌜ SoundObject (now object) × Sided (now object) (now relas) (now starts) × ((t : ℕ) → getD (now relas) t 0 ≡ 0) ⌝ }
+    ensures { λ _. ⌜ Indexed (now (object .entry)) (now (relas .exit)) (now (starts .exit)) ⌝ }
 {
     let n = elf_read::section_count(object);
+    let mut number: usize = 0;
     let mut i: usize = 0;
-    while i < n {
-        if elf_read::relocates(object, i, t) {
-            return i;
+    'next: while i < n {
+        if !elf_read::is_counting_rela(object, i) {
+            i += 1;
+            continue 'next;
         }
+        let h = elf_read::read_section(object, i);
+        let t = h.info as usize;
+        relas[t] = i as u32 + 1;
+        starts[t] = number as u32;
+        number += elf_read::relocation_entries(object, h);
         i += 1;
     }
-    n
 }
 
 // Lays section t into its part of the image.
@@ -93,21 +100,24 @@ pub fn lay_section(
     addresses: &[u64],
     words: &[u64],
     sizes: &[u8],
+    relas: &[u32],
+    starts: &[u32],
     t: usize,
     part: &mut [u8],
 )
     requires { ⌜ SoundObject (now object) × Placed (now object) (now addresses) × (relocationCheck (now object) (now order) (now addresses) ≡ RelocationCheck.Passed)
         × Worked (now object) (now order) (now addresses) (now words) (now sizes)
         × (t < sectionCount (now object)) × (loaded (sectionAt (now object) t) ≡ true) × (length (now part) ≡ sectionAt (now object) t .size)
-        × (sectionCount (now object) ≤ length (now addresses)) ⌝ }
+        × (sectionCount (now object) ≤ length (now addresses)) × Indexed (now object) (now relas) (now starts) ⌝ }
     ensures { λ _. ⌜ now (part .exit) ≡ relocated (now (object .entry)) (now (order .entry)) (now (addresses .entry)) t ⌝ }
 {
     let h = elf_read::read_section(object, t);
     copy(elf_read::section_bytes(object, h), part);
-    let i = rela_of(object, t);
-    if i < elf_read::section_count(object) {
-        let site = site_at(object, addresses, i);
-        let base = elf_read::relocations_below(object, i);
-        apply_all(object, site, words, sizes, base, part);
+    let mark = relas[t] as usize;
+    if mark == 0 {
+        return;
     }
+    let base = starts[t] as usize;
+    let site = site_at(object, addresses, mark - 1);
+    apply_all(object, site, words, sizes, base, part);
 }

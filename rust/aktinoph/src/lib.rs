@@ -49,8 +49,13 @@ pub use calls::Calls;
 /// and room for old bytes is one in which no fit stands.
 pub const LEDGER_HEAD: usize = 136;
 
-/// The bytes of stack that a call of the library has to find.
-pub const STACK: usize = 65_536;
+/// The bytes of stack that a call of the library has to find, most of them
+/// scratch arrays for as many relocations and symbols as an object may have.
+pub const STACK: usize = 524_288;
+
+/// The bytes that an object and an image may have at most. The program takes
+/// files of at most 65,536 bytes.
+pub const LONGEST: usize = 1_048_576;
 
 /// Lays the object's sections into the image as the order says, and records
 /// the old bytes in the ledger. The order is read in the format of the object's

@@ -106,11 +106,7 @@ fn rows_of(class: Class) -> Vec<Row> {
         ..sized("falling", most, pairs::falling(class, most))
     });
     rows.push(sized("many-symbols", 64, others::many_symbols(class, 64)));
-    for count in [32, 64, 128] {
-        let input = others::many_sections(class, count);
-        let name = format!("many-sections-{count}");
-        rows.push(done(&name, count as usize / 2 - 1, input));
-    }
+    rows.push(done("many-sections", 15, others::many_sections(class)));
     rows.extend(["many-relocations", "gcc-relaxed"].map(|name| others::real(class, name)));
     rows.push(done("no-relocations", 0, others::no_relocations(class)));
     rows.push(Row {

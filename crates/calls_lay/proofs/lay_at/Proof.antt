@@ -29,7 +29,7 @@ Image c = c .args .image .now
 -- ---- where the header has been read
 
 abbrev st : tie.After-read-section → tie.Start
-st c = c .before .before .before .before .before .before .before
+st c = search
 
 size-is : (c : tie.After-read-section) → c .read-section .result .size ≡ sectionAt (S (st c)) (st c .args .t) .size
 size-is c = ap (λ h. h .size) (c .read-section .ensures)
@@ -58,7 +58,7 @@ lay-section-requires c κs =
     let f = s .pre in
     let end = s .args .at + r .read-section .result .size in
     let whole : length (take (end - s .args .at) (drop (s .args .at) (Image s))) ≡ end - s .args .at = mid-len (s .args .at) end (Image s) (omega (arith, inside r)) in
-    (is-sound _ _ _ _ (f .0), subst (Placed (S s)) (sym (f .1)) (is-placed (S s) (O s) (s .args .counts) (length (Image s)) (f .0)), ap (relocationCheck (S s) (O s)) (f .1) ∙ f .0 .relocations, f .2, f .3, f .4, omega (arith, size-is r), f .6)
+    (is-sound _ _ _ _ (f .0), subst (Placed (S s)) (sym (f .1)) (is-placed (S s) (O s) (s .args .counts) (length (Image s)) (f .0)), ap (relocationCheck (S s) (O s)) (f .1) ∙ f .0 .relocations, f .2, f .3, f .4, omega (arith, size-is r), f .6, f .7)
 
 returns : tie.Need-returns
 returns c =

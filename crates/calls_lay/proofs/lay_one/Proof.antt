@@ -81,7 +81,7 @@ lay-at-requires : tie.Need-lay-at-requires
 lay-at-requires c κs =
     let s : tie.Start = search in
     let f = s .pre in
-    (f .0, f .1, f .2, f .3, bytes-loaded (S s) (O s) (s .args .counts) (Len s) (f .0) (s .args .t) (some (search)), omega (arith, inside (search) .0, inside (search) .1, base-is s, address s), f .4)
+    (f .0, f .1, f .2, f .3, bytes-loaded (S s) (O s) (s .args .counts) (Len s) (f .0) (s .args .t) (some (search)), omega (arith, inside (search) .0, inside (search) .1, base-is s, address s), f .4, f .5)
 
 returns-2 : tie.Need-returns-2
 returns-2 c =

@@ -4,9 +4,12 @@ use mathlib.Core.Path.{_≡_, refl, sym, ap, _∙_}
 use Prim.Native.Nat.{ℕ, suc, _+_, _≤_, _<_}
 use native.Mathlib.Numerals.{add-one}
 use native.Mathlib.Omega.{arith}
+use mathlib.Core.Bool.{Bool, true, false}
 use mathlib.Core.List.{List, [], _∷_, _++_, append-assoc}
-use lib.ListN.{length, take, drop, set, getD, replicate, length-append, length-drop, replicate-append-replicate}
+use lib.ListN.{length, take, drop, set, getD, replicate, length-append, length-drop, length-replicate, getD-replicate, List·getD-eq-default, replicate-append-replicate}
 use lib.Seq.{sets, sets-eq, length-sets, take-at, drop-at, take-set-le, drop-set-lt, take-suc, getD-drop, getD-take, getD-set-other, ext-getD, length-take-le, take-add, take-all, drop-drop}
+use lib.Dec.{ltb}
+use borrow.Author.Tests.{ltb-true, ltb-false}
 use Rattle.numbers_definitions.specs.Bytes.{part}
 
 -- ---- sets
@@ -102,3 +105,17 @@ part-other l i v j n h (inr b) = ap (take n) (drop-sets j l i v b)
 
 pub replicate-snoc : (n a : ℕ) → replicate (n + 1) a ≡ replicate n a ++ a ∷ []
 replicate-snoc n a = sym (replicate-append-replicate n 1 a)
+
+-- zeros are 0 at each place, past their end too
+abbrev zeros : ℕ → List ℕ
+zeros n = replicate {A = ℕ} n 0
+
+pub zeros-length : (n : ℕ) → length (replicate {A = ℕ} n 0) ≡ n
+zeros-length n = length-replicate {A = ℕ} n 0
+
+pub zeros-at : (n k : ℕ) → getD (replicate {A = ℕ} n 0) k 0 ≡ 0
+zeros-at n k = go (ltb k n) refl
+  where
+    go : (b : Bool) → ltb k n ≡ b → getD (zeros n) k 0 ≡ 0
+    go true e = getD-replicate n k 0 0 (ltb-true k n e)
+    go false e = List·getD-eq-default (zeros n) 0 (rw (zeros-length n) (ltb-false k n e))

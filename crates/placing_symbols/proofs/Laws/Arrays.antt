@@ -4,11 +4,12 @@ use mathlib.Core.Bool.{Bool, true, false, cond}
 use mathlib.Core.List.{List}
 use Prim.Native.Nat.{ℕ, _+_, _≤_, _<_}
 use native.Mathlib.Omega.{arith}
-use lib.ListN.{length, getD, set, replicate, length-set, length-replicate, getD-replicate, List·getD-eq-default}
+use lib.ListN.{length, getD, set, length-set}
 use lib.Seq.{getD-set-same, getD-set-other}
 use lib.Dec.{ltb}
 use borrow.Author.Tests.{ltb-true, ltb-false}
 use borrow.Author.Count.{below-more}
+use Rattle.numbers_definitions.proofs.Laws.Lists.{zeros-length, zeros-at}
 use Rattle.elf_read.specs.Entries.{symbolCount}
 use Rattle.placing_symbols.specs.declared.SymbolValue.{SymbolValue}
 use Rattle.placing_symbols.specs.declared.SymbolValue.the-variants.{Resolved, Unresolved}
@@ -20,20 +21,6 @@ use Rattle.placing_symbols.proofs.Laws.Values.{value-past}
 decoded-stored : (v : SymbolValue) → decoded (stateOf v) (numberOf v) ≡ v
 decoded-stored (Resolved a) = refl
 decoded-stored Unresolved = refl
-
--- zeros are 0 at each place, past their end too
-abbrev zeros : ℕ → List ℕ
-zeros n = replicate n 0
-
-zeros-length : (n : ℕ) → length (zeros n) ≡ n
-zeros-length n = length-replicate {A = ℕ} n 0
-
-zeros-at : (n k : ℕ) → getD (zeros n) k 0 ≡ 0
-zeros-at n k = go (ltb k n) refl
-  where
-    go : (b : Bool) → ltb k n ≡ b → getD (zeros n) k 0 ≡ 0
-    go true e = getD-replicate n k 0 0 (ltb-true k n e)
-    go false e = List·getD-eq-default (zeros n) 0 (rw (zeros-length n) (ltb-false k n e))
 
 zero-at : (l : List ℕ) → l ≡ noValues (length l) → (k : ℕ) → getD l k 0 ≡ 0
 zero-at l e k = ap (λ s. getD s k 0) e ∙ zeros-at (length l) k

@@ -33,22 +33,25 @@ pub fn many_symbols(class: Class, count: usize) -> Input {
     code.input(class, &symbols, &external_values)
 }
 
-/// An object with this many sections, at addresses that neither rise nor fall:
-/// section 0, the symbol table, sections with bytes, and a RELA section for
-/// each of those.
-pub fn many_sections(class: Class, count: u32) -> Input {
-    let loaded = count / 2 - 1;
+/// How many sections have bytes where an object has as many sections as it
+/// may: section 0, the symbol table, and a RELA section for each of these.
+const MOST_LOADED: u32 = 15;
+
+/// As many sections as an object may have, at addresses that neither rise nor
+/// fall.
+pub fn many_sections(class: Class) -> Input {
     let relocated = [Relocation::new(0, ABSOLUTE_32, 1, 4)];
-    let table = loaded + 1;
+    let table = MOST_LOADED + 1;
     let mut sections = vec![Section::default()];
-    sections.extend((0..loaded).map(|_| Section::loaded(4, &[0; 4])));
+    sections.extend((0..MOST_LOADED).map(|_| Section::loaded(4, &[0; 4])));
     sections.push(Section::symbols(&[Symbol::default(), Symbol::new(0, 1, 0)]));
-    sections.extend((1..=loaded).map(|target| Section::relocations(target, table, &relocated)));
-    let address = |section: u32| match 11 * section % loaded {
+    sections
+        .extend((1..=MOST_LOADED).map(|target| Section::relocations(target, table, &relocated)));
+    let address = |section: u32| match 7 * section % MOST_LOADED {
         0 => LAST,
         place => BASE + 64 * u64::from(place - 1),
     };
-    let placements: Vec<(u32, u64)> = (1..=loaded)
+    let placements: Vec<(u32, u64)> = (1..=MOST_LOADED)
         .map(|section| (section, address(section)))
         .collect();
     whole_image(class, &sections, &placements, &[])
