@@ -48,6 +48,7 @@ pub fn limits() -> Vec<Limit> {
         limits.counts();
         limits.relocations();
         limits.all_at_once();
+        limits.longest_section();
         limits.windows();
         limits.placing();
         limits.ledger_room();
@@ -96,11 +97,12 @@ impl Limits {
     /// The class and the lengths of object and image.
     fn lengths(&mut self) {
         let fit = code(&[], &[]);
-        for (length, answer) in [(1_048_576, DONE), (1_048_577, (4, 0))] {
+        // The program takes 65,536.
+        for (length, answer) in [(65_537, DONE), (1_048_576, DONE), (1_048_577, (4, 0))] {
             let name = format!("an object of {length} bytes");
             self.changed(name, &fit, |i| i.object.resize(length, 0xEE), answer);
         }
-        for (length, answer) in [(1_048_576, DONE), (1_048_577, (3, 0))] {
+        for (length, answer) in [(65_537, DONE), (1_048_576, DONE), (1_048_577, (3, 0))] {
             let name = format!("an image of {length} bytes");
             self.changed(name, &fit, |i| i.image.resize(length, 0x5A), answer);
         }
@@ -247,6 +249,30 @@ impl Limits {
         let mut wrong = fit;
         wrong.sections[2].symbols_mut()[8_191].section = 128;
         self.changed("the largest, the last symbol", &wrong, long, (10, 32_767));
+    }
+
+    /// The longest section that an object has room for, at the end of the address
+    /// space and of a whole window, with a relocation at each end.
+    fn longest_section(&mut self) {
+        let others = header_size(self.class) + 4 * section_size(self.class);
+        let entries = 2 * symbol_size(self.class) + 2 * relocation_size(self.class);
+        let size = 1_048_576 - others - entries as usize;
+        let address = self.top - size as u64 + 1;
+        let list = [
+            Relocation::new(0, WORD, 1, 0),
+            Relocation::new(size as u64 - 4, WORD, 1, 1),
+        ];
+        let symbols = [Symbol::absolute(0x1234_5678)];
+        let mut fit = Fit::code(address, &vec![0xC7; size], &symbols, &list);
+        fit.base = self.top - 1_048_575;
+        fit.image = vec![0x5A; 1_048_576];
+        self.add("the longest section", fit.clone(), DONE);
+        let mut wrong = fit.clone();
+        wrong.sections[3].relocations_mut()[1].offset += 1;
+        self.add("a word past the longest section", wrong, (9, 1));
+        fit.sections[1].bytes.push(0);
+        fit.placements[0].1 -= 1;
+        self.add("a longer section", fit, (4, 0));
     }
 
     fn windows(&mut self) {
