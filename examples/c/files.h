@@ -3,7 +3,7 @@
 #include <stdio.h>
 #include <stdlib.h>
 
-/* An object or an image has at most 1,048,576 bytes, and here the other files too; one more shows that a file is too long. */
+/* An allowed object or image has at most 1,048,576 bytes; one more shows that a file is too long. */
 enum { LONGEST = 1048576 };
 
 static size_t read_file(const char *name, uint8_t *bytes) {
