@@ -3,8 +3,8 @@
 #include <stdio.h>
 #include <stdlib.h>
 
-/* An allowed file has at most 65,536 bytes; one more shows that a file is too long. */
-enum { LONGEST = 65536 };
+/* An allowed object or image has at most 1,048,576 bytes; one more shows that a file is too long. */
+enum { LONGEST = 1048576 };
 
 static size_t read_file(const char *name, uint8_t *bytes) {
     FILE *file = fopen(name, "rb");

@@ -11,6 +11,7 @@ ghost use Rattle.order_format.specs.Windows.{maxImage};
 ghost use Rattle.placing_symbols.specs.Arrays.{ValueArrays};
 use elf_check::MAX_SYMBOLS;
 use elf_check::SectionCheck;
+use elf_read::MAX_SECTIONS;
 use elf_read::class_of;
 use numbers_definitions::Address;
 use order_format::OrderHeader;
@@ -76,7 +77,7 @@ fn externals(object: &[u8], order: &[u8], counts: OrderHeader, len: usize)
 fn placing(object: &[u8], order: &[u8], counts: OrderHeader, len: usize)
     requires { ⌜ SoundObject (now object) × (reading (classOf (now object)) (now order) ≡ Reading.WellFormed counts) × (len ≤ maxImage) ⌝ }
 {
-    let given = order_lookup::fill_addresses(class_of(object), [0u64; 32], order, counts);
+    let given = order_lookup::fill_addresses(class_of(object), [0u64; MAX_SECTIONS], order, counts);
     let placed = placing_check::check_placing(object, given, counts.base, len);
     let fault = placed.fault;
     let array = placed.addresses;
@@ -102,20 +103,24 @@ fn passed(object: &[u8], order: &[u8], counts: OrderHeader, array: Addresses)
         &mut states,
     );
     tests_harness::answer(0, 0);
-    addresses(known);
+    addresses(known, elf_read::section_count(object));
     values(&numbers, &states, symbols.count);
 }
 
-fn addresses(array: Addresses) {
+// The address of each of n sections, 0 where there is none. There are at most MAX_SECTIONS, so the `return` is never taken.
+fn addresses(array: Addresses, n: usize) {
+    if MAX_SECTIONS < n {
+        return;
+    }
     let mut i: usize = 0;
-    while i < 32 {
+    while i < n {
         then(Address(array[i]));
         i += 1;
     }
 }
 
-// The value of each of n symbols, and of three numbers past the table. There are at most 1,024 symbols, so the `return` is
-// never taken.
+// The value of each of n symbols, and of three numbers past the table. There are at most MAX_SYMBOLS symbols, so the
+// `return` is never taken.
 fn values(numbers: &[u64], states: &[u8], n: usize)
     requires { ⌜ ValueArrays (now numbers) (now states) ⌝ }
 {

@@ -14,7 +14,7 @@ use numbers_definitions::Class;
 use tests_harness::Command;
 
 fn main() {
-    let mut space = [0u8; 65600];
+    let mut space = [0u8; 1_048_640];
     let first = tests_harness::next();
     run(&mut space, first.a);
 }

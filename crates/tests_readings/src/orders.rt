@@ -5,6 +5,7 @@ ghost use lib.ListN.{length};
 ghost use Rattle.order_format.specs.Orders.{entrySize, reading};
 use super::digest;
 use super::lines;
+use elf_read::MAX_SECTIONS;
 use numbers_definitions::Class;
 use order_format::OrderHeader;
 use order_format::Reading;
@@ -37,7 +38,7 @@ fn digests(class: Class, s: &[u8], counts: OrderHeader)
     let start = order_format::externals_start(class, counts.placements);
     tests_harness::then(entries(class, s, first, counts.placements));
     tests_harness::then(entries(class, s, start, counts.externals));
-    let array = order_lookup::fill_addresses(class, [0u64; 32], s, counts);
+    let array = order_lookup::fill_addresses(class, [0u64; MAX_SECTIONS], s, counts);
     tests_harness::then(addresses(array));
     tests_harness::then(low_values(class, s, counts));
     tests_harness::then(near_values(class, s, counts, first, counts.placements));
@@ -61,20 +62,20 @@ fn entries(class: Class, s: &[u8], at: usize, n: usize) -> u64
 fn addresses(array: Addresses) -> u64 {
     let mut d = digest::START;
     let mut i: usize = 0;
-    while i < 32 {
+    while i < MAX_SECTIONS {
         d = digest::mix(d, array[i]);
         i += 1;
     }
     d
 }
 
-// The values of the numbers 0 to 33.
+// The values of the numbers 0 to 129.
 fn low_values(class: Class, s: &[u8], counts: OrderHeader) -> u64
     requires { ⌜ reading class (now s) ≡ Reading.WellFormed counts ⌝ }
 {
     let mut d = digest::START;
     let mut k: u32 = 0;
-    while k < 34 {
+    while k < 130 {
         d = values(d, class, s, counts, k);
         k += 1;
     }

@@ -6,7 +6,7 @@ ghost use Prim.Native.Nat.{_<_};
 ghost use lib.ListN.{length};
 ghost use Rattle.elf_read.specs.Headers.{classOf, sectionCount};
 ghost use Rattle.elf_read.specs.Sections.{sectionAt, loaded};
-ghost use Rattle.elf_header.specs.Headers.{headerAllowed};
+ghost use Rattle.elf_header.specs.Headers.{headerAllowed, maxObject};
 ghost use Rattle.order_format.specs.Orders.{reading};
 ghost use Rattle.order_lookup.specs.Addresses.{addressesFor};
 ghost use Rattle.calls_judgement.specs.Requires.{Placeable};
@@ -14,6 +14,7 @@ ghost use Rattle.tests_relocations.specs.Requires.{Layable};
 use super::lines;
 use calls_judge::Answer;
 use elf_check::MAX_RELOCATIONS;
+use elf_header::MAX_OBJECT;
 use elf_read::MAX_SECTIONS;
 use order_format::OrderHeader;
 use order_format::Reading;
@@ -85,7 +86,7 @@ fn relocations(object: &[u8], order: &[u8], counts: OrderHeader, len: usize, arr
 fn passed(object: &[u8], order: &[u8], array: Addresses, words: &[u64], sizes: &[u8])
     requires { ⌜ Layable (now object) (now order) array (now words) (now sizes) ⌝ }
 {
-    let mut room = [0u8; 65536];
+    let mut room = [0u8; MAX_OBJECT];
     sections(object, order, array, words, sizes, &mut room);
 }
 
@@ -97,7 +98,7 @@ fn sections(
     sizes: &[u8],
     room: &mut [u8],
 )
-    requires { ⌜ Layable (now object) (now order) array (now words) (now sizes) × (length (now room) ≡ 65536) ⌝ }
+    requires { ⌜ Layable (now object) (now order) array (now words) (now sizes) × (length (now room) ≡ maxObject) ⌝ }
 {
     let n = elf_read::section_count(object);
     let mut t: usize = 0;
@@ -117,7 +118,7 @@ fn section(
     t: usize,
     room: &mut [u8],
 )
-    requires { ⌜ Layable (now object) (now order) array (now words) (now sizes) × (t < sectionCount (now object)) × (length (now room) ≡ 65536) ⌝ }
+    requires { ⌜ Layable (now object) (now order) array (now words) (now sizes) × (t < sectionCount (now object)) × (length (now room) ≡ maxObject) ⌝ }
 {
     let h = elf_read::read_section(object, t);
     if elf_read::is_loaded(h) & (0 < h.size) {

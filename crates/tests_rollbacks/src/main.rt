@@ -10,8 +10,8 @@ use plan_pieces::Span;
 ghost use Prim.Native.Nat.{_<_, _^_};
 
 fn main() {
-    let mut images = [0u8; 131072];
-    let mut journals = [0u8; 131072];
+    let mut images = [0u8; 1_114_112];
+    let mut journals = [0u8; 1_114_112];
     let image: &mut [u8] = &mut images;
     let book: &mut [u8] = &mut journals;
     let count = number();

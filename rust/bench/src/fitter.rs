@@ -1,4 +1,4 @@
-//! The comparison fitter: document 01 and Tickets 1 and 3 written for speed, in
+//! The comparison fitter: document 01 and Tickets 1, 3 and 7 written for speed, in
 //! safe Rust, without a heap. The library's time is measured against it.
 //!
 //! It has two phases. The first makes every check in its order and writes
@@ -30,12 +30,13 @@ mod types;
 use class::{Class, Elf32, Elf64};
 use journal::Journal;
 use lay::Plan;
-use object::Object;
+use object::{Object, MAX_SYMBOLS};
 use order::Order;
-use symbols::Symbols;
+use placing::Addresses;
+use symbols::{Memory, Symbols};
 
 /// The longest object or image.
-const MAX_BYTES: usize = 65_536;
+const MAX_BYTES: usize = 1_048_576;
 
 /// Document 01: number and place.
 #[derive(Clone, Copy, PartialEq, Eq, Debug)]
@@ -94,28 +95,63 @@ fn install_of<C: Class>(
     }
     let object = Object::<C>::read(object, &header).map_err(|place| refusal(5, place))?;
     let addresses = placing::addresses(&object, &order).map_err(|place| refusal(6, place))?;
-    let mut symbols = Symbols::new(&object, &addresses);
-    symbols
-        .take_external_values(&order)
-        .map_err(|place| refusal(7, place))?;
-    let window = placing::Window {
-        base: order.base,
-        length: image.len() as u64,
-    };
-    let span = placing::check(&object, &addresses, window).map_err(|place| refusal(8, place))?;
-    relocations::check(&object, &addresses, &mut symbols)?;
-    if !standing.has_room_for(span, journal.len()) {
-        return Err(refusal(15, 0));
-    }
-    standing.save(journal, span, image);
-    let plan = Plan {
+    let fit = Fit {
         object: &object,
+        order: &order,
         addresses: &addresses,
-        symbols: &symbols,
-        base: order.base,
+        standing,
     };
-    plan.lay(image);
-    Ok(())
+    match object.symbols().len() <= FEW_SYMBOLS {
+        true => fit.install_with::<FEW_SYMBOLS>(image, journal),
+        false => fit.install_with::<MAX_SYMBOLS>(image, journal),
+    }
+}
+
+/// The most symbols of an object that has not many.
+const FEW_SYMBOLS: usize = 1_024;
+
+/// What is known after check 6.
+struct Fit<'a, C: Class> {
+    object: &'a Object<'a, C>,
+    order: &'a Order<'a, C>,
+    addresses: &'a Addresses,
+    standing: Journal,
+}
+
+impl<C: Class> Fit<'_, C> {
+    /// The other checks, and then the writing, with a memory for at most so many
+    /// symbols. An object with few of them does not pay for a long one.
+    #[inline(never)]
+    fn install_with<const MOST: usize>(
+        self,
+        image: &mut [u8],
+        journal: &mut [u8],
+    ) -> Result<(), Answer> {
+        let (object, addresses) = (self.object, self.addresses);
+        let mut memory = [Memory::default(); MOST];
+        let mut symbols = Symbols::new(object, addresses, &mut memory);
+        symbols
+            .take_external_values(self.order)
+            .map_err(|place| refusal(7, place))?;
+        let window = placing::Window {
+            base: self.order.base,
+            length: image.len() as u64,
+        };
+        let span = placing::check(object, addresses, window).map_err(|place| refusal(8, place))?;
+        relocations::check(object, addresses, &mut symbols)?;
+        if !self.standing.has_room_for(span, journal.len()) {
+            return Err(refusal(15, 0));
+        }
+        self.standing.save(journal, span, image);
+        let plan = Plan {
+            object,
+            addresses,
+            symbols: &symbols,
+            base: self.order.base,
+        };
+        plan.lay(image);
+        Ok(())
+    }
 }
 
 fn rollback(image: &mut [u8], journal: &mut [u8]) -> Result<(), Answer> {

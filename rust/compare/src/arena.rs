@@ -9,7 +9,7 @@ use std::slice;
 const PAGE: usize = 4_096;
 /// The bytes between the two pages: enough for a list of calls with buffers
 /// that are too long.
-pub const ROOM: usize = 256 * PAGE;
+pub const ROOM: usize = 2_048 * PAGE;
 /// How many bytes beside a buffer are watched.
 pub const GUARD: usize = 64;
 

@@ -20,7 +20,7 @@ fn beside(arena: &mut Arena, distance: isize) -> *mut u8 {
 fn buffers_hold_their_bytes() {
     let mut arena = Arena::new();
     for layout in Layout::ALL {
-        for length in [0, 1, 4_095, 4_096, 65_536, 70_000] {
+        for length in [0, 1, 4_095, 4_096, 1_048_576, 1_100_000] {
             let bytes: Vec<u8> = (0..length).map(|at| at as u8).collect();
             arena.fill(&bytes, layout);
             assert_eq!(arena.bytes(), bytes);

@@ -4,6 +4,7 @@ use aktinoph::{Calls, STACK};
 use compare::stack::needed;
 use testing::build::{journal, object, order, Class, Relocation, Section, Symbol};
 use testing::given::objects;
+use testing::limits::{limits, Limit};
 
 const PCREL_HI20: u32 = 23;
 const PCREL_LO12_I: u32 = 24;
@@ -50,8 +51,12 @@ fn falling(class: Class) -> (Vec<u8>, Vec<u8>, usize) {
 fn at_most_what_is_said() {
     let given = objects().into_iter();
     let given = given.map(|given| (given.object, given.order, given.image_length));
+    let largest = limits()
+        .into_iter()
+        .filter(|limit| limit.name.starts_with("the largest"));
+    let largest = largest.map(|Limit { input, .. }| (input.object, input.order, input.image.len()));
     let (mut fit, mut list) = (0, 0);
-    for (object, order, length) in given.chain(Class::ALL.map(falling)) {
+    for (object, order, length) in given.chain(Class::ALL.map(falling)).chain(largest) {
         let (one, other) = of_both(&object, &order, length);
         (fit, list) = (fit.max(one), list.max(other));
     }

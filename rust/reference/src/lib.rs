@@ -1,5 +1,5 @@
-//! A second fitter, written from document 01 and Tickets 1 and 3 of document 02
-//! alone, and kept as close to their sentences as code can be. One body of code
+//! A second fitter, written from document 01 and Tickets 1, 3 and 7 of document
+//! 02 alone, and kept as close to their sentences as code can be. One body of code
 //! is for both classes of object: what differs between them is asked of the class.
 //!
 //! | part of document 01 | module | checks |
@@ -20,7 +20,7 @@
 //!
 //! The words are the field's; the comment at each definition has document
 //! 01's term. Quoted sentences in comments are document 01's, or those of
-//! Tickets 1 and 3.
+//! Tickets 1, 3 and 7.
 
 #![forbid(unsafe_code)]
 
@@ -46,8 +46,9 @@ pub use class::Class;
 pub use journal::Span;
 pub use plan::{Piece, Plan};
 
-/// The longest object, image or file. "at most 65,536 bytes"
-pub const MAX_BYTES: usize = 65_536;
+/// The longest object or image. Ticket 7: "object and image up to 1,048,576
+/// bytes in the library".
+pub const MAX_BYTES: usize = 1_048_576;
 
 /// Document 01: number and place.
 #[derive(Clone, Copy, PartialEq, Eq, Debug)]

@@ -7,10 +7,10 @@ use crate::relocation::Relocation;
 use crate::symbol::{SymbolTable, MAX_SYMBOLS};
 use crate::MAX_BYTES;
 
-/// Document 01: at most 32 rows.
-pub const MAX_SECTIONS: usize = 32;
-/// Document 01: at most 4,096 records in all counting RELA rows together.
-pub const MAX_RELOCATIONS: u64 = 4_096;
+/// Ticket 7: "Rows and placements up to 128".
+pub const MAX_SECTIONS: usize = 128;
+/// Ticket 7: "records up to 32,768", in all counting RELA rows together.
+pub const MAX_RELOCATIONS: u64 = 32_768;
 
 pub const NULL: u32 = 0;
 pub const PROGBITS: u32 = 1;
@@ -57,7 +57,7 @@ impl Header {
     }
 
     /// Check 5 at place 0: "e_shentsize 40, 1 to 32 rows of 40 bytes, wholly
-    /// inside the file"; of 64 bytes in class 2.
+    /// inside the file"; of 64 bytes in class 2, and up to 128 rows.
     fn section_table<'a>(&self, file: &'a [u8]) -> Option<&'a [u8]> {
         let count = usize::from(self.section_count);
         let size = self.class.layout().section_header_size;
@@ -236,7 +236,8 @@ fn allocated_section_is_well_formed(object: &Object, index: usize) -> bool {
 }
 
 /// "At most one SYMTAB: entry size 16, whole entries, at most 1,024. The
-/// higher row of two is at fault." Entry size 24 in class 2.
+/// higher row of two is at fault." Entry size 24 in class 2, and up to 8,192
+/// entries.
 fn symbol_table_is_well_formed(object: &Object, index: usize) -> bool {
     let section = &object.sections[index];
     let symbol_size = object.class.layout().symbol_size as u64;
@@ -272,7 +273,8 @@ fn counting_rela_is_well_formed(object: &Object, index: usize) -> bool {
 }
 
 /// "All counting RELA rows together hold at most 4,096 records; the row that
-/// passes this is at fault." Here: how many the rows up to this one hold.
+/// passes this is at fault." Now up to 32,768. Here: how many the rows up to
+/// this one hold.
 fn relocations_up_to(index: usize, object: &Object) -> u64 {
     let relocation_size = object.class.layout().relocation_size as u64;
     counting_rela_sections(&object.sections[..=index], object)

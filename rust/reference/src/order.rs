@@ -84,7 +84,7 @@ pub struct Window {
 
 impl Window {
     /// Check 3: `None` where "window rule broken". "length 0 to 65,536, end at
-    /// most 2^32", or 2^64
+    /// most 2^32", or 2^64; now up to 1,048,576.
     pub fn new(base: Address, image_length: usize, class: Class) -> Option<Window> {
         if !is_allowed_length(image_length) {
             return None;

@@ -6,8 +6,8 @@ use crate::object::{Object, Section, MAX_SECTIONS};
 use crate::order::{Order, Window};
 use crate::symbol::UNDEFINED;
 
-/// "The 32 row addresses travel as one array passed by value." Only those of
-/// allocated sections mean something.
+/// "The 32 row addresses travel as one array passed by value." There are 128
+/// now; only those of allocated sections mean something.
 pub type Addresses = [Address; MAX_SECTIONS];
 
 /// Check 6: "placements differ from allocated rows", at the "lowest row in one

@@ -136,8 +136,10 @@ fn leaves_section(rela: &RelaEntry) -> bool {
 /// are of 33..40, 52..56 with equal offset and width (SUB6 and SET6 have a
 /// width of their own)."
 fn overlaps(rela: &RelaEntry) -> bool {
-    let previous = rela.earlier().rev().find(|other| other.patch().is_some());
-    let (Some(this), Some(previous)) = (rela.patch(), previous) else {
+    let Some(this) = rela.patch() else {
+        return false;
+    };
+    let Some(previous) = rela.earlier().rev().find(|other| other.patch().is_some()) else {
         return false;
     };
     let shares_place = previous.patch().is_some_and(|other| {

@@ -6,8 +6,8 @@ use crate::object::Object;
 use crate::order::ExternalValue;
 use crate::placement::Addresses;
 
-/// Document 01: at most 1,024 entries.
-pub const MAX_SYMBOLS: u32 = 1_024;
+/// Ticket 7: "symbols and outside values up to 8,192".
+pub const MAX_SYMBOLS: u32 = 8_192;
 
 /// The section number of an undefined symbol.
 pub const UNDEFINED: u16 = 0;

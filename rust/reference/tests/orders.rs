@@ -206,7 +206,7 @@ const REFUSED: [(&str, &str); 12] = [
     ("--from 0 --value outer", "outer: not a number"),
     (
         "--from 0xffffffff --value outer=0",
-        "above 32 placements, 1,024 values or the address",
+        "above 128 placements, 8,192 values or the address",
     ),
 ];
 
@@ -232,7 +232,7 @@ const REFUSED_64: [(&str, &str); 3] = [
     ),
     (
         "--from 0xffffffffffffffff --value outer=0",
-        "above 32 placements, 1,024 values or the address",
+        "above 128 placements, 8,192 values or the address",
     ),
 ];
 

@@ -10,7 +10,7 @@ use testing::vectors::{bytes, bytes_after, lines};
 
 const PROGRAM: Compared = Compared("tests_rollbacks");
 
-const SPACE: usize = 131_072;
+const SPACE: usize = 1_114_112;
 
 /// What a case hands the program, and what it has to leave.
 struct Case {

@@ -8,9 +8,9 @@ const COMMAND: usize = 13;
 
 /// Where the order of a pair is, and the end of a space for pairs. An order of
 /// class 2 with as many placements and external values as there may be, and one
-/// more of these, has 12,704 bytes.
-const ORDER: usize = 65_600;
-const PAIRS: usize = 78_400;
+/// more of these, has 99,872 bytes.
+const ORDER: usize = 1_048_640;
+const PAIRS: usize = 1_151_040;
 
 /// What the program holds, and the commands so far.
 pub struct Commands {

@@ -74,7 +74,7 @@ pub fn damage(random: &mut Random, input: &mut Input) {
         }
     }
     if random.one_in(3_000) {
-        let length = random.pick(&[65_535, 65_536, 65_537, 70_000]);
+        let length = random.pick(&[65_537, 1_048_575, 1_048_576, 1_048_577, 1_100_000]);
         part(random, input).resize(length, 0);
     }
 }
@@ -95,7 +95,7 @@ fn some_bytes(random: &mut Random) -> Vec<u8> {
 
 /// A number at or beside a limit of the rules, and of both classes.
 fn boundary(random: &mut Random, near: usize) -> u64 {
-    const LIMITS: [u64; 27] = [
+    const LIMITS: [u64; 28] = [
         0,
         1,
         2,
@@ -105,23 +105,24 @@ fn boundary(random: &mut Random, near: usize) -> u64 {
         12,
         16,
         24,
-        31,
-        32,
         40,
         52,
         64,
+        127,
+        128,
         243,
-        1_024,
         4_094,
         4_096,
-        65_536,
+        8_192,
+        32_768,
+        1_048_576,
         0xFFF1,
         1 << 31,
         (1 << 31) - 2_048,
         1 << 32,
         1 << 63,
         (1 << 63) | 1,
-        u64::MAX - 65_535,
+        u64::MAX - 1_048_575,
         0,
     ];
     let limit = match random.below(3) {
@@ -233,7 +234,7 @@ pub fn wound_relocation(random: &mut Random, object: &mut [u8]) {
     let table = Table::of(object);
     let (layout, long) = (table.class.layout(), table.class.address_bytes());
     let rela = |row: &usize| get(object, table.field(*row, 4), 4) == 4;
-    let rows: Vec<usize> = (0..table.count.min(32)).filter(rela).collect();
+    let rows: Vec<usize> = (0..table.count.min(128)).filter(rela).collect();
     let Some(row) = (!rows.is_empty()).then(|| random.pick(&rows)) else {
         return;
     };

@@ -1,4 +1,4 @@
-//! Every limit of document 01 and of Tickets 1 and 3, in both classes: at its
+//! Every limit of document 01 and of Tickets 1, 3 and 7, in both classes: at its
 //! value, and one past it.
 
 use crate::build::*;
@@ -11,6 +11,7 @@ const JAL: u32 = 17;
 const CALL: u32 = 18;
 const CALL_PLT: u32 = 19;
 const PCREL_HI20: u32 = 23;
+const PCREL_LO12_I: u32 = 24;
 const HI20: u32 = 26;
 const LO12_I: u32 = 27;
 const RVC_BRANCH: u32 = 44;
@@ -46,6 +47,8 @@ pub fn limits() -> Vec<Limit> {
         limits.lengths();
         limits.counts();
         limits.relocations();
+        limits.all_at_once();
+        limits.longest_section();
         limits.windows();
         limits.placing();
         limits.ledger_room();
@@ -94,11 +97,12 @@ impl Limits {
     /// The class and the lengths of object and image.
     fn lengths(&mut self) {
         let fit = code(&[], &[]);
-        for (length, answer) in [(65_536, DONE), (65_537, (4, 0))] {
+        // The program takes 65,536.
+        for (length, answer) in [(65_537, DONE), (1_048_576, DONE), (1_048_577, (4, 0))] {
             let name = format!("an object of {length} bytes");
             self.changed(name, &fit, |i| i.object.resize(length, 0xEE), answer);
         }
-        for (length, answer) in [(65_536, DONE), (65_537, (3, 0))] {
+        for (length, answer) in [(65_537, DONE), (1_048_576, DONE), (1_048_577, (3, 0))] {
             let name = format!("an image of {length} bytes");
             self.changed(name, &fit, |i| i.image.resize(length, 0x5A), answer);
         }
@@ -126,41 +130,44 @@ impl Limits {
 
     /// Sections, placements, symbols and external values.
     fn counts(&mut self) {
-        for (count, answer) in [(32, DONE), (33, (5, 0))] {
+        for (count, answer) in [(128, DONE), (129, (5, 0))] {
             let mut fit = code(&[], &[]);
             fit.sections.resize(count, Section::default());
             self.add(format!("{count} sections"), fit, answer);
         }
         // Every section but the first is placed, one behind the other.
         let section = |index: u64| (Section::loaded(1, &[index as u8; 3]), 0x1000 + 3 * index);
-        let sections: Vec<(Section, u64)> = (0..31).map(section).collect();
-        let fit = Fit::placed(0x1000, 93, &sections);
-        self.add("31 placements", fit.clone(), DONE);
-        for (count, answer) in [(32, (6, 32)), (33, (2, 0))] {
+        let sections: Vec<(Section, u64)> = (0..127).map(section).collect();
+        let fit = Fit::placed(0x1000, 381, &sections);
+        self.add("127 placements", fit.clone(), DONE);
+        for (count, answer) in [(128, (6, 128)), (129, (2, 0))] {
             let mut fit = fit.clone();
             fit.placements = (1..=count).map(|row| (row, 0x1000)).collect();
             self.add(format!("{count} placements"), fit, answer);
         }
-        for (count, answer) in [(1_023, DONE), (1_024, (5, 2))] {
+        for (count, answer) in [(8_191, DONE), (8_192, (5, 2))] {
             let undefined = vec![Symbol::new(GLOBAL, 0, 0); count];
             let fit = code(&undefined, &[Relocation::new(0, WORD, 0, 0)]);
             self.add(format!("symbol 0 and {count} more"), fit, answer);
         }
-        for symbol in [1, 2, 1_023, 1_024, 0xFF_FFFF] {
+        for symbol in [1, 2, 8_191, 8_192, 0xFF_FFFF] {
             let fit = code(&[], &[Relocation::new(0, WORD, symbol, 0)]);
             self.add(format!("symbol {symbol}"), fit, (10, 0));
         }
-        let mut fit = code(&vec![Symbol::new(GLOBAL, 0, 0); 1_023], &[]);
-        for (count, answer) in [(1_023, DONE), (1_024, (7, 1_024)), (1_025, (2, 0))] {
+        let mut fit = code(&vec![Symbol::new(GLOBAL, 0, 0); 8_191], &[]);
+        for (count, answer) in [(8_191, DONE), (8_192, (7, 8_192)), (8_193, (2, 0))] {
             let value = |symbol: u32| (symbol, self.top - u64::from(symbol));
             fit.external_values = (1..=count).map(value).collect();
             self.add(format!("{count} external values"), fit.clone(), answer);
         }
+        // Symbol 0 can have none.
+        fit.external_values = (0..8_192).map(|symbol| (symbol, 0)).collect();
+        self.add("8,192 external values from symbol 0 on", fit, (7, 0));
     }
 
     /// Two loaded sections of nine and eight bytes with so many markers; the last
     /// of the second is at an offset of its own. Both RELA sections have their
-    /// bytes in common, since an object of class 2 has no room for 4,096.
+    /// bytes in common.
     fn markers(&self, first: u64, second: u64, last: u64) -> Fit {
         let mut list = vec![Relocation::new(8, RELAX, 0, 0); first.max(second) as usize];
         list[second as usize - 1].offset = last;
@@ -180,25 +187,103 @@ impl Limits {
 
     fn relocations(&mut self) {
         for (first, second, answer) in [
-            (2_048, 2_048, DONE),
-            (2_048, 2_049, (5, 5)),
-            (2_047, 2_049, DONE),
-            (2_600, 1_496, DONE),
-            (2_600, 1_497, (5, 5)),
+            (16_384, 16_384, DONE),
+            (16_384, 16_385, (5, 5)),
+            (16_383, 16_385, DONE),
+            (20_800, 11_968, DONE),
+            (20_800, 11_969, (5, 5)),
         ] {
             let fit = self.markers(first, second, 8);
             self.add(format!("{first} relocations and {second}"), fit, answer);
         }
         // Inside the first section and past the second.
-        let fit = self.markers(2_047, 2_049, 9);
-        self.add("the last of 4,096 relocations", fit, (9, 4_095));
+        let fit = self.markers(16_383, 16_385, 9);
+        self.add("the last of 32,768 relocations", fit, (9, 32_767));
+        for (count, answer) in [(32_768, DONE), (32_769, (5, 3))] {
+            let fit = code(&[], &vec![Relocation::new(8, RELAX, 0, 0); count]);
+            self.add(format!("{count} relocations"), fit, answer);
+        }
+    }
+
+    /// 128 sections, 8,192 symbols and 32,768 relocations in 1,048,576 bytes, laid
+    /// into as long an image. The last relocations are pairs, the last symbols
+    /// their labels, and all lead into the last section.
+    fn largest(&self) -> Fit {
+        const PAIRS: u64 = 512;
+        let code = [0x17, 0x05, 0, 0, 0x13, 0x05, 0x05, 0].repeat(PAIRS as usize);
+        let mut symbols = vec![Symbol::new(GLOBAL, 127, 0x765); 8_191 - PAIRS as usize];
+        let mut list = vec![Relocation::new(0, RELAX, 0, 0); 32_768 - 2 * PAIRS as usize];
+        for pair in 0..PAIRS {
+            let hi20 = Relocation::new(8 * pair, PCREL_HI20, 1, pair as i64);
+            symbols.push(Symbol::new(0, 1, hi20.offset));
+            let label = symbols.len() as u32;
+            list.push(hi20);
+            list.push(Relocation::new(8 * pair + 4, PCREL_LO12_I, label, 0));
+        }
+        let mut fit = Fit::code(0x1000, &code, &symbols, &list);
+        for section in 4..128 {
+            fit.sections.push(Section::loaded(1, &[section as u8]));
+            fit.placements.push((section, 0x2000 + u64::from(section)));
+        }
+        fit.base = 0x1000;
+        fit.image.resize(1_048_576, 0x5A);
+        // From 0x1000 to the last section's byte.
+        fit.journal = journal(0x1000 + 128);
+        fit
+    }
+
+    fn all_at_once(&mut self) {
+        let fit = self.largest();
+        let long = |input: &mut Input| input.object.resize(1_048_576, 0xEE);
+        self.changed("the largest", &fit, long, DONE);
+        let mut short = fit.clone();
+        short.journal.pop();
+        self.changed("the largest, and no room", &short, long, (15, 0));
+        let mut wrong = fit.clone();
+        wrong.sections[3].relocations_mut()[32_767].addend = 1;
+        self.changed("the largest, the last record", &wrong, long, (9, 32_767));
+        let mut wrong = fit.clone();
+        wrong.sections[3].relocations_mut()[32_766].kind = HI20;
+        wrong.sections[1].bytes[4_088] = 0x37;
+        self.changed("the largest, the last pair", &wrong, long, (12, 32_767));
+        let mut wrong = fit;
+        wrong.sections[2].symbols_mut()[8_191].section = 128;
+        self.changed("the largest, the last symbol", &wrong, long, (10, 32_767));
+    }
+
+    /// The longest section that an object has room for, at the end of the address
+    /// space and of a whole window, with a relocation at each end.
+    fn longest_section(&mut self) {
+        let others = header_size(self.class) + 4 * section_size(self.class);
+        let entries = 2 * symbol_size(self.class) + 2 * relocation_size(self.class);
+        let size = 1_048_576 - others - entries as usize;
+        let address = self.top - size as u64 + 1;
+        let list = [
+            Relocation::new(0, WORD, 1, 0),
+            Relocation::new(size as u64 - 4, WORD, 1, 1),
+        ];
+        let symbols = [Symbol::absolute(0x1234_5678)];
+        let mut fit = Fit::code(address, &vec![0xC7; size], &symbols, &list);
+        fit.base = self.top - 1_048_575;
+        fit.image = vec![0x5A; 1_048_576];
+        self.add("the longest section", fit.clone(), DONE);
+        let mut wrong = fit.clone();
+        wrong.sections[3].relocations_mut()[1].offset += 1;
+        self.add("a word past the longest section", wrong, (9, 1));
+        fit.sections[1].bytes.push(0);
+        fit.placements[0].1 -= 1;
+        self.add("a longer section", fit, (4, 0));
     }
 
     fn windows(&mut self) {
         let top = self.top;
-        for (base, answer) in [(top - 65_535, DONE), (top - 65_534, (3, 0)), (top, (3, 0))] {
+        for (base, answer) in [
+            (top - 1_048_575, DONE),
+            (top - 1_048_574, (3, 0)),
+            (top, (3, 0)),
+        ] {
             let sections = [(Section::loaded(1, &[7; 16]), top - 15)];
-            let mut fit = Fit::placed(base, 65_536, &sections);
+            let mut fit = Fit::placed(base, 1_048_576, &sections);
             fit.journal = journal(16);
             self.add(format!("a window from {base:#x} on"), fit, answer);
         }
@@ -251,10 +336,6 @@ impl Limits {
     }
 
     fn of_class_1(&mut self) {
-        for (count, answer) in [(4_096, DONE), (4_097, (5, 3))] {
-            let fit = code(&[], &vec![Relocation::new(8, RELAX, 0, 0); count]);
-            self.add(format!("{count} relocations"), fit, answer);
-        }
         let fit = code(&[], &[Relocation::new(0, WORD_64, 0, 0)]);
         self.add("type 2", fit, (9, 0));
         self.one("addiw", LO12_I, &[0x1B, 0x05, 0x05, 0], 0x1000, (11, 0));

@@ -11,10 +11,13 @@ const RELA: u32 = 4;
 const NOBITS: u32 = 8;
 const REL: u32 = 9;
 
-/// The most sections; a set of them is the bits of one number.
-pub const MAX_SECTIONS: usize = 32;
-const MAX_SYMBOLS: u64 = 1_024;
-const MAX_RELOCATIONS: u64 = 4_096;
+/// The most sections.
+pub const MAX_SECTIONS: usize = 128;
+pub const MAX_SYMBOLS: usize = 8_192;
+pub const MAX_RELOCATIONS: usize = 32_768;
+
+/// A set of sections, a bit each.
+pub type Set = u128;
 
 /// Check 4: `None` where the header or the file's length is wrong. The class is
 /// known.
@@ -83,12 +86,12 @@ impl<C: Class> Section<'_, C> {
 pub struct Object<'a, C: Class> {
     pub file: &'a [u8],
     headers: &'a [C::Section],
-    /// The sections that are allocated, a bit each.
-    pub allocated: u32,
-    /// Those that are allocated and have bytes in the file, a bit each.
-    pub loaded: u32,
-    /// The RELA sections that count, a bit each.
-    relocation_sections: u32,
+    /// The sections that are allocated.
+    pub allocated: Set,
+    /// Those that are allocated and have bytes in the file.
+    pub loaded: Set,
+    /// The RELA sections that count.
+    relocation_sections: Set,
     symbol_table: Option<usize>,
 }
 
@@ -105,7 +108,7 @@ impl<'a, C: Class> Object<'a, C> {
             symbol_table: None,
         };
         for (index, section) in object.sections().enumerate() {
-            let allocated = u32::from(section.is_allocated()) << index;
+            let allocated = Set::from(section.is_allocated()) << index;
             object.allocated |= allocated;
             if section.kind() != NOBITS {
                 object.loaded |= allocated;
@@ -129,7 +132,7 @@ impl<'a, C: Class> Object<'a, C> {
     /// Whether the sections keep their rules; finds those that hold
     /// relocations on the way.
     fn check_sections(&mut self) -> Result<(), u32> {
-        let (mut targets, mut relocations) = (0_u32, 0);
+        let (mut targets, mut relocations): (Set, u64) = (0, 0);
         for (index, section) in self.sections().enumerate() {
             let mut holds = self.is_well_formed(index, section);
             if matches!(section.kind(), RELA | REL) && is_in(self.allocated, section.info()) {
@@ -140,7 +143,7 @@ impl<'a, C: Class> Object<'a, C> {
                 if holds {
                     relocations += section.size() / C::RELOCATION_SIZE as u64;
                 }
-                holds = holds && relocations <= MAX_RELOCATIONS;
+                holds = holds && relocations <= MAX_RELOCATIONS as u64;
                 self.relocation_sections |= 1 << index;
             }
             if !holds {
@@ -170,7 +173,7 @@ impl<'a, C: Class> Object<'a, C> {
         self.symbol_table == Some(index)
             && section.entry_size() == each
             && section.size().is_multiple_of(each)
-            && section.size() <= each * MAX_SYMBOLS
+            && section.size() <= each * MAX_SYMBOLS as u64
     }
 
     /// A section that counts must be a RELA section with whole entries, and
@@ -224,12 +227,12 @@ fn section_headers<'a, C: Class>(file: &'a [u8], header: &Header) -> Option<&'a 
 }
 
 /// Whether a set of sections holds this index, which may be any number.
-pub fn is_in(set: u32, index: usize) -> bool {
+pub fn is_in(set: Set, index: usize) -> bool {
     index < MAX_SECTIONS && set >> index & 1 != 0
 }
 
 /// The indexes in a set of sections, upward.
-pub fn indexes(set: u32) -> impl Iterator<Item = usize> {
+pub fn indexes(set: Set) -> impl Iterator<Item = usize> {
     let mut left = set;
     std::iter::from_fn(move || {
         let lowest = (left != 0).then_some(left.trailing_zeros() as usize);

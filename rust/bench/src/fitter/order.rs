@@ -3,8 +3,8 @@
 use super::class::Class;
 use super::MAX_BYTES;
 
-const MAX_PLACEMENTS: u32 = 32;
-const MAX_EXTERNAL_VALUES: u32 = 1_024;
+const MAX_PLACEMENTS: u32 = 128;
+const MAX_EXTERNAL_VALUES: u32 = 8_192;
 
 /// An order whose bytes are well formed.
 pub struct Order<'a, C: Class> {
@@ -58,7 +58,7 @@ fn read_pairs<C: Class>(bytes: &[u8], limit: u32) -> Option<(&[C::Pair], &[u8])>
     ascends.then_some((pairs, rest))
 }
 
-/// Check 3: "length 0 to 65,536, end at most 2^32", or 2^64.
+/// Check 3: the length is not above the limit, "end at most 2^32", or 2^64.
 pub fn is_allowed_window<C: Class>(base: u64, image_length: usize) -> bool {
     image_length <= MAX_BYTES && (image_length as u64).saturating_sub(1) <= C::LAST_ADDRESS - base
 }

@@ -2,7 +2,7 @@
 
 use super::class::Class;
 use super::journal::Span;
-use super::object::{indexes, is_in, Object, MAX_SECTIONS};
+use super::object::{indexes, is_in, Object, Set, MAX_SECTIONS};
 use super::order::Order;
 
 /// The address of each allocated section.
@@ -12,7 +12,7 @@ pub type Addresses = [u64; MAX_SECTIONS];
 /// placed.
 pub fn addresses<C: Class>(object: &Object<C>, order: &Order<C>) -> Result<Addresses, u32> {
     let mut addresses = [0; MAX_SECTIONS];
-    let (mut placed, mut beyond) = (0_u32, None);
+    let (mut placed, mut beyond): (Set, _) = (0, None);
     for (section, address) in order.placements() {
         match addresses.get_mut(section as usize) {
             Some(place) => {

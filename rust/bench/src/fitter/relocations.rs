@@ -4,8 +4,8 @@ use super::bytes::{double_word_at, half_at};
 use super::class::{Class, Word};
 use super::exact;
 use super::forms::{is_call, missing_forms};
-use super::object::Object;
-use super::pairs::HighHalves;
+use super::object::{Object, MAX_RELOCATIONS};
+use super::pairs::{HighHalves, Room};
 use super::placing::Addresses;
 use super::symbols::Symbols;
 use super::types::{Rules, Way};
@@ -170,21 +170,29 @@ pub fn check<C: Class>(
 fn check_list<C: Class>(list: &List<C>, symbols: &mut Symbols<C>) -> Result<(), (u32, u32)> {
     match check_from(list, symbols, 0, Before::START, None)? {
         Reached::End => Ok(()),
-        Reached::Pair(index, before) => check_with_pairs(list, symbols, index, before),
+        Reached::Pair(index, before) if list.relocations.len() <= FEW => {
+            check_with_pairs::<C, FEW>(list, symbols, index, before)
+        }
+        Reached::Pair(index, before) => {
+            check_with_pairs::<C, MAX_RELOCATIONS>(list, symbols, index, before)
+        }
     }
 }
+
+/// The most relocations of a list that is not long.
+const FEW: usize = 4_096;
 
 /// Goes on at the first relocation with a pair. The high halves take room on
 /// the stack, which a list without pairs does not pay for.
 #[inline(never)]
-fn check_with_pairs<C: Class>(
+fn check_with_pairs<C: Class, const MOST: usize>(
     list: &List<C>,
     symbols: &mut Symbols<C>,
     start: usize,
     before: Before,
 ) -> Result<(), (u32, u32)> {
-    let mut high_halves = HighHalves::none();
-    high_halves.find(list.relocations);
+    let mut room = Room::<C, MOST>::new();
+    let high_halves = room.find(list.relocations);
     check_from(list, symbols, start, before, Some(&high_halves)).map(|_| ())
 }
 

@@ -2,7 +2,7 @@
 //! symbols (check 7).
 
 use super::class::{Class, Word};
-use super::object::{is_in, Object};
+use super::object::{is_in, Object, Set};
 use super::order::Order;
 use super::placing::Addresses;
 
@@ -15,11 +15,11 @@ const IFUNC: u8 = 10;
 /// Set in the mark of a symbol whose S is known.
 const KNOWN: u32 = 1 << 31;
 /// The bits of a label's mark that are the place of its pair.
-const PAIR: u32 = 0xFFF;
+const PAIR: u32 = 0x7FFF;
 
 /// What is known of a symbol by now.
 #[derive(Clone, Copy, Default)]
-struct Memory<W> {
+pub struct Memory<W> {
     value: W,
     mark: u32,
 }
@@ -29,19 +29,25 @@ struct Memory<W> {
 /// few relocations costs no more than it must.
 pub struct Symbols<'a, C: Class> {
     entries: &'a [C::Symbol],
-    allocated: u32,
+    allocated: Set,
     addresses: &'a Addresses,
-    memory: [Memory<C::Word>; 1_024],
+    memory: &'a mut [Memory<C::Word>],
     has_pairs: bool,
 }
 
 impl<'a, C: Class> Symbols<'a, C> {
-    pub fn new(object: &Object<'a, C>, addresses: &'a Addresses) -> Symbols<'a, C> {
-        let mut symbols = Symbols {
+    /// The memory is as long as the symbol table or longer, and has an entry for
+    /// symbol 0.
+    pub fn new(
+        object: &Object<'a, C>,
+        addresses: &'a Addresses,
+        memory: &'a mut [Memory<C::Word>],
+    ) -> Symbols<'a, C> {
+        let symbols = Symbols {
             entries: object.symbols(),
             allocated: object.allocated,
             addresses,
-            memory: [Memory::default(); 1_024],
+            memory,
             has_pairs: false,
         };
         // S is 0 for symbol 0, whatever its entry holds.

@@ -36,3 +36,23 @@ fn ledger_entries() {
         assert_eq!(state.journal, first.journal);
     }
 }
+
+/// The longest image that a taking-back takes, and one byte more.
+#[test]
+fn image_of_a_taking_back() {
+    for class in Class::ALL {
+        let mut state = Input::from(&Fit::code(0x1000, &[0; 8], &[], &[]).of(class));
+        state.image.resize(1_048_576, 0x5A);
+        let first = state.clone();
+        let outcome = compare(&state, Call::Fit).expect("no difference");
+        assert_eq!(outcome.answer, (0, 0), "{class:?}");
+        (state.image, state.journal) = (outcome.image, outcome.journal);
+        state.image.push(0);
+        let outcome = compare(&state, Call::TakeBack).expect("no difference");
+        assert_eq!(outcome.answer, (3, 0), "{class:?}");
+        state.image.pop();
+        let outcome = compare(&state, Call::TakeBack).expect("no difference");
+        assert_eq!(outcome.answer, (0, 0), "{class:?}");
+        assert!(outcome.image == first.image && outcome.journal == first.journal);
+    }
+}

@@ -9,10 +9,11 @@ use reference::symbol::Symbols;
 
 use crate::Case;
 
-/// The 32 addresses, and the value of each symbol and of three numbers past
-/// the table; `None` for one that does not resolve.
+/// The address of each section, 0 where there is none, and the value of each
+/// symbol and of three numbers past the table; `None` for one that does not
+/// resolve.
 pub struct Placed {
-    pub addresses: [u64; 32],
+    pub addresses: Vec<u64>,
     pub values: Vec<Option<u64>>,
 }
 
@@ -39,7 +40,9 @@ pub fn place(case: &Case) -> Result<Placed, (u32, u32)> {
         Some(u64::try_from(value).expect("from 0 to 2^64 - 1"))
     };
     Ok(Placed {
-        addresses: addresses.map(|address| address.0),
+        addresses: (0..object.sections().len())
+            .map(|section| addresses[section].0)
+            .collect(),
         values: (0..end.unwrap_or(0) + 3).map(value).collect(),
     })
 }

@@ -68,19 +68,23 @@ fn placements() -> Vec<(&'static str, Vec<u32>, (u32, u32))> {
         ("one that is not allocated", vec![1, 2, 3, 5], (6, 2)),
         ("the symbol table", vec![1, 3, 4, 5], (6, 4)),
         ("just past the table", vec![1, 3, 5, 6], (6, 6)),
-        ("row 31", vec![1, 3, 5, 31], (6, 31)),
-        ("row 32", vec![1, 3, 5, 32], (6, 32)),
-        ("row 33", vec![1, 3, 5, 33], (6, 33)),
+        ("row 127", vec![1, 3, 5, 127], (6, 127)),
+        ("row 128", vec![1, 3, 5, 128], (6, 128)),
+        ("row 129", vec![1, 3, 5, 129], (6, 129)),
         ("row 257", vec![1, 3, 5, 257], (6, 257)),
         ("row 65,537", vec![1, 3, 5, 65_537], (6, 65_537)),
         ("row 2^31", vec![1, 3, 5, 1 << 31], (6, 1 << 31)),
         ("row 2^32 - 1", vec![1, 3, 5, u32::MAX], (6, u32::MAX)),
-        ("many past the table", vec![1, 3, 5, 9, 31, 32, 77], (6, 9)),
+        (
+            "many past the table",
+            vec![1, 3, 5, 9, 127, 128, 177],
+            (6, 9),
+        ),
         ("extra below missing", vec![1, 2, 5], (6, 2)),
         ("missing below extra", vec![1, 4, 5], (6, 3)),
         ("row 0 below missing", vec![0, 3, 5], (6, 0)),
         ("missing below 2^32 - 1", vec![3, 5, u32::MAX], (6, 1)),
-        ("last missing below row 31", vec![1, 3, 31], (6, 5)),
+        ("last missing below row 127", vec![1, 3, 127], (6, 5)),
         ("last missing below row 6", vec![1, 3, 6], (6, 5)),
         ("extra just below missing", vec![1, 3, 4], (6, 4)),
         ("all the others", vec![0, 2, 4, 6], (6, 0)),
@@ -97,10 +101,10 @@ fn placement_cases() -> Vec<Case> {
     placements().into_iter().map(case).collect()
 }
 
-/// A table of 32 sections; all but section 0 and this one are allocated.
+/// A table of 128 sections; all but section 0 and this one are allocated.
 fn full(not_allocated: Option<usize>) -> Fit {
     let section = (Section::loaded(1, &[3]), 0);
-    let mut fit = Fit::placed(BASE, 64, &vec![section; 31]);
+    let mut fit = Fit::placed(BASE, 256, &vec![section; 127]);
     fit.placements.clear();
     if let Some(section) = not_allocated {
         fit.sections[section].flags = 0;
@@ -109,7 +113,7 @@ fn full(not_allocated: Option<usize>) -> Fit {
 }
 
 fn full_cases() -> Vec<Case> {
-    let all_but = |row: u32| (1..32).filter(|other| *other != row).collect::<Vec<u32>>();
+    let all_but = |row: u32| (1..128).filter(|other| *other != row).collect::<Vec<u32>>();
     let with = |row: u32, mut rows: Vec<u32>| {
         rows.push(row);
         rows.sort_unstable();
@@ -117,15 +121,20 @@ fn full_cases() -> Vec<Case> {
     };
     let table = [
         ("all of them", None, all_but(0), DONE),
-        ("31 missing", None, all_but(31), (6, 31)),
+        ("127 missing", None, all_but(127), (6, 127)),
         ("1 missing", None, all_but(1), (6, 1)),
         ("17 missing", None, all_but(17), (6, 17)),
         ("0 too", None, with(0, all_but(0)), (6, 0)),
-        ("32 too", None, with(32, all_but(0)), (6, 32)),
-        ("0 instead of 31", None, with(0, all_but(31)), (6, 0)),
-        ("32 instead of 31", None, with(32, all_but(31)), (6, 31)),
-        ("31 not allocated", Some(31), all_but(31), DONE),
-        ("31 placed", Some(31), all_but(0), (6, 31)),
+        ("128 too", None, with(128, all_but(0)), (6, 128)),
+        ("0 instead of 127", None, with(0, all_but(127)), (6, 0)),
+        (
+            "128 instead of 127",
+            None,
+            with(128, all_but(127)),
+            (6, 127),
+        ),
+        ("127 not allocated", Some(127), all_but(127), DONE),
+        ("127 placed", Some(127), all_but(0), (6, 127)),
         ("1 placed", Some(1), all_but(0), (6, 1)),
         ("1 not allocated", Some(1), all_but(1), DONE),
     ];
@@ -133,7 +142,7 @@ fn full_cases() -> Vec<Case> {
         let mut fit = full(not_allocated);
         let address = |row: &u32| BASE + u64::from(*row);
         fit.placements = rows.iter().map(|row| (*row, address(row))).collect();
-        Case::new(format!("32 rows: {name}"), &fit, stated)
+        Case::new(format!("128 rows: {name}"), &fit, stated)
     };
     table.map(case).into()
 }
@@ -196,7 +205,7 @@ fn externals() -> Vec<(&'static str, Vec<u32>, (u32, u32))> {
         ("just past the table", vec![13], (7, 13)),
         ("further past the table", vec![14], (7, 14)),
         ("symbol 257", vec![257], (7, 257)),
-        ("symbol 1,024", vec![1_024], (7, 1_024)),
+        ("symbol 8,192", vec![8_192], (7, 8_192)),
         ("symbol 65,537", vec![65_537], (7, 65_537)),
         ("symbol 2^28 + 1", vec![(1 << 28) + 1], (7, (1 << 28) + 1)),
         ("symbol 2^31", vec![1 << 31], (7, 1 << 31)),
@@ -235,7 +244,7 @@ fn table_cases() -> Vec<Case> {
         fit.sections.push(Section::symbols(symbols));
         fit
     };
-    let (empty, one, whole) = (with(&[]), with(&undefined(1)), with(&undefined(1_024)));
+    let (empty, one, whole) = (with(&[]), with(&undefined(1)), with(&undefined(8_192)));
     let table = [
         ("no table, no value", &no_table, vec![], DONE),
         ("no table, symbol 0", &no_table, vec![0], (7, 0)),
@@ -247,9 +256,9 @@ fn table_cases() -> Vec<Case> {
         ("one, no value", &one, vec![], DONE),
         ("one, symbol 0", &one, vec![0], (7, 0)),
         ("one, symbol 1", &one, vec![1], (7, 1)),
-        ("full, all", &whole, (1..1_024).collect(), DONE),
-        ("full, one more", &whole, (1..1_025).collect(), (7, 1_024)),
-        ("full, symbol 0 too", &whole, (0..1_024).collect(), (7, 0)),
+        ("full, all", &whole, (1..8_192).collect(), DONE),
+        ("full, one more", &whole, (1..8_193).collect(), (7, 8_192)),
+        ("full, symbol 0 too", &whole, (0..8_192).collect(), (7, 0)),
     ];
     let case = |(name, fit, symbols, stated): (_, &Fit, Vec<u32>, _)| {
         let mut fit = fit.clone();
@@ -266,7 +275,7 @@ pub fn in_order(class: Class) -> Vec<Case> {
     fit.sections[1].alignment = 3;
     fit.placements = vec![(2, 5)];
     fit.external_values = vec![(3, 0)];
-    fit.image = vec![0; 65_537];
+    fit.image = vec![0; 1_048_577];
     let whole = Case::new("", &fit, (4, 0));
     let with = |name: &str, stated, change: &dyn Fn(&mut Case)| {
         let mut case = whole.clone();

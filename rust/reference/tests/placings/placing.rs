@@ -121,13 +121,13 @@ fn ends(top: u64) -> Vec<Row> {
         at_top("from the end around", bytes(257), top - 255, (8, 1)),
         (
             "the last 16 bytes",
-            (top - 65_535, 65_536),
+            (top - 1_048_575, 1_048_576),
             vec![(bytes(16), top - 15)],
             DONE,
         ),
         (
             "the last 16 bytes and one",
-            (top - 65_535, 65_536),
+            (top - 1_048_575, 1_048_576),
             vec![(bytes(17), top - 15)],
             (8, 1),
         ),
@@ -181,9 +181,21 @@ fn windows(top: u64) -> Vec<Row> {
         other("none at the top", (top, 0), bytes(1), top, (8, 1)),
         other("before the top", (top, 1), bytes(1), top - 1, (8, 1)),
         other("0 and the top", (top, 1), bytes(1), 0, (8, 1)),
-        other("the longest window", (0, 65_536), bytes(1), 65_535, DONE),
-        other("behind the longest", (0, 65_536), bytes(1), 65_536, (8, 1)),
-        other("too long a window", (0, 65_537), bytes(1), 0, (3, 0)),
+        other(
+            "the longest window",
+            (0, 1_048_576),
+            bytes(1),
+            1_048_575,
+            DONE,
+        ),
+        other(
+            "behind the longest",
+            (0, 1_048_576),
+            bytes(1),
+            1_048_576,
+            (8, 1),
+        ),
+        other("too long a window", (0, 1_048_577), bytes(1), 0, (3, 0)),
         other("a window past the top", (top, 2), bytes(1), top, (3, 0)),
     ]
 }
@@ -310,42 +322,47 @@ fn far_overlaps(top: u64) -> Vec<Row> {
     ]
 }
 
-/// 31 sections of two bytes one behind the other; then one of them moves.
+/// 127 sections of two bytes one behind the other; then one of them moves.
 fn many() -> Vec<Row> {
-    let line: Vec<(Section, u64)> = (0..31).map(|at| (bytes(2), BASE + 2 * at)).collect();
+    let line: Vec<(Section, u64)> = (0..127).map(|at| (bytes(2), BASE + 2 * at)).collect();
     let moved = |section: usize, address: u64| {
         let mut sections = line.clone();
         sections[section - 1].1 = address;
         sections
     };
     vec![
-        ("31 in a line", (BASE, 62), line.clone(), DONE),
-        ("31 in a shorter window", (BASE, 61), line.clone(), (8, 31)),
-        ("31 in half a window", (BASE, 31), line.clone(), (8, 16)),
-        ("31 before a window", (BASE + 1, 99), line.clone(), (8, 1)),
+        ("127 in a line", (BASE, 254), line.clone(), DONE),
+        (
+            "127 in a shorter window",
+            (BASE, 253),
+            line.clone(),
+            (8, 127),
+        ),
+        ("127 in half a window", (BASE, 127), line.clone(), (8, 64)),
+        ("127 before a window", (BASE + 1, 399), line.clone(), (8, 1)),
         (
             "the last on the first",
-            (BASE, 62),
-            moved(31, BASE),
-            (8, 31),
+            (BASE, 254),
+            moved(127, BASE),
+            (8, 127),
         ),
         (
             "the first on the last",
-            (BASE, 62),
-            moved(1, BASE + 60),
-            (8, 31),
+            (BASE, 254),
+            moved(1, BASE + 252),
+            (8, 127),
         ),
         (
             "the tenth on the ninth",
-            (BASE, 62),
+            (BASE, 254),
             moved(10, BASE + 17),
             (8, 10),
         ),
         (
             "the tenth on the last",
-            (BASE, 62),
-            moved(10, BASE + 59),
-            (8, 30),
+            (BASE, 254),
+            moved(10, BASE + 251),
+            (8, 126),
         ),
     ]
 }

@@ -108,7 +108,7 @@ impl Pair {
     fn edit_list(&mut self, random: &mut Random) {
         let row = match random.below(8) {
             0 => random.u32(),
-            1 => random.pick(&[31, 32, u32::MAX]),
+            1 => random.pick(&[127, 128, u32::MAX]),
             _ => random.below(self.rows() + 1) as u32,
         };
         toggle(&mut self.placements, row, self.base);

@@ -15,7 +15,7 @@ const IFUNC: u8 = 10;
 const COMMON: u16 = 0xFFF2;
 /// Sections that are not in the table, or are no section.
 const OTHERS: [u16; 12] = [
-    6, 7, 31, 32, 33, 0x101, 0xFEFF, 0xFF00, 0xFFF0, COMMON, 0xFFF3, 0xFFFF,
+    6, 7, 127, 128, 129, 0x101, 0xFEFF, 0xFF00, 0xFFF0, COMMON, 0xFFF3, 0xFFFF,
 ];
 
 /// Sections 1, 3 and 5 are allocated, section 4 is the symbol table.
@@ -31,7 +31,7 @@ fn six(symbols: &[Symbol], external_values: &[(u32, u64)]) -> Fit {
         (Section::symbols(symbols), 0),
         (Section::loaded(1, &[]), EMPTY_AT),
     ];
-    let mut fit = Fit::placed(BASE, 64, &sections);
+    let mut fit = Fit::placed(BASE, 256, &sections);
     fit.placements.retain(|(index, _)| index % 2 == 1);
     fit.external_values = external_values.to_vec();
     fit
@@ -155,7 +155,7 @@ fn every_kind() -> Case {
     let mut externals = Vec::new();
     for kind in 0..16 {
         for binding in [LOCAL, GLOBAL, WEAK, 0x30, 0xA0] {
-            for section in [1, 2, 3, 5, 6, 32, ABSOLUTE, COMMON, 0xFFFF, 0, 0] {
+            for section in [1, 2, 3, 5, 6, 128, ABSOLUTE, COMMON, 0xFFFF, 0, 0] {
                 let at = symbols.len() as u32;
                 let is_second = symbols.last().is_some_and(|last| last.section == 0);
                 if section == 0 && is_second {
@@ -172,29 +172,29 @@ fn every_kind() -> Case {
     Case::new("every kind", &six(&symbols, &externals), (0, 0))
 }
 
-/// A symbol of each of 32 sections, of which every third is not allocated.
+/// A symbol of each of 128 sections, of which every third is not allocated.
 fn every_section() -> Case {
     let is_allocated = |index: u32| !index.is_multiple_of(3);
     let symbol = |section: u16| Symbol::new(GLOBAL, section, 0x10_0000);
-    let symbols: Vec<Symbol> = (0..34).map(symbol).collect();
-    let mut sections: Vec<(Section, u64)> = (1..32)
+    let symbols: Vec<Symbol> = (0..130).map(symbol).collect();
+    let mut sections: Vec<(Section, u64)> = (1..128)
         .map(|index| (Section::loaded(1, &[1]), BASE + index))
         .collect();
     for (section, _) in sections.iter_mut().skip(2).step_by(3) {
         section.flags = 0;
     }
-    sections[29].0 = Section::symbols(&symbols);
-    let mut fit = Fit::placed(BASE, 64, &sections);
+    sections[125].0 = Section::symbols(&symbols);
+    let mut fit = Fit::placed(BASE, 256, &sections);
     fit.placements.retain(|(index, _)| is_allocated(*index));
     let mut case = Case::new("every section", &fit, (0, 0));
     let value = |index: u32| {
-        let is_placed = index < 32 && is_allocated(index);
+        let is_placed = index < 128 && is_allocated(index);
         (
             index,
             is_placed.then_some(BASE + 0x10_0000 + u64::from(index)),
         )
     };
-    case.values = (1..34).map(value).collect();
+    case.values = (1..130).map(value).collect();
     case
 }
 

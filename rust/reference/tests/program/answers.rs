@@ -4,7 +4,9 @@ use std::fs;
 use std::os::unix::fs::MetadataExt;
 
 use crate::bench::{good, line, on_both, Bench};
-use testing::build::{journal, Class};
+use reference::install;
+use testing::build::{journal, Class, Symbol};
+use testing::damage::Input;
 
 #[test]
 fn done_and_taken_back() {
@@ -75,6 +77,50 @@ fn too_long() {
             let before = bench.files();
             assert_eq!(line(&bench.take_back()), "too long\n", "{name}");
             assert_eq!(bench.files(), before);
+        }
+    });
+}
+
+/// A file of 65,537 bytes each in turn, and an order with as many values as there
+/// may be: the program keeps its limit, and the library takes all but an order
+/// with bytes left over.
+#[test]
+fn too_long_for_the_program_alone() {
+    let lengthen: [(&str, (u32, u32), fn(&mut Input)); 4] = [
+        ("object", (0, 0), |input| input.object.resize(65_537, 0xEE)),
+        ("order", (2, 0), |input| input.order.resize(65_537, 0)),
+        ("image", (0, 0), |input| input.image.resize(65_537, 0xA5)),
+        ("ledger", (0, 0), |input| input.journal.resize(65_537, 0)),
+    ];
+    let mut inputs = Vec::new();
+    for class in Class::ALL {
+        for (name, answer, longer) in lengthen {
+            let mut input = Input::from(&good().of(class));
+            longer(&mut input);
+            inputs.push((format!("{name}, {class:?}"), answer, input));
+        }
+        let mut fit = good().of(class);
+        fit.sections[2]
+            .symbols_mut()
+            .resize(8_192, Symbol::default());
+        fit.external_values = (2..8_192).map(|symbol| (symbol, 7)).collect();
+        inputs.push((format!("values, {class:?}"), (0, 0), Input::from(&fit)));
+    }
+    for (name, answer, input) in &inputs {
+        let (mut image, mut journal) = (input.image.clone(), input.journal.clone());
+        let taken = install(&input.object, &input.order, &mut image, &mut journal);
+        assert_eq!((taken.number, taken.place), *answer, "{name}");
+    }
+    on_both(|program| {
+        for (name, _, input) in &inputs {
+            let bench = Bench::new(program, &good());
+            bench.write("object", &input.object);
+            bench.write("order", &input.order);
+            bench.write("image", &input.image);
+            bench.write("ledger", &input.journal);
+            let before = bench.files();
+            assert_eq!(line(&bench.fit()), "too long\n", "{name}");
+            assert_eq!(bench.files(), before, "{name}");
         }
     });
 }

@@ -6,7 +6,7 @@ use reference::Class;
 use testing::commands::Commands;
 
 /// The program's space, in bytes.
-pub const SPACE: usize = 65_600;
+pub const SPACE: usize = 1_048_640;
 
 pub fn all(cases: &[Case]) -> Vec<u8> {
     let mut commands = Commands::new(SPACE);

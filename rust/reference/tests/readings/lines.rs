@@ -206,8 +206,8 @@ fn order_numbers(order: &Order) -> Vec<u64> {
         order.external_values.len() as u64,
         digest(order.placements.iter().flat_map(placement)),
         digest(order.external_values.iter().flat_map(external)),
-        digest((0..32).map(|section| placed(order, section).unwrap_or(0))),
-        digest((0..34).flat_map(given)),
+        digest((0..128).map(|section| placed(order, section).unwrap_or(0))),
+        digest((0..130).flat_map(given)),
         digest(sections.flat_map(near).flat_map(given)),
         digest(symbols.flat_map(near).flat_map(given)),
     ]

@@ -171,9 +171,10 @@ impl Edited {
         self.set(COUNT as usize, FLAGS, ALLOCATED);
     }
 
-    /// Lets a section hold so many entries of zeros, in a file of 65,536 bytes.
+    /// Lets a section hold so many entries of zeros, in a file of 1,048,576
+    /// bytes.
     fn fill(&mut self, section: usize, entries: u64) {
-        self.resize(65_536);
+        self.resize(1_048_576);
         let size = entries * self.get(section, ENTRY_SIZE);
         self.place(section, 8_192, size);
     }
@@ -308,10 +309,11 @@ const HEADER: &[Edit] = &[
     ("as long as the header", (5, 0), |o| {
         o.resize(o.header_size())
     }),
-    ("65,535 bytes", DONE, |o| o.resize(65_535)),
-    ("65,536 bytes", DONE, |o| o.resize(65_536)),
-    ("65,537 bytes", (4, 0), |o| o.resize(65_537)),
-    ("65,600 bytes", (4, 0), |o| o.resize(65_600)),
+    ("65,537 bytes", DONE, |o| o.resize(65_537)),
+    ("1,048,575 bytes", DONE, |o| o.resize(1_048_575)),
+    ("1,048,576 bytes", DONE, |o| o.resize(1_048_576)),
+    ("1,048,577 bytes", (4, 0), |o| o.resize(1_048_577)),
+    ("1,048,640 bytes", (4, 0), |o| o.resize(1_048_640)),
 ];
 
 const TABLE: &[Edit] = &[
@@ -330,24 +332,24 @@ const TABLE: &[Edit] = &[
     ("0 sections", (5, 0), |o| o.half(E_SHNUM, 0)),
     ("1 section", DONE, |o| o.half(E_SHNUM, 1)),
     ("a section past the file", (5, 0), |o| o.half(E_SHNUM, 11)),
-    ("31 sections", DONE, |o| {
-        o.resize(65_536);
-        o.half(E_SHNUM, 31);
+    ("127 sections", DONE, |o| {
+        o.resize(1_048_576);
+        o.half(E_SHNUM, 127);
     }),
-    ("32 sections", DONE, |o| {
-        o.resize(65_536);
-        o.half(E_SHNUM, 32);
+    ("128 sections", DONE, |o| {
+        o.resize(1_048_576);
+        o.half(E_SHNUM, 128);
     }),
-    ("33 sections", (5, 0), |o| {
-        o.resize(65_536);
-        o.half(E_SHNUM, 33);
+    ("129 sections", (5, 0), |o| {
+        o.resize(1_048_576);
+        o.half(E_SHNUM, 129);
     }),
     ("266 sections", (5, 0), |o| {
-        o.resize(65_536);
+        o.resize(1_048_576);
         o.half(E_SHNUM, 266);
     }),
     ("65,535 sections", (5, 0), |o| {
-        o.resize(65_536);
+        o.resize(1_048_576);
         o.half(E_SHNUM, 65_535);
     }),
     ("table one byte past the file", (5, 0), |o| {
@@ -357,12 +359,12 @@ const TABLE: &[Edit] = &[
         o.set_table(o.table() + 1)
     }),
     ("table ends at the end, zeros", DONE, |o| {
-        o.resize(65_536);
-        o.set_table(65_536 - 10 * o.row_size());
+        o.resize(1_048_576);
+        o.set_table(1_048_576 - 10 * o.row_size());
     }),
     ("table ends past the end, zeros", (5, 0), |o| {
-        o.resize(65_536);
-        o.set_table(65_537 - 10 * o.row_size());
+        o.resize(1_048_576);
+        o.set_table(1_048_577 - 10 * o.row_size());
     }),
     ("table ends at 2^32 or 2^64", (5, 0), |o| {
         o.set_table(0_u64.wrapping_sub(10 * o.row_size()))
@@ -398,29 +400,9 @@ const OF_CLASS_1: &[Edit] = &[
         o.set_table(13);
         o.half(E_SHNUM, 1);
     }),
-    ("4,095 and 1", DONE, |o| o.fill(CODE_RELA, 4_095)),
-    ("4,096 and 1", (5, 6), |o| o.fill(CODE_RELA, 4_096)),
-    ("4,096 and 0", DONE, |o| {
-        o.fill(CODE_RELA, 4_096);
-        o.set(DATA_RELA, SIZE, 0);
-    }),
-    ("4,097 and 0", (5, 5), |o| {
-        o.fill(CODE_RELA, 4_097);
-        o.set(DATA_RELA, SIZE, 0);
-    }),
-    ("3 and 4,093", DONE, |o| o.fill(DATA_RELA, 4_093)),
-    ("3 and 4,094", (5, 6), |o| o.fill(DATA_RELA, 4_094)),
-    ("4,096 that do not count, and 1", DONE, |o| {
-        o.fill(CODE_RELA, 4_096);
-        o.set(CODE_RELA, INFO, 9);
-    }),
-    ("4,097 that do not count, and 1", DONE, |o| {
-        o.fill(CODE_RELA, 4_097);
-        o.set(CODE_RELA, INFO, COUNT);
-    }),
 ];
 
-/// What only class 2 has: bits above the 32nd, and a shorter room for records.
+/// What only class 2 has: bits above the 32nd.
 const OF_CLASS_2: &[Edit] = &[
     ("64 bytes, which are a row too", (5, 0), |o| {
         o.resize(64);
@@ -469,19 +451,21 @@ const OF_CLASS_2: &[Edit] = &[
     ("records of 12 bytes", (5, 5), |o| {
         o.set(CODE_RELA, ENTRY_SIZE, 12)
     }),
-    ("2,389 records up to the end", DONE, |o| {
-        o.fill(CODE_RELA, 2_389)
+    ("20,000 records up to the end", DONE, |o| {
+        o.fill(CODE_RELA, 20_000);
+        o.resize(8_192 + 24 * 20_000);
     }),
-    ("2,390 records past the end", (5, 5), |o| {
-        o.fill(CODE_RELA, 2_390)
+    ("20,000 records past the end", (5, 5), |o| {
+        o.fill(CODE_RELA, 20_000);
+        o.resize(8_192 + 24 * 20_000 - 1);
     }),
-    ("2,389 and 1,707", DONE, |o| {
-        o.fill(CODE_RELA, 2_389);
-        o.fill(DATA_RELA, 1_707);
+    ("20,000 and 12,768", DONE, |o| {
+        o.fill(CODE_RELA, 20_000);
+        o.fill(DATA_RELA, 12_768);
     }),
-    ("2,389 and 1,708", (5, 6), |o| {
-        o.fill(CODE_RELA, 2_389);
-        o.fill(DATA_RELA, 1_708);
+    ("20,000 and 12,769", (5, 6), |o| {
+        o.fill(CODE_RELA, 20_000);
+        o.fill(DATA_RELA, 12_769);
     }),
 ];
 
@@ -604,10 +588,10 @@ const SYMTABS: &[Edit] = &[
         o.set(SYMBOLS, SIZE, 4 * o.symbol_size() + 8)
     }),
     ("five", DONE, |o| o.set(SYMBOLS, SIZE, 5 * o.symbol_size())),
-    ("1,023 symbols", DONE, |o| o.fill(SYMBOLS, 1_023)),
-    ("1,024 symbols", DONE, |o| o.fill(SYMBOLS, 1_024)),
-    ("1,025 symbols", (5, 4), |o| o.fill(SYMBOLS, 1_025)),
-    ("2,048 symbols", (5, 4), |o| o.fill(SYMBOLS, 2_048)),
+    ("8,191 symbols", DONE, |o| o.fill(SYMBOLS, 8_191)),
+    ("8,192 symbols", DONE, |o| o.fill(SYMBOLS, 8_192)),
+    ("8,193 symbols", (5, 4), |o| o.fill(SYMBOLS, 8_193)),
+    ("16,384 symbols", (5, 4), |o| o.fill(SYMBOLS, 16_384)),
     ("two SYMTABs", (5, 9), |o| {
         o.set(NOTE, KIND, 2);
         o.set(NOTE, ENTRY_SIZE, o.symbol_size());
@@ -773,13 +757,33 @@ const TOGETHER: &[Edit] = &[
         o.set(CODE_RELA, KIND, 1);
         o.set(DATA_RELA, INFO, 1);
     }),
-    ("2,048 and 2,048", DONE, |o| {
-        o.fill(CODE_RELA, 2_048);
-        o.fill(DATA_RELA, 2_048);
+    ("32,767 and 1", DONE, |o| o.fill(CODE_RELA, 32_767)),
+    ("32,768 and 1", (5, 6), |o| o.fill(CODE_RELA, 32_768)),
+    ("32,768 and 0", DONE, |o| {
+        o.fill(CODE_RELA, 32_768);
+        o.set(DATA_RELA, SIZE, 0);
     }),
-    ("2,048 and 2,049", (5, 6), |o| {
-        o.fill(CODE_RELA, 2_048);
-        o.fill(DATA_RELA, 2_049);
+    ("32,769 and 0", (5, 5), |o| {
+        o.fill(CODE_RELA, 32_769);
+        o.set(DATA_RELA, SIZE, 0);
+    }),
+    ("3 and 32,765", DONE, |o| o.fill(DATA_RELA, 32_765)),
+    ("3 and 32,766", (5, 6), |o| o.fill(DATA_RELA, 32_766)),
+    ("32,768 that do not count, and 1", DONE, |o| {
+        o.fill(CODE_RELA, 32_768);
+        o.set(CODE_RELA, INFO, 9);
+    }),
+    ("32,769 that do not count, and 1", DONE, |o| {
+        o.fill(CODE_RELA, 32_769);
+        o.set(CODE_RELA, INFO, COUNT);
+    }),
+    ("16,384 and 16,384", DONE, |o| {
+        o.fill(CODE_RELA, 16_384);
+        o.fill(DATA_RELA, 16_384);
+    }),
+    ("16,384 and 16,385", (5, 6), |o| {
+        o.fill(CODE_RELA, 16_384);
+        o.fill(DATA_RELA, 16_385);
     }),
     ("the lowest of two faults", (5, 4), |o| {
         o.set(SYMBOLS, ENTRY_SIZE, 0);

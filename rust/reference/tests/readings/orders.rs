@@ -76,8 +76,8 @@ fn raw(class: Class) -> Vec<(&'static str, (u32, u32), Vec<u8>)> {
         ("2^29 + 1 placements", MALFORMED, with(2, (1 << 29) + 1)),
         ("2^32 - 1 placements", MALFORMED, with(2, ones)),
         ("section 2^32 - 1", DONE, with(3, ones)),
-        ("section 31", DONE, with(3, 31)),
-        ("section 32", DONE, with(3, 32)),
+        ("section 127", DONE, with(3, 127)),
+        ("section 128", DONE, with(3, 128)),
         ("section 0", DONE, with(3, 0)),
         ("an address of ones", DONE, with(4, u64::MAX)),
         ("an external value less", MALFORMED, with(5, 0)),
@@ -109,7 +109,11 @@ fn raw(class: Class) -> Vec<(&'static str, (u32, u32), Vec<u8>)> {
 fn lists() -> Vec<(&'static str, (u32, u32), Vec<u32>)> {
     vec![
         ("rising", DONE, vec![1, 2, 3]),
-        ("rising with gaps", DONE, vec![0, 7, 31, 32, 33, u32::MAX]),
+        (
+            "rising with gaps",
+            DONE,
+            vec![0, 7, 127, 128, 129, u32::MAX],
+        ),
         (
             "around 2^31",
             DONE,
@@ -152,16 +156,16 @@ fn list_cases(class: Class) -> Vec<Case> {
 
 fn many_cases(class: Class) -> Vec<Case> {
     let table = [
-        (31, 0, DONE),
-        (32, 0, DONE),
-        (33, 0, MALFORMED),
+        (127, 0, DONE),
+        (128, 0, DONE),
+        (129, 0, MALFORMED),
         (256, 0, MALFORMED),
-        (0, 1_023, DONE),
-        (0, 1_024, DONE),
-        (0, 1_025, MALFORMED),
-        (32, 1_024, DONE),
-        (33, 1_024, MALFORMED),
-        (32, 1_025, MALFORMED),
+        (0, 8_191, DONE),
+        (0, 8_192, DONE),
+        (0, 8_193, MALFORMED),
+        (128, 8_192, DONE),
+        (129, 8_192, MALFORMED),
+        (128, 8_193, MALFORMED),
     ];
     let case = |(placements, externals, stated)| {
         let name = format!("{placements} placements, {externals} external values");
@@ -174,16 +178,16 @@ fn many_cases(class: Class) -> Vec<Case> {
 /// One entry of a long list is equal to the one before it.
 fn late_faults(class: Class) -> Vec<Case> {
     let case = |at: usize| {
-        let mut entries = many(1_024);
+        let mut entries = many(8_192);
         entries[at].0 = entries[at - 1].0;
-        let bytes = order(class, 1, &many(32), &entries);
+        let bytes = order(class, 1, &many(128), &entries);
         Case::new(
             format!("entry {at} repeats"),
             Question::Order(class, bytes),
             Some(MALFORMED),
         )
     };
-    [1, 2, 512, 1_022, 1_023].map(case).into()
+    [1, 2, 4_096, 8_190, 8_191].map(case).into()
 }
 
 /// An order cut at every length.
@@ -213,23 +217,23 @@ fn windows(class: Class) -> Vec<Case> {
     let table = [
         (0, 0, 0),
         (0, 1, 0),
-        (0, 65_535, 0),
-        (0, 65_536, 0),
-        (0, 65_537, 3),
+        (0, 1_048_575, 0),
+        (0, 1_048_576, 0),
+        (0, 1_048_577, 3),
         (0, LONGEST, 3),
-        (half, 65_536, 0),
+        (half, 1_048_576, 0),
         (half, 0x8000_0000, 3),
-        (end - 65_535, 65_535, 0),
-        (end - 65_535, 65_536, 0),
-        (end - 65_535, 65_537, 3),
-        (end - 65_534, 65_535, 0),
-        (end - 65_534, 65_536, 3),
+        (end - 1_048_575, 1_048_575, 0),
+        (end - 1_048_575, 1_048_576, 0),
+        (end - 1_048_575, 1_048_577, 3),
+        (end - 1_048_574, 1_048_575, 0),
+        (end - 1_048_574, 1_048_576, 3),
         (end - 9, 10, 0),
         (end - 9, 11, 3),
         (end, 0, 0),
         (end, 1, 0),
         (end, 2, 3),
-        (end, 65_536, 3),
+        (end, 1_048_576, 3),
         (end, LONGEST, 3),
     ];
     let case = |(base, length, number)| {
@@ -240,7 +244,7 @@ fn windows(class: Class) -> Vec<Case> {
     let mut cases: Vec<Case> = table.map(case).into();
     if class == Class::Elf64 {
         // Across 2^32, and at it.
-        let across = [(0xFFFF_FFFF, 65_536, 0), (1 << 32, 65_536, 0)];
+        let across = [(0xFFFF_FFFF, 1_048_576, 0), (1 << 32, 1_048_576, 0)];
         cases.extend(across.map(case));
     }
     cases

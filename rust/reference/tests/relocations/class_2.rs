@@ -375,8 +375,7 @@ fn padding() -> Vec<Case> {
 }
 
 /// Which record is named: in the second of two RELA sections, and the last of
-/// 4,096. An object of class 2 has no room for as many, but two RELA sections
-/// may have their bytes in common.
+/// 32,768. Two RELA sections may have their bytes in common.
 fn places() -> Vec<Case> {
     let code = words(&[0x13, 0x17, 0x13]);
     let symbols = [
@@ -397,33 +396,33 @@ fn places() -> Vec<Case> {
     let mut cases = vec![Case::new("no pair in the second", &fit, (12, 3))];
 
     let with = |last: Relocation| {
-        let mut list = vec![Relocation::new(8, RELAX, 0, 0); 2_047];
+        let mut list = vec![Relocation::new(0, NONE, 0, 0); 16_383];
         list.push(last);
         let mut fit = at_64(PLACE, &[0; 8], &[], &list);
         fit.sections.push(Section::loaded(1, &[0; 9]));
         fit.sections.push(Section::relocations(4, 2, &[]));
         // Behind the header, section 1 and one symbol.
         fit.sections[5].offset = Some(64 + 8 + 24);
-        fit.sections[5].size = Some(24 * 2_048);
+        fit.sections[5].size = Some(24 * 16_384);
         fit.placements.push((4, PLACE + 8));
         fit
     };
     let kept = with(Relocation::new(8, NONE, 0, 0));
-    cases.push(Case::new("4,096 in common", &kept, DONE));
+    cases.push(Case::new("32,768 in common", &kept, DONE));
     // 8 is the size of the first, and inside the second.
     let beside = with(Relocation::new(8, ALIGN, 0, 0));
     cases.push(Case::new("ALIGN at the last", &beside, DONE));
     let first = with(Relocation::new(9, NONE, 0, 0));
-    cases.push(Case::new("past the first", &first, (9, 2_047)));
+    cases.push(Case::new("past the first", &first, (9, 16_383)));
     let mut second = kept;
     second.sections[4].bytes.truncate(7);
-    cases.push(Case::new("past the second", &second, (9, 2_048)));
+    cases.push(Case::new("past the second", &second, (9, 32_767)));
     cases
 }
 
 /// The longest section that an object of 65,536 bytes has room for, at the end
 /// of the address space, with a relocation at each end.
-fn longest() -> Case {
+fn long() -> Case {
     const SIZE: usize = 65_536 - 64 - 4 * 64 - 2 * 24 - 2 * 24;
     let last = SIZE as u64 - 8;
     let list = [
@@ -441,7 +440,7 @@ fn longest() -> Case {
     let mut after = vec![0; SIZE];
     after[..8].copy_from_slice(&(S + 1).to_le_bytes());
     after[last as usize..].copy_from_slice(&(S - 1).to_le_bytes());
-    Case::done("the longest section", &fit, &after)
+    Case::done("a long section", &fit, &after)
 }
 
 pub fn cases() -> Vec<Case> {
@@ -456,7 +455,7 @@ pub fn cases() -> Vec<Case> {
     cases.extend(pairs());
     cases.extend(padding());
     cases.extend(places());
-    cases.push(longest());
+    cases.push(long());
     let class_2 = |case: Case| Case {
         name: format!("class 2: {}", case.name),
         ..case

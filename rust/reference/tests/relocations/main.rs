@@ -143,7 +143,7 @@ fn stated_bytes() {
 /// same bytes one section after the other, by address.
 #[test]
 fn answers_of_the_whole() {
-    for case in cases().iter().filter(|case| case.image_length <= 65_536) {
+    for case in cases().iter().filter(|case| case.image_length <= 1_048_576) {
         let mut image = vec![0; case.image_length];
         let mut journal = journal(case.image_length);
         let whole = install(&case.object, &case.order, &mut image, &mut journal);

@@ -79,7 +79,7 @@ fn unresolved() -> Vec<Case> {
         ("the symbol table", Symbol::new(GLOBAL, 2, 0), None),
         ("the RELA section", Symbol::new(GLOBAL, 3, 0), None),
         ("one past the sections", Symbol::new(GLOBAL, 7, 0), None),
-        ("section 32", Symbol::new(GLOBAL, 32, 0), None),
+        ("section 128", Symbol::new(GLOBAL, 128, 0), None),
         ("section 0x101", Symbol::new(GLOBAL, 0x101, 0), None),
         ("section 0xFF00", Symbol::new(GLOBAL, 0xFF00, 0), None),
         ("section 0xFFF0", Symbol::new(GLOBAL, 0xFFF0, 0), None),

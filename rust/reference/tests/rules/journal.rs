@@ -166,10 +166,10 @@ fn checks_of_a_taking_back() {
         (answer.number, answer.place)
     };
     let standing = ledger(1, &[(0, 0)], 0, 0);
-    assert_eq!(call(65_536, standing.clone()), DONE);
-    assert_eq!(call(65_537, standing.clone()), (3, 0));
-    assert_eq!(call(65_537, ledger(0, &[], 0, 0)), (3, 0), "3 before 16");
-    assert_eq!(call(65_537, ledger(0, &[], 1, 1)), (1, 0), "1 before 3");
+    assert_eq!(call(1_048_576, standing.clone()), DONE);
+    assert_eq!(call(1_048_577, standing.clone()), (3, 0));
+    assert_eq!(call(1_048_577, ledger(0, &[], 0, 0)), (3, 0), "3 before 16");
+    assert_eq!(call(1_048_577, ledger(0, &[], 1, 1)), (1, 0), "1 before 3");
     assert_eq!(call(0, ledger(0, &[], 0, 0)), (16, 0));
     assert_eq!(call(0, standing), DONE);
 }

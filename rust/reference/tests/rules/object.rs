@@ -99,7 +99,7 @@ fn file_length() {
         }
         let cut = &file[..header];
         assert_eq!(unplaced(class, cut), (5, 0), "the table is missing");
-        file.resize(65_536, 0);
+        file.resize(1_048_576, 0);
         assert_eq!(unplaced(class, &file), DONE);
         file.push(0);
         assert_eq!(unplaced(class, &file), (4, 0));
@@ -120,8 +120,8 @@ fn table_numbers() {
         assert_eq!(with(table_at, &[0xFF; 4]), (5, 0), "e_shoff");
     }
     let many = |count| whole(&vec![Section::default(); count]);
-    assert_eq!(many(32), DONE);
-    assert_eq!(many(33), (5, 0));
+    assert_eq!(many(128), DONE);
+    assert_eq!(many(129), (5, 0));
 }
 
 /// A table that ends at 2^64 or past it, also where its end wraps into the file.
@@ -248,8 +248,8 @@ fn allocated_rows_of_other_types() {
 fn symbol_table() {
     let table = |count| Section::symbols(&vec![Symbol::default(); count]);
     assert_eq!(rows(&[table(0)]), DONE);
-    assert_eq!(rows(&[table(1_024)]), DONE);
-    assert_eq!(rows(&[table(1_025)]), (5, 1));
+    assert_eq!(rows(&[table(8_192)]), DONE);
+    assert_eq!(rows(&[table(8_193)]), (5, 1));
     assert_eq!(changed(|rows| rows[2].entry_size = Some(15)), (5, 2));
     assert_eq!(changed(|rows| rows[2].entry_size = Some(0)), (5, 2));
     assert_eq!(changed(|rows| rows[2].size = Some(31)), (5, 2));
@@ -286,7 +286,7 @@ fn symbol_table_above_the_rela() {
 
 #[test]
 fn rela_that_does_not_count() {
-    for info in [0, 2, 3, 4, 31, u32::MAX] {
+    for info in [0, 2, 3, 4, 31, 127, 128, u32::MAX] {
         let spoiled = |rows: &mut Vec<Section>| {
             rows[3].info = info;
             rows[3].link = 9;
@@ -339,11 +339,10 @@ fn two_rela_for_one_row() {
     assert_eq!(changed(second_does_not_count), DONE);
 }
 
-/// Two loaded sections whose RELA rows hold so many markers. An object of class
-/// 2 has no room for as many as there may be.
-fn markers(class: Class, first: usize, second: usize) -> (u32, u32) {
+/// Two loaded sections whose RELA rows hold so many markers.
+fn markers(first: usize, second: usize) -> Fit {
     let list = |count| vec![Relocation::new(0, 0, 0, 0); count];
-    let fit = Fit {
+    Fit {
         class: Class::Elf32,
         sections: vec![
             Section::default(),
@@ -358,34 +357,36 @@ fn markers(class: Class, first: usize, second: usize) -> (u32, u32) {
         external_values: vec![],
         image: vec![],
         journal: journal(0),
-    };
-    fit.of(class).answer()
+    }
 }
 
 #[test]
 fn number_of_records() {
-    let of_32 = |first, second| markers(Class::Elf32, first, second);
-    assert_eq!(of_32(4_096, 0), DONE);
-    assert_eq!(of_32(4_097, 0), (5, 4));
-    assert_eq!(of_32(96, 4_000), DONE);
-    assert_eq!(of_32(96, 4_001), (5, 5));
+    let of_both = |first, second| markers(first, second).answer_of_both();
+    assert_eq!(of_both(32_768, 0), DONE);
+    assert_eq!(of_both(32_769, 0), (5, 4));
+    assert_eq!(of_both(768, 32_000), DONE);
+    assert_eq!(of_both(768, 32_001), (5, 5));
     let ignored = |rows: &mut Vec<Section>| {
-        let list = vec![Relocation::new(0, 0, 0, 0); 2_000];
+        let list = vec![Relocation::new(0, 0, 0, 0); 33_000];
         rows.push(Section::relocations(2, 2, &list));
     };
     assert_eq!(changed(ignored), DONE, "rows that do not count");
 }
 
-/// In class 2 the file's length comes first: 65,536 bytes have room for 2,712
-/// records beside the header and six rows. RELA rows that share their bytes
-/// hold more.
+/// The file's length comes first: class 2 has room for 43,672 records beside the
+/// header and six rows.
 #[test]
 fn number_of_records_in_class_2() {
-    let of_64 = |first, second| markers(Class::Elf64, first, second);
-    assert_eq!(of_64(2_712, 0), DONE);
-    assert_eq!(of_64(2_713, 0), (4, 0));
-    let shared = |first: u64, second: u64| {
-        let list = vec![Relocation::new(0, 0, 0, 0); 2_048];
+    let of_64 = |first| markers(first, 0).of(Class::Elf64).answer();
+    assert_eq!(of_64(43_672), (5, 4));
+    assert_eq!(of_64(43_673), (4, 0));
+}
+
+#[test]
+fn number_of_records_that_share_their_bytes() {
+    let of = |class: Class, first: u64, second: u64| {
+        let list = vec![Relocation::new(0, 0, 0, 0); 16_384];
         let mut fit = Fit::placed(
             0,
             0,
@@ -396,14 +397,16 @@ fn number_of_records_in_class_2() {
             Section::relocations(1, 3, &list),
             Section::relocations(2, 3, &[]),
         ]);
-        fit.sections[4].size = Some(24 * first);
-        fit.sections[5].offset = Some(64);
-        fit.sections[5].size = Some(24 * second);
-        fit.of(Class::Elf64).answer()
+        fit.sections[4].size = Some(relocation_size(class) * first);
+        fit.sections[5].offset = Some(header_size(class) as u64);
+        fit.sections[5].size = Some(relocation_size(class) * second);
+        fit.of(class).answer()
     };
-    assert_eq!(shared(2_048, 2_048), DONE);
-    assert_eq!(shared(2_048, 2_049), (5, 5));
-    assert_eq!(shared(2_047, 2_049), DONE);
+    for class in Class::ALL {
+        assert_eq!(of(class, 16_384, 16_384), DONE, "{class:?}");
+        assert_eq!(of(class, 16_384, 16_385), (5, 5), "{class:?}");
+        assert_eq!(of(class, 16_383, 16_385), DONE, "{class:?}");
+    }
 }
 
 #[test]

@@ -68,10 +68,10 @@ fn counts() {
     let ascending = |count: u32| -> Vec<(u32, u64)> { (1..=count).map(|at| (at, 0)).collect() };
     let placed = |count| answer(|class| order(class, 0, &ascending(count), &[]));
     let valued = |count| answer(|class| order(class, 0, &[], &ascending(count)));
-    assert_eq!(placed(32), (6, 1));
-    assert_eq!(placed(33), (2, 0));
-    assert_eq!(valued(1_024), (7, 1));
-    assert_eq!(valued(1_025), (2, 0));
+    assert_eq!(placed(128), (6, 1));
+    assert_eq!(placed(129), (2, 0));
+    assert_eq!(valued(8_192), (7, 1));
+    assert_eq!(valued(8_193), (2, 0));
     assert_eq!(answer(|class| words(class, 1, 0, &[u32::MAX, 0])), (2, 0));
     assert_eq!(answer(|class| words(class, 1, 0, &[0, u32::MAX])), (2, 0));
 }
@@ -99,17 +99,17 @@ fn window() {
         (Class::Elf64, u64::MAX),
     ] {
         let from = |base, length| answer_of(class, &order(class, base, &[], &[]), length);
-        assert_eq!(from(0, 65_536), DONE);
-        assert_eq!(from(0, 65_537), (3, 0));
-        assert_eq!(from(top - 65_535, 65_536), DONE, "ends at the top");
-        assert_eq!(from(top - 65_534, 65_536), (3, 0));
+        assert_eq!(from(0, 1_048_576), DONE);
+        assert_eq!(from(0, 1_048_577), (3, 0));
+        assert_eq!(from(top - 1_048_575, 1_048_576), DONE, "ends at the top");
+        assert_eq!(from(top - 1_048_574, 1_048_576), (3, 0));
         assert_eq!(from(top, 0), DONE);
         assert_eq!(from(top, 1), DONE);
         assert_eq!(from(top, 2), (3, 0));
     }
     let across = order(Class::Elf64, 0xFFFF_FFFF, &[], &[]);
     assert_eq!(
-        answer_of(Class::Elf64, &across, 65_536),
+        answer_of(Class::Elf64, &across, 1_048_576),
         DONE,
         "across 2^32"
     );
@@ -130,14 +130,14 @@ fn first_checks_in_order() {
         let header = &right[..header_size(class)];
         let bad_header = &header[..header.len() - 1];
         for object in [&[], bad_header] {
-            assert_eq!(run(object, &[], 65_537, 135), (1, 0), "{class:?}");
-            assert_eq!(run(object, &[], 65_537, 136), (4, 0), "{class:?}");
-            assert_eq!(run(object, &base, 65_537, 136), (4, 0), "{class:?}");
-            assert_eq!(run(object, &base, 65_536, 136), (4, 0), "{class:?}");
+            assert_eq!(run(object, &[], 1_048_577, 135), (1, 0), "{class:?}");
+            assert_eq!(run(object, &[], 1_048_577, 136), (4, 0), "{class:?}");
+            assert_eq!(run(object, &base, 1_048_577, 136), (4, 0), "{class:?}");
+            assert_eq!(run(object, &base, 1_048_576, 136), (4, 0), "{class:?}");
         }
-        assert_eq!(run(header, &[], 65_537, 136), (2, 0), "{class:?}");
-        assert_eq!(run(header, &base, 65_537, 136), (3, 0), "{class:?}");
-        assert_eq!(run(header, &base, 65_536, 136), (5, 0), "{class:?}");
-        assert_eq!(run(&right, &base, 65_536, 136), DONE, "{class:?}");
+        assert_eq!(run(header, &[], 1_048_577, 136), (2, 0), "{class:?}");
+        assert_eq!(run(header, &base, 1_048_577, 136), (3, 0), "{class:?}");
+        assert_eq!(run(header, &base, 1_048_576, 136), (5, 0), "{class:?}");
+        assert_eq!(run(&right, &base, 1_048_576, 136), DONE, "{class:?}");
     }
 }

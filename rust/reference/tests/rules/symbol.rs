@@ -41,7 +41,7 @@ fn symbol_of_an_allocated_row() {
 
 #[test]
 fn symbol_of_another_row() {
-    for row in [2, 3, 4, 31, 32, 0xFF00, 0xFFF0, 0xFFF2, 0xFFFF] {
+    for row in [2, 3, 4, 127, 128, 0xFF00, 0xFFF0, 0xFFF2, 0xFFFF] {
         assert_eq!(
             against(Symbol::new(0, row, 0), 0).answer_of_both(),
             (10, 0),
@@ -135,7 +135,7 @@ fn s_and_t_in_class_2() {
 /// The symbol is the upper half of the info, all 32 bits of it.
 #[test]
 fn index_past_the_table_in_class_2() {
-    for symbol in [2, 255, 256, 1_024, 1 << 24, (1 << 24) + 1, u32::MAX] {
+    for symbol in [2, 255, 256, 8_192, 1 << 24, (1 << 24) + 1, u32::MAX] {
         let list = [Relocation::new(0, 1, symbol, 0)];
         let fit = Fit::code(PLACE, &[0; 4], &[Symbol::absolute(0)], &list);
         assert_eq!(fit.of(Class::Elf64).answer(), (10, 0), "symbol {symbol}");

@@ -1,14 +1,14 @@
--- `tests_placings::pairs::addresses` is safe and ends. The loop's invariant: `i` is at most 32. The measure is what is left of it.
+-- `tests_placings::pairs::addresses` is safe and ends. The loop's invariant: `i` is at most `n`. The measure is what is left of it.
 use Prim.Native.Nat.{_≤_, _-_}
 use borrow.Author.Needs.{needs}
 use Rattle.tests_placings.proofs.pairs.addresses.Statement.{statement}
 use Rattle.tests_placings.proofs.pairs.addresses.Tie as tie
 
 abbrev Inv-loop : tie.InvT-loop
-Inv-loop array i₀ i = i ≤ 32
+Inv-loop n array i₀ i = i ≤ n
 
 abbrev μ-loop : tie.MeasureT-loop
-μ-loop array i₀ i = 32 - i
+μ-loop n array i₀ i = n - i
 
 pub addresses-spec : {M : Type 1} → statement M
 addresses-spec =
@@ -16,6 +16,7 @@ addresses-spec =
     (tie.spec
     Inv-loop
     μ-loop
+    (λ c. search needs)
     (λ c. search needs)
     (λ c. search needs)
     (λ c. search needs)

@@ -26,6 +26,7 @@ passed-spec =
     symbol-values-requires
     (λ c κs. search needs)
     (λ c κs. search needs)
+    (λ c κs. search needs)
     (λ c. search needs)
     (λ c. search needs)
     values-requires

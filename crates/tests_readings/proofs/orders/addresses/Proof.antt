@@ -1,14 +1,15 @@
--- `tests_readings::orders::addresses` is safe and ends. The loop's invariant: `i` is at most 32. The measure is what is left of it.
+-- `tests_readings::orders::addresses` is safe and ends. The loop's invariant: `i` is at most `maxSections`. The measure is what is left of it.
 use Prim.Native.Nat.{_≤_, _-_}
+use Rattle.elf_read.specs.Headers.{maxSections}
 use borrow.Author.Needs.{needs}
 use Rattle.tests_readings.proofs.orders.addresses.Statement.{statement}
 use Rattle.tests_readings.proofs.orders.addresses.Tie as tie
 
 abbrev Inv-loop : tie.InvT-loop
-Inv-loop array d₀ i₀ d i = i ≤ 32
+Inv-loop array d₀ i₀ d i = i ≤ maxSections
 
 abbrev μ-loop : tie.MeasureT-loop
-μ-loop array d₀ i₀ d i = 32 - i
+μ-loop array d₀ i₀ d i = maxSections - i
 
 pub addresses-spec : {M : Type 1} → statement M
 addresses-spec =

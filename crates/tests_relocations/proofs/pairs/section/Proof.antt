@@ -9,6 +9,7 @@ use Rattle.numbers_definitions.proofs.Laws.Tests.{and-left}
 use Rattle.elf_read.specs.Headers.{sectionCount}
 use Rattle.elf_read.specs.Sections.{sectionAt, loaded}
 use Rattle.elf_check.specs.Requires.{SoundObject}
+use Rattle.elf_header.specs.Headers.{maxObject}
 use Rattle.elf_header.proofs.Laws.Headers.{header-short}
 use Rattle.elf_check.proofs.Laws.Bounds.{loaded-inside}
 use borrow.Author.Needs.{needs}
@@ -16,7 +17,7 @@ use Rattle.tests_relocations.proofs.pairs.section.Statement.{statement}
 use Rattle.tests_relocations.proofs.pairs.section.Tie as tie
 
 -- a loaded section is no larger than an object may be
-size-small : (s : List ℕ) (f : SoundObject s) (t : ℕ) → t < sectionCount s → loaded (sectionAt s t) ≡ true → sectionAt s t .size ≤ 65536
+size-small : (s : List ℕ) (f : SoundObject s) (t : ℕ) → t < sectionCount s → loaded (sectionAt s t) ≡ true → sectionAt s t .size ≤ maxObject
 size-small s f t h e =
     omega (arith, loaded-inside s f t h e .inside, header-short s (f .header))
 
@@ -39,7 +40,7 @@ looked c = c .before .before
 laid : (c : tie.Then1) → loaded (sectionAt (st (looked c) .args .object .now) (st (looked c) .args .t)) ≡ true
 laid c = sym (ap loaded (header-is (looked c))) ∙ sym (looked c .is-loaded .ensures) ∙ and-left _ _ (c .if1 .taken)
 
-small : (c : tie.Then1) → read (looked c) .read-section .result .size ≤ 65536
+small : (c : tie.Then1) → read (looked c) .read-section .result .size ≤ maxObject
 small c =
     let s = st (looked c) in
     omega (arith, size-small (s .args .object .now) (s .pre .0 .sound) (s .args .t) (s .pre .1) (laid c), ap (λ h. h .size) (header-is (looked c)))
