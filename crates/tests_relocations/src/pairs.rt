@@ -145,6 +145,19 @@ fn lay(
 )
     requires { ⌜ Layable (now object) (now order) array (now words) (now sizes) × (t < sectionCount (now object)) × (loaded (sectionAt (now object) t) ≡ true) × (length (now part) ≡ sectionAt (now object) t .size) ⌝ }
 {
-    relocations_apply::lay_section(object, order, &array, words, sizes, t, part);
+    let mut relas = [0u32; MAX_SECTIONS];
+    let mut starts = [0u32; MAX_SECTIONS];
+    relocations_apply::index_relas(object, &mut relas, &mut starts);
+    relocations_apply::lay_section(
+        object,
+        order,
+        &array,
+        words,
+        sizes,
+        &relas,
+        &starts,
+        t,
+        part,
+    );
     lines::section(t, part);
 }
