@@ -2,3 +2,4 @@
 pub mod Tables
 pub mod Objects
 pub mod Bounds
+pub mod Targets

@@ -1,14 +1,15 @@
 // Which sections are allowed: check 5, of an object whose header passes check 4.
 ghost use mathlib.Core.Path.{_≡_};
-ghost use Prim.Native.Nat.{_<_};
-ghost use mathlib.Core.Bool.{not, _&&_};
-ghost use lib.Dec.{leb, eqb};
-ghost use Rattle.numbers_definitions.specs.First.{everywhere};
+ghost use Prim.Native.Nat.{ℕ, _≤_, _<_};
+ghost use mathlib.Core.Bool.{true, _&&_};
+ghost use lib.ListN.{length, getD};
+ghost use lib.Dec.{leb};
 ghost use Rattle.elf_read.specs.Headers.{sectionCount};
 ghost use Rattle.elf_read.specs.Sections.{sectionAt, symbolTable, countingRela, relocationsBelow};
 ghost use Rattle.elf_read.specs.Requires.{HeaderInside, TableInside};
 ghost use Rattle.elf_check.specs.Rules.{maxRelocations, startsNull, insideFile, allocatedWell, symbolTableWell, noCountingRel, relaKept, relocationsKept, relaWell, relocationsWell, sectionCheck};
-ghost use Rattle.elf_check.specs.Requires.{Targeted};
+ghost use Rattle.elf_check.specs.Requires.{Targeted, targetNew, targetsDiffer};
+use elf_read::MAX_SECTIONS;
 use elf_read::NOBITS;
 use elf_read::NULL;
 use elf_read::REL;
@@ -28,11 +29,38 @@ pub enum SectionCheck {
     Broken(u32),
 }
 
-// Whether no counting RELA below section i has this target.
-fn is_first_for(object: &[u8], i: usize, target: u32) -> bool
-    requires { ⌜ TableInside (now object) × (i < sectionCount (now object)) ⌝ }
-    ensures { λ r. ⌜ r ≡ everywhere (λ j. not (countingRela (now (object .entry)) j && eqb (sectionAt (now (object .entry)) j .info) target)) i ⌝ }
+// Whether no two counting RELA sections have one target, in one way through the sections. `marks` has an entry for each section, which comes
+// as 0 and gets one more than the number of the RELA section that relocates it.
+fn targets_differ(object: &[u8], marks: &mut [u32]) -> bool
+    requires { ⌜ TableInside (now object) × (sectionCount (now object) ≤ length (now marks)) × ((t : ℕ) → getD (now marks) t 0 ≡ 0) ⌝ }
+    ensures { λ r. ⌜ r ≡ targetsDiffer (now (object .entry)) ⌝ }
 {
+    let n = elf_read::section_count(object);
+    let mut i: usize = 0;
+    'next: while i < n {
+        if !elf_read::is_counting_rela(object, i) {
+            i += 1;
+            continue 'next;
+        }
+        let h = elf_read::read_section(object, i);
+        let t = h.info as usize;
+        if marks[t] != 0 {
+            return false;
+        }
+        marks[t] = i as u32 + 1;
+        i += 1;
+    }
+    true
+}
+
+// Whether no counting RELA below section i, which is one, has its target. `differ` tells whether that is so of all.
+fn is_target_new(object: &[u8], differ: bool, i: usize, target: u32) -> bool
+    requires { ⌜ TableInside (now object) × (i < sectionCount (now object)) × (countingRela (now object) i ≡ true) × (target ≡ sectionAt (now object) i .info) × (differ ≡ targetsDiffer (now object)) ⌝ }
+    ensures { λ r. ⌜ r ≡ targetNew (now (object .entry)) i ⌝ }
+{
+    if differ {
+        return true;
+    }
     let mut j: usize = 0;
     while j < i {
         if elf_read::relocates(object, j, target as usize) {
@@ -84,9 +112,10 @@ fn is_number_kept(object: &[u8], few: bool, i: usize) -> bool
     elf_read::relocations_within(object, i + 1, MAX_RELOCATIONS)
 }
 
-// The rules of a counting RELA. `table` is the lowest symbol table, and `few` tells whether all relocations are not too many.
-fn is_rela_kept(object: &[u8], table: usize, few: bool, i: usize) -> bool
-    requires { ⌜ Targeted (now object) i × (table ≡ symbolTable (now object)) × (few ≡ leb (relocationsBelow (now object) (sectionCount (now object))) maxRelocations) ⌝ }
+// The rules of a counting RELA. `table` is the lowest symbol table, `few` tells whether all relocations are not too many,
+// and `differ` whether no two have one target.
+fn is_rela_kept(object: &[u8], table: usize, few: bool, differ: bool, i: usize) -> bool
+    requires { ⌜ Targeted (now object) i × (table ≡ symbolTable (now object)) × (few ≡ leb (relocationsBelow (now object) (sectionCount (now object))) maxRelocations) × (differ ≡ targetsDiffer (now object)) × (countingRela (now object) i ≡ true) ⌝ }
     ensures { λ r. ⌜ r ≡ (relaKept (now (object .entry)) i && relocationsKept (now (object .entry)) i) ⌝ }
 {
     let h = elf_read::read_section(object, i);
@@ -97,13 +126,14 @@ fn is_rela_kept(object: &[u8], table: usize, few: bool, i: usize) -> bool
     sized
         & linked
         & elf_read::is_loaded(target)
-        & is_first_for(object, i, h.info)
+        & is_target_new(object, differ, i, h.info)
         & is_number_kept(object, few, i)
 }
 
-// The rules of RELA and REL sections. `table` is the lowest symbol table, and `few` tells whether all relocations are not too many.
-fn is_relocation_well(object: &[u8], table: usize, few: bool, i: usize) -> bool
-    requires { ⌜ TableInside (now object) × (i < sectionCount (now object)) × (table ≡ symbolTable (now object)) × (few ≡ leb (relocationsBelow (now object) (sectionCount (now object))) maxRelocations) ⌝ }
+// The rules of RELA and REL sections. `table` is the lowest symbol table, `few` tells whether all relocations are not too
+// many, and `differ` whether no two RELA sections have one target.
+fn is_relocation_well(object: &[u8], table: usize, few: bool, differ: bool, i: usize) -> bool
+    requires { ⌜ TableInside (now object) × (i < sectionCount (now object)) × (table ≡ symbolTable (now object)) × (few ≡ leb (relocationsBelow (now object) (sectionCount (now object))) maxRelocations) × (differ ≡ targetsDiffer (now object)) ⌝ }
     ensures { λ r. ⌜ r ≡ (noCountingRel (now (object .entry)) i && relaWell (now (object .entry)) i && relocationsWell (now (object .entry)) i) ⌝ }
 {
     let h = elf_read::read_section(object, i);
@@ -116,7 +146,7 @@ fn is_relocation_well(object: &[u8], table: usize, few: bool, i: usize) -> bool
     if h.kind != RELA {
         return true;
     }
-    is_rela_kept(object, table, few, i)
+    is_rela_kept(object, table, few, differ, i)
 }
 
 // Check 5.
@@ -130,11 +160,13 @@ pub fn check_sections(object: &[u8]) -> SectionCheck
     let n = elf_read::section_count(object);
     let table = elf_read::symbol_table(object);
     let few = elf_read::relocations_within(object, n, MAX_RELOCATIONS);
+    let mut marks = [0u32; MAX_SECTIONS];
+    let differ = targets_differ(object, &mut marks);
     let mut i: usize = 0;
     while i < n {
         if !(is_plain_well(object, i)
             & is_symbol_table_well(object, table, i)
-            & is_relocation_well(object, table, few, i)) {
+            & is_relocation_well(object, table, few, differ, i)) {
             return SectionCheck::Broken(i as u32);
         }
         i += 1;

@@ -6,6 +6,8 @@ use native.Mathlib.Omega.{arith}
 use lib.Dec.{leb}
 use borrow.Author.Count.{below-more}
 use borrow.Author.Tests.{not-true, not-false}
+use Rattle.numbers_definitions.proofs.Laws.Lists.{zeros-length, zeros-at}
+use Rattle.elf_read.specs.Headers.{maxSections}
 use Rattle.elf_read.specs.Sections.{relocationsBelow}
 use Rattle.elf_read.specs.Requires.{TableInside}
 use Rattle.elf_header.specs.Headers.{tableAllowed}
@@ -17,10 +19,10 @@ use Rattle.elf_check.proofs.check_sections.Statement.{statement}
 use Rattle.elf_check.proofs.check_sections.Tie as tie
 
 abbrev Inv-loop : tie.InvT-loop
-Inv-loop object n table few i₀ i = (i ≤ n) × ((j : ℕ) → j < i → not (sectionWell object j) ≡ false)
+Inv-loop object n table few differ i₀ i = (i ≤ n) × ((j : ℕ) → j < i → not (sectionWell object j) ≡ false)
 
 abbrev μ-loop : tie.MeasureT-loop
-μ-loop object n table few i₀ i = n - i
+μ-loop object n table few differ i₀ i = n - i
 
 -- ---- the places on the way: an inserted line moves one of them
 
@@ -40,7 +42,10 @@ abbrev looked : tie.After-relocations-within Inv-loop μ-loop → tie.After-symb
 looked c = c .before
 
 abbrev begun : tie.At-loop Inv-loop μ-loop → tie.After-relocations-within Inv-loop μ-loop
-begun c = c .before
+begun c = search
+
+abbrev marked : tie.At-loop Inv-loop μ-loop → tie.After-targets-differ Inv-loop μ-loop
+marked c = search
 
 abbrev head : tie.After-is-plain-well Inv-loop μ-loop → tie.At-loop Inv-loop μ-loop
 head c = c .before .before
@@ -77,6 +82,13 @@ symbol-table-requires c κs = inside (left c)
 relocations-within-requires : tie.Need-relocations-within-requires Inv-loop μ-loop
 relocations-within-requires c κs = (inside (left (counted c)), omega (arith, counted c .section-count .ensures))
 
+targets-differ-requires : tie.Need-targets-differ-requires Inv-loop μ-loop
+targets-differ-requires c κs =
+    let within : tie.After-relocations-within Inv-loop μ-loop = search in
+    let table = inside (left (counted (looked within))) in
+    let long = zeros-length maxSections in
+    (table, omega (arith, table .few, long), zeros-at maxSections)
+
 loop-holds : tie.Need-loop-holds Inv-loop μ-loop
 loop-holds c = (omega arith, λ j h. absurd (omega arith))
 
@@ -101,10 +113,11 @@ is-relocation-well-requires c κs =
       omega (arith, n .section-count .ensures),
       table .symbol-table .ensures,
       below .relocations-within .ensures ∙ ap (λ m. leb (relocationsBelow (entered (tested (left n)) .args .object .now) m) maxRelocations) (n .section-count .ensures),
+      marked (head (plain c)) .targets-differ .ensures,
     )
 
-cast-t12 : tie.Need-cast-t14 Inv-loop μ-loop
-cast-t12 c =
+cast-place : tie.Need-cast-t18 Inv-loop μ-loop
+cast-place c =
     let at = head (plain (tabled (c .before))) in
     let n = counted (looked (begun at)) in
     omega (arith, inside (left n) .few, n .section-count .ensures)
@@ -139,11 +152,13 @@ check-sections-spec =
     (λ c κs. search needs)
     symbol-table-requires
     relocations-within-requires
+    (λ c. search needs)
+    targets-differ-requires
     loop-holds
     is-plain-well-requires
     is-symbol-table-well-requires
     is-relocation-well-requires
-    cast-t12
+    cast-place
     returns-2
     (λ c. search needs)
     (λ c. search needs)

@@ -5,6 +5,7 @@ use borrow.Author.Tests.{not-true, not-false}
 use Rattle.elf_read.specs.Sections.{sectionAt, targets}
 use Rattle.elf_read.proofs.Laws.Sections.{allocated-there}
 use Rattle.elf_check.proofs.Laws.Tables.{well-untargeted, broken-rel, well-other, well-rela}
+use Rattle.elf_check.proofs.Laws.Targets.{rela-counts}
 use borrow.Author.Needs.{needs}
 use Rattle.elf_check.proofs.is_relocation_well.Statement.{statement}
 use Rattle.elf_check.proofs.is_relocation_well.Tie as tie
@@ -35,7 +36,7 @@ is-rela-kept-requires c κs =
     let i = c .before .before .before .before .before .before .before .before .args .i in
     let t : targets s (sectionAt s i) ≡ true = sym (ap (targets s) (c .before .before .before .before .before .before .read-section .ensures)) ∙ sym (c .before .before .before .before .before .has-target .ensures) ∙ not-false _ (c .before .before .before .before .if1 .left) in
     let f = c .before .before .before .before .before .before .before .before .pre in
-    (record { table = f .0; there = f .1; target = allocated-there s (sectionAt s i .info) t }, f .2, f .3)
+    (record { table = f .0; there = f .1; target = allocated-there s (sectionAt s i .info) t }, f .2, f .3, f .4, rela-counts s i (sym (ap (λ h. h .kind) (c .before .before .before .before .before .before .read-section .ensures)) ∙ c .if3 .left) t)
 
 returns-4 : tie.Need-returns-4
 returns-4 c =
