@@ -2,8 +2,8 @@
 //! run.
 //!
 //! Most have an image of 65,536 bytes and a span of the whole image, so that
-//! all of it is saved. An object has at most 65,536 bytes, of which 4,096
-//! relocations take 49,152. What is left has no room for 4,096 instructions, so
+//! all of it is saved. An object has at most 65,536 bytes, as many as the
+//! program takes, of which 4,096 relocations take 49,152. What is left has no room for 4,096 instructions, so
 //! that some relocations stand at one place (ADD and SUB) or take no bytes
 //! (RELAX).
 //!
@@ -25,7 +25,7 @@ use testing::damage::Input;
 
 /// The length of the image, but for the real objects.
 pub const IMAGE: usize = 65_536;
-/// The most relocations that an object may have.
+/// The most relocations of a row of class 1: of growth there are more.
 pub const MOST: usize = 4_096;
 
 /// The most relocations of a row of this class.
@@ -105,8 +105,9 @@ fn rows_of(class: Class) -> Vec<Row> {
         answer: (9, most as u32 - 1),
         ..sized("falling", most, pairs::falling(class, most))
     });
-    rows.push(sized("many-symbols", 64, others::many_symbols(class, 64)));
-    rows.push(done("many-sections", 15, others::many_sections(class)));
+    let many_symbols = others::many_symbols(class, 1_023, 64);
+    rows.push(sized("many-symbols", 64, many_symbols));
+    rows.push(done("many-sections", 15, others::many_sections(class, 32)));
     rows.extend(["many-relocations", "gcc-relaxed"].map(|name| others::real(class, name)));
     rows.push(done("no-relocations", 0, others::no_relocations(class)));
     rows.push(Row {
@@ -121,7 +122,45 @@ fn rows_of(class: Class) -> Vec<Row> {
     rows
 }
 
-/// The row with this name.
+/// The row with this name, which may be one of growth.
 pub fn row(name: &str) -> Option<Row> {
-    rows().into_iter().find(|row| row.name == name)
+    let all = rows().into_iter().chain(growth());
+    all.into_iter().find(|row| row.name == name)
+}
+
+/// How the time of a done install grows: in relocations, symbols, sections and
+/// bytes, up to what an object may have. The row of class 2 follows that of
+/// class 1.
+pub fn growth() -> Vec<Row> {
+    let both = |name: String, input: &dyn Fn(Class) -> Input| {
+        [("", Class::Elf32), ("rv64-", Class::Elf64)].map(|(before, class)| {
+            let input = input(class);
+            let count = relocations(&input.object).len();
+            done(&format!("{before}{name}"), count, input)
+        })
+    };
+    let mut rows = Vec::new();
+    for count in [4_096, 8_192, 16_384, 32_768] {
+        let image = 8 * count.max(8_192);
+        let mixed = |class| mixed::input_in(image, class, count);
+        rows.extend(both(format!("{count}-relocations"), &mixed));
+    }
+    for count in [4_096, 8_192, 16_384, 32_768] {
+        let image = 8 * count.max(8_192);
+        let pairs = |class| pairs::far_in(image, class, count);
+        rows.extend(both(format!("{count}-in-pairs"), &pairs));
+    }
+    for count in [1_024, 2_048, 4_096, 8_192] {
+        let symbols = |class| others::many_symbols(class, count - 1, 64);
+        rows.extend(both(format!("{count}-symbols"), &symbols));
+    }
+    for count in [32, 64, 128] {
+        let sections = |class| others::many_sections(class, count);
+        rows.extend(both(format!("{count}-sections"), &sections));
+    }
+    for image in [65_536, 131_072, 262_144, 524_288, 1_048_576] {
+        let plain = |class| others::plain(image, class, image as u32 / 4 - 256);
+        rows.extend(both(format!("{image}-bytes"), &plain));
+    }
+    rows
 }

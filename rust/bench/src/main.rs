@@ -12,6 +12,7 @@ use bench::run::{Buffers, Fitter};
 
 const USAGE: &str = "usage: bench [ROW..]                   times the rows, or all
        bench rows                    names the rows
+       bench growth                  times installs of growing size
        bench count library ROW       makes one call by the library
        bench count comparison ROW    makes one call by the comparison fitter";
 
@@ -20,9 +21,10 @@ fn main() -> ExitCode {
     let words: Vec<&str> = words.iter().map(String::as_str).collect();
     let done = match words[..] {
         ["rows"] => name_rows(),
+        ["growth"] => times::print_growth(),
         ["count", "library", name] => count(Fitter::Library, name),
         ["count", "comparison", name] => count(Fitter::Comparison, name),
-        ["count" | "rows", ..] => Err(USAGE.into()),
+        ["count" | "rows" | "growth", ..] => Err(USAGE.into()),
         _ => times::print(&words),
     };
     match done {

@@ -4,7 +4,7 @@
 use std::hint::black_box;
 use std::time::{Duration, Instant};
 
-use bench::inputs::{rows, Row};
+use bench::inputs::{growth, rows, Row};
 use bench::run::{Buffer, Buffers, Fitter};
 
 /// A row is run until it has been run this often, or has taken this long, but
@@ -18,6 +18,10 @@ const LEAST_RUNS: usize = 21;
 const HEADER: &str = "\
 | Row | Relocations | Library | Comparison | Ratio | Ratio of medians | Library, copies | Comparison, copies |
 |---|---|---|---|---|---|---|---|";
+
+const GROWTH_HEADER: &str = "\
+| Row | Library, RV32 | Comparison, RV32 | Library, RV64 | Comparison, RV64 |
+|---|---|---|---|---|";
 
 /// Writes a table of the rows with these names, or of all.
 pub fn print(names: &[&str]) -> Result<(), String> {
@@ -37,6 +41,24 @@ pub fn print(names: &[&str]) -> Result<(), String> {
         if names.is_empty() || names.contains(&row.name.as_str()) {
             println!("{}", line(row));
         }
+    }
+    Ok(())
+}
+
+/// Writes a table of how the times grow.
+pub fn print_growth() -> Result<(), String> {
+    if cfg!(debug_assertions) {
+        return Err("built with debug assertions; run it with `cargo run --profile bench`".into());
+    }
+    println!("{GROWTH_HEADER}");
+    for of_both in growth().chunks(2) {
+        let mut line = format!("| {} |", of_both[0].name);
+        for row in of_both {
+            let [library, comparison, _] = measure(row);
+            let (library, comparison) = (library.least(), comparison.least());
+            line += &format!(" {library:.1} | {comparison:.1} |");
+        }
+        println!("{line}");
     }
     Ok(())
 }

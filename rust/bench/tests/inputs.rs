@@ -1,7 +1,7 @@
 //! The timed calls are what their names say, and the library, the reference and
 //! the comparison fitter answer them alike and leave the same bytes.
 
-use bench::inputs::{relocations, row, rows, Call, Row, IMAGE};
+use bench::inputs::{growth, relocations, row, rows, Call, Row, IMAGE};
 use bench::run::{Buffers, Fitter};
 use reference::object::{Header, Object};
 use reference::Class;
@@ -64,7 +64,7 @@ fn names_and_counts() {
 
 #[test]
 fn answered_alike() {
-    for row in rows() {
+    for row in rows().into_iter().chain(growth()) {
         let input = &row.input;
         let (mut image, mut journal) = (input.image.clone(), input.journal.clone());
         let answer = match row.call {
@@ -83,6 +83,26 @@ fn answered_alike() {
                 row.name
             );
         }
+    }
+}
+
+/// Growth goes to what an object may have: 32,768 relocations, 8,192 symbols,
+/// 128 sections and an image of 1,048,576 bytes.
+#[test]
+fn growth_to_the_limits() {
+    for before in ["", "rv64-"] {
+        let named = |name: &str| named(&format!("{before}{name}"));
+        for name in ["32768-relocations", "32768-in-pairs"] {
+            assert_eq!(named(name).relocations, 32_768, "{name}");
+        }
+        let types = types(&named("32768-in-pairs"));
+        assert_eq!((types[PCREL_HI20], low_halves(&types)), (16_384, 16_384));
+        assert_eq!(symbols(&named("8192-symbols")), 8_192);
+        let object = named("128-sections").input.object;
+        let header = Header::read(&object).expect("an object");
+        let object = Object::read(&object, header).expect("an object");
+        assert_eq!(object.sections().len(), 128);
+        assert_eq!(named("1048576-bytes").input.image.len(), 1_048_576);
     }
 }
 

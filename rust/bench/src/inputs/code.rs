@@ -30,8 +30,10 @@ pub const SW_A0: u32 = 0xA5_2023;
 
 /// The window's base, and the address of the code.
 pub const BASE: u64 = 0x2000_0000;
-/// The last word of the window, so that the span is the whole image.
-pub const LAST: u64 = BASE + IMAGE as u64 - 4;
+/// The last word of a window, so that the span is the whole image.
+pub fn last_of(image: usize) -> u64 {
+    BASE + image as u64 - 4
+}
 
 #[derive(Default)]
 pub struct Code {
@@ -72,6 +74,17 @@ impl Code {
     /// An install of this code, and of one word at the window's end, into an
     /// image in which nothing stands.
     pub fn input(self, class: Class, symbols: &[Symbol], external_values: &[(u32, u64)]) -> Input {
+        self.input_in(IMAGE, class, symbols, external_values)
+    }
+
+    /// The same, in an image of this length.
+    pub fn input_in(
+        self,
+        image: usize,
+        class: Class,
+        symbols: &[Symbol],
+        external_values: &[(u32, u64)],
+    ) -> Input {
         let sections = [
             Section::default(),
             Section::loaded(4, &self.bytes),
@@ -79,13 +92,15 @@ impl Code {
             Section::symbols(symbols),
             Section::relocations(1, 3, &self.relocations),
         ];
-        whole_image(class, &sections, &[(1, BASE), (2, LAST)], external_values)
+        let placements = [(1, BASE), (2, last_of(image))];
+        whole_image(image, class, &sections, &placements, external_values)
     }
 }
 
-/// An install of these sections at these addresses, into an image in which
-/// nothing stands.
+/// An install of these sections at these addresses, into an image of this
+/// length in which nothing stands.
 pub fn whole_image(
+    image: usize,
     class: Class,
     sections: &[Section],
     placements: &[(u32, u64)],
@@ -94,7 +109,7 @@ pub fn whole_image(
     Input {
         object: object(class, sections),
         order: order(class, BASE, placements, external_values),
-        image: vec![0xA5; IMAGE],
-        journal: journal(IMAGE),
+        image: vec![0xA5; image],
+        journal: journal(image),
     }
 }

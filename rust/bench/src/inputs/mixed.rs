@@ -51,6 +51,12 @@ pub fn input(class: Class, count: usize, arrangement: Arrangement) -> Input {
     code(count, arrangement).input(class, &symbols(), &external_values())
 }
 
+/// The same, shuffled, in an image of this length.
+pub fn input_in(image: usize, class: Class, count: usize) -> Input {
+    let code = code(count, Arrangement::Shuffled);
+    code.input_in(image, class, &symbols(), &external_values())
+}
+
 /// The same, but for a jump at the end that is one step too long.
 pub fn too_far_at_last(class: Class, count: usize) -> Input {
     let mut code = code(count - 1, Arrangement::Shuffled);

@@ -7,63 +7,62 @@ use testing::given::objects;
 
 use super::code::*;
 use super::mixed::{self, Arrangement};
-use super::{done, Call, Row, MOST};
+use super::{done, Call, Row, IMAGE, MOST};
 
-/// How many symbols a table may have beside symbol 0.
-const MOST_SYMBOLS: u32 = 1_023;
-
-/// Labels and externals in turn, with a value for every external, of which few
+/// Labels and externals in turn up to this symbol, with a value for every external, of which few
 /// are named by a relocation.
-pub fn many_symbols(class: Class, count: usize) -> Input {
+pub fn many_symbols(class: Class, last: u32, count: usize) -> Input {
     let is_label = |symbol: u32| symbol % 2 == 1;
     let mut symbols = vec![Symbol::default()];
-    symbols.extend((1..=MOST_SYMBOLS).map(|symbol| match is_label(symbol) {
+    symbols.extend((1..=last).map(|symbol| match is_label(symbol) {
         true => Symbol::new(0, 1, 4 * u64::from(symbol % 16)),
         false => Symbol::new(GLOBAL, 0, 0),
     }));
-    let externals = (1..=MOST_SYMBOLS).filter(|symbol| !is_label(*symbol));
+    let externals = (1..=last).filter(|symbol| !is_label(*symbol));
     let external_values: Vec<(u32, u64)> = externals
         .map(|symbol| (symbol, 16 * u64::from(symbol)))
         .collect();
     let mut code = Code::default();
-    let apart = MOST_SYMBOLS / count as u32;
+    let apart = last / count as u32;
     for place in 0..count as u32 {
         code.word(0, ABSOLUTE_32, 1 + apart * place, 4);
     }
     code.input(class, &symbols, &external_values)
 }
 
-/// How many sections have bytes where an object has as many sections as it
-/// may: section 0, the symbol table, and a RELA section for each of these.
-const MOST_LOADED: u32 = 15;
-
-/// As many sections as an object may have, at addresses that neither rise nor
-/// fall.
-pub fn many_sections(class: Class) -> Input {
+/// An object with this many sections, at addresses that neither rise nor fall:
+/// section 0, the symbol table, sections with bytes, and a RELA section for
+/// each of those.
+pub fn many_sections(class: Class, count: u32) -> Input {
+    let loaded = count / 2 - 1;
     let relocated = [Relocation::new(0, ABSOLUTE_32, 1, 4)];
-    let table = MOST_LOADED + 1;
+    let table = loaded + 1;
     let mut sections = vec![Section::default()];
-    sections.extend((0..MOST_LOADED).map(|_| Section::loaded(4, &[0; 4])));
+    sections.extend((0..loaded).map(|_| Section::loaded(4, &[0; 4])));
     sections.push(Section::symbols(&[Symbol::default(), Symbol::new(0, 1, 0)]));
-    sections
-        .extend((1..=MOST_LOADED).map(|target| Section::relocations(target, table, &relocated)));
-    let address = |section: u32| match 7 * section % MOST_LOADED {
-        0 => LAST,
+    sections.extend((1..=loaded).map(|target| Section::relocations(target, table, &relocated)));
+    let address = |section: u32| match 11 * section % loaded {
+        0 => last_of(IMAGE),
         place => BASE + 64 * u64::from(place - 1),
     };
-    let placements: Vec<(u32, u64)> = (1..=MOST_LOADED)
+    let placements: Vec<(u32, u64)> = (1..=loaded)
         .map(|section| (section, address(section)))
         .collect();
-    whole_image(class, &sections, &placements, &[])
+    whole_image(IMAGE, class, &sections, &placements, &[])
 }
 
-/// An install of nothing but bytes, nearly as many as an object may have.
-pub fn no_relocations(class: Class) -> Input {
+/// An install of nothing but this many words.
+pub fn plain(image: usize, class: Class, words: u32) -> Input {
     let mut code = Code::default();
-    for word in 0..16_000 {
+    for word in 0..words {
         code.plain(word);
     }
-    code.input(class, &[Symbol::default()], &[])
+    code.input_in(image, class, &[Symbol::default()], &[])
+}
+
+/// An install of nothing but bytes, nearly as many as the image has.
+pub fn no_relocations(class: Class) -> Input {
+    plain(IMAGE, class, 16_000)
 }
 
 /// A real object of the repository, by its name in class 1.

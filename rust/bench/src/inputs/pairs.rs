@@ -35,9 +35,8 @@ fn low(code: &mut Code, turn: usize, label: usize) {
 }
 
 /// A PCREL_LO12 names one of twelve labels, which lie apart in the code.
-fn far_code(count: usize) -> (Code, Vec<Symbol>) {
+fn far_code(count: usize, pairs: usize) -> (Code, Vec<Symbol>) {
     const LABELS: usize = 12;
-    let pairs = (count / 2).min(MOST_PAIRS);
     let mut code = Code::default();
     for pair in 0..pairs {
         high(&mut code, pair);
@@ -50,13 +49,19 @@ fn far_code(count: usize) -> (Code, Vec<Symbol>) {
 }
 
 pub fn far(class: Class, count: usize) -> Input {
-    let (code, symbols) = far_code(count);
+    let (code, symbols) = far_code(count, (count / 2).min(MOST_PAIRS));
     code.input(class, &symbols, &[])
+}
+
+/// The same with nothing but pairs, in an image of this length.
+pub fn far_in(image: usize, class: Class, count: usize) -> Input {
+    let (code, symbols) = far_code(count, count / 2);
+    code.input_in(image, class, &symbols, &[])
 }
 
 /// Every relocation keeps its rules but the last, whose offset falls.
 pub fn falling(class: Class, count: usize) -> Input {
-    let (mut code, symbols) = far_code(count - 1);
+    let (mut code, symbols) = far_code(count - 1, ((count - 1) / 2).min(MOST_PAIRS));
     code.relocations.push(Relocation::new(0, RELAX, 0, 0));
     code.input(class, &symbols, &[])
 }
