@@ -1,8 +1,7 @@
 // Sums and differences that wrap at a width, signed words, and powers of two.
 ghost use mathlib.Core.Path.{_≡_};
-ghost use mathlib.Core.Bool.{_&&_};
 ghost use Prim.Native.Nat.{_+_, _-_, _%_, _^_, _<_};
-ghost use lib.Dec.{leb, ltb};
+ghost use lib.Dec.{leb};
 ghost use Rattle.numbers_definitions.specs.Classes.{bits};
 ghost use Rattle.numbers_definitions.specs.Whole.{residue, signed, plus, minus};
 ghost use Rattle.numbers_definitions.specs.Powers.{oneBit, ceilPower};
@@ -86,17 +85,6 @@ pub fn difference(class: Class, a: u64, b: u64) -> u64
     ensures { λ r. ⌜ r ≡ minus (bits class) a b ⌝ }
 {
     reduce(class, sub64(a, b))
-}
-
-// Whether the m addresses from a on and the n addresses from b on share one, where neither range is empty: the one that starts
-// later starts before the other ends. Nothing wraps, also where an end is 2^64 or more.
-pub fn overlaps(a: u64, m: u64, b: u64, n: u64) -> bool
-    ensures { λ r. ⌜ (0 < m → 0 < n → r ≡ (ltb a (b + n) && ltb b (a + m))) ⌝ }
-{
-    if a <= b {
-        return b - a < m;
-    }
-    a - b < n
 }
 
 // Whether start + size is at most a limit. Nothing wraps.

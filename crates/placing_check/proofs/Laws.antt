@@ -1,3 +1,4 @@
 -- The laws of the definitions in specs/.
 pub mod Theorems
 pub mod Readings
+pub mod Taken
