@@ -9,7 +9,7 @@ use super::code::*;
 use super::mixed::{self, Arrangement};
 use super::{done, Call, Row, MOST};
 
-/// How many symbols a table may have beside symbol 0.
+/// How many symbols the table has beside symbol 0.
 const MOST_SYMBOLS: u32 = 1_023;
 
 /// Labels and externals in turn, with a value for every external, of which few
@@ -33,12 +33,11 @@ pub fn many_symbols(class: Class, count: usize) -> Input {
     code.input(class, &symbols, &external_values)
 }
 
-/// How many sections have bytes where an object has as many sections as it
-/// may: section 0, the symbol table, and a RELA section for each of these.
+/// How many sections have bytes where an object has 32: section 0, the symbol
+/// table, and a RELA section for each of these.
 const MOST_LOADED: u32 = 15;
 
-/// As many sections as an object may have, at addresses that neither rise nor
-/// fall.
+/// 32 sections, at addresses that neither rise nor fall.
 pub fn many_sections(class: Class) -> Input {
     let relocated = [Relocation::new(0, ABSOLUTE_32, 1, 4)];
     let table = MOST_LOADED + 1;
@@ -57,7 +56,7 @@ pub fn many_sections(class: Class) -> Input {
     whole_image(class, &sections, &placements, &[])
 }
 
-/// An install of nothing but bytes, nearly as many as an object may have.
+/// An install of nothing but bytes, nearly as many as the program takes.
 pub fn no_relocations(class: Class) -> Input {
     let mut code = Code::default();
     for word in 0..16_000 {
