@@ -33,7 +33,7 @@ use lay::Plan;
 use object::{Object, MAX_SYMBOLS};
 use order::Order;
 use placing::Addresses;
-use symbols::{Memory, Symbols};
+use symbols::Symbols;
 
 /// The longest object or image.
 const MAX_BYTES: usize = 1_048_576;
@@ -122,14 +122,13 @@ impl<C: Class> Fit<'_, C> {
     /// The other checks, and then the writing, with a memory for at most so many
     /// symbols. An object with few of them does not pay for a long one.
     #[inline(never)]
-    fn install_with<const MOST: usize>(
+    fn install_with<const N: usize>(
         self,
         image: &mut [u8],
         journal: &mut [u8],
     ) -> Result<(), Answer> {
         let (object, addresses) = (self.object, self.addresses);
-        let mut memory = [Memory::default(); MOST];
-        let mut symbols = Symbols::new(object, addresses, &mut memory);
+        let mut symbols = Symbols::<C, N>::new(object, addresses);
         symbols
             .take_external_values(self.order)
             .map_err(|place| refusal(7, place))?;

@@ -2,10 +2,10 @@
 //! run.
 //!
 //! Most have an image of 65,536 bytes and a span of the whole image, so that
-//! all of it is saved. An object has at most 65,536 bytes, as many as the
-//! program takes, of which 4,096 relocations take 49,152. What is left has no room for 4,096 instructions, so
-//! that some relocations stand at one place (ADD and SUB) or take no bytes
-//! (RELAX).
+//! all of it is saved. An object has at most 65,536 bytes, as many as the program
+//! takes, of which 4,096 relocations take 49,152. What is left has no room for
+//! 4,096 instructions, so that some relocations stand at one place (ADD and SUB)
+//! or take no bytes (RELAX).
 //!
 //! The rows of class 2 have the same shapes, and names that begin with `rv64-`.
 //! Their relocations are twice as long, so that an object has room for half as

@@ -11,6 +11,7 @@ use std::process::{Command, Output, Stdio};
 use reference::numbers::Address;
 use reference::order::{Order, Placement};
 use reference::Class;
+use testing::build;
 
 const TEXTS: [&str; 6] = [
     "gcc-sections",
@@ -280,5 +281,30 @@ fn shows_no_malformed_order() {
             .expect("python3 runs");
         assert_eq!(done.status.code(), Some(1));
         assert!(done.stdout.is_empty());
+    }
+}
+
+/// An order with as many entries as it may have is shown, and one with an entry
+/// more is malformed.
+#[test]
+fn shows_the_longest_order() {
+    let entries = |count: u32| -> Vec<(u32, u64)> { (1..=count).map(|at| (at, 9)).collect() };
+    for class in Class::ALL {
+        for (placements, values, fits) in
+            [(128, 8_192, true), (129, 8_192, false), (128, 8_193, false)]
+        {
+            let file = Scratch::new("longest");
+            let bytes = build::order(class, 0, &entries(placements), &entries(values));
+            fs::write(&file.0, bytes).expect("an order");
+            let shown = Command::new("python3")
+                .arg(root().join("tools/order"))
+                .arg("--show")
+                .arg(&file.0)
+                .output()
+                .expect("python3 runs");
+            assert_eq!(shown.status.success(), fits, "{placements}, {values}");
+            let lines = String::from_utf8_lossy(&shown.stdout).lines().count();
+            assert_eq!(lines, if fits { 3 + 128 + 8_192 } else { 0 });
+        }
     }
 }

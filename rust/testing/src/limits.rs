@@ -49,6 +49,7 @@ pub fn limits() -> Vec<Limit> {
         limits.relocations();
         limits.all_at_once();
         limits.longest_section();
+        limits.many_pairs();
         limits.windows();
         limits.placing();
         limits.ledger_room();
@@ -249,6 +250,33 @@ impl Limits {
         let mut wrong = fit;
         wrong.sections[2].symbols_mut()[8_191].section = 128;
         self.changed("the largest, the last symbol", &wrong, long, (10, 32_767));
+    }
+
+    /// As many pairs as there may be, with 1,024 labels; and one low half before
+    /// high halves whose offsets fall, as many as there may be.
+    fn many_pairs(&mut self) {
+        const PAIRS: u64 = 16_384;
+        let code = [0x17, 0x05, 0, 0, 0x13, 0x05, 0x05, 0].repeat(PAIRS as usize);
+        let labels: Vec<Symbol> = (0..1_024).map(|at| Symbol::new(0, 1, 128 * at)).collect();
+        let pair = |at: u64| {
+            let label = 1 + (at % 1_024) as u32;
+            [
+                Relocation::new(8 * at, PCREL_HI20, 1, at as i64),
+                Relocation::new(8 * at + 4, PCREL_LO12_I, label, 0),
+            ]
+        };
+        let list: Vec<Relocation> = (0..PAIRS).flat_map(pair).collect();
+        let fit = Fit::code(0x1000, &code, &labels, &list);
+        self.add("16,384 pairs", fit, DONE);
+
+        let mut list = vec![Relocation::new(4, PCREL_LO12_I, 1, 0)];
+        let falling = (0..32_767).rev();
+        list.extend(falling.map(|at| Relocation::new(4 * at, PCREL_HI20, 1, 0)));
+        let mut fit = Fit::code(0x1000, &code[..8], &labels[..1], &list);
+        self.add("falling high halves", fit.clone(), (9, 1));
+        // The first and the last one are at one offset.
+        fit.sections[3].relocations_mut()[1].offset = 0;
+        self.add("falling high halves, two at the label", fit, (12, 0));
     }
 
     /// The longest section that an object has room for, at the end of the address

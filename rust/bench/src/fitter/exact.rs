@@ -16,9 +16,9 @@ const HIGHEST_PADDING: i64 = 4_094;
 /// The number of the first broken rule, or 0.
 #[cold]
 #[inline(never)]
-pub fn first_broken<C: Class>(
+pub fn first_broken<C: Class, const N: usize>(
     list: &List<C>,
-    symbols: &mut Symbols<C>,
+    symbols: &mut Symbols<C, N>,
     entry: Entry,
     before: &Before,
 ) -> u32 {
@@ -47,9 +47,9 @@ pub fn first_broken<C: Class>(
 }
 
 /// Checks 10, 11 and 12 of a PCREL_LO12.
-fn broken_pair<C: Class>(
+fn broken_pair<C: Class, const N: usize>(
     list: &List<C>,
-    symbols: &Symbols<C>,
+    symbols: &Symbols<C, N>,
     entry: &Entry,
     rules: &Rules,
 ) -> u32 {

@@ -9,14 +9,14 @@ use super::symbols::Symbols;
 use super::types::{Effect, Laying};
 
 /// What is laid, and where.
-pub struct Plan<'a, C: Class> {
+pub struct Plan<'a, C: Class, const N: usize> {
     pub object: &'a Object<'a, C>,
     pub addresses: &'a Addresses,
-    pub symbols: &'a Symbols<'a, C>,
+    pub symbols: &'a Symbols<'a, C, N>,
     pub base: u64,
 }
 
-impl<C: Class> Plan<'_, C> {
+impl<C: Class, const N: usize> Plan<'_, C, N> {
     pub fn lay(&self, image: &mut [u8]) {
         for index in indexes(self.object.loaded) {
             let bytes = self.object.bytes_of(self.object.section(index));
@@ -44,14 +44,14 @@ impl<C: Class> Plan<'_, C> {
 }
 
 /// One RELA section, and what it patches.
-struct List<'a, C: Class> {
+struct List<'a, C: Class, const N: usize> {
     relocations: &'a [C::Relocation],
-    symbols: &'a Symbols<'a, C>,
+    symbols: &'a Symbols<'a, C, N>,
     /// The lowest bits of the section's address.
     address: u32,
 }
 
-impl<C: Class> List<'_, C> {
+impl<C: Class, const N: usize> List<'_, C, N> {
     /// In file order, each on what those before it left.
     fn apply(&self, section: &mut [u8]) {
         let mut rest = self.relocations;

@@ -145,10 +145,10 @@ enum Reached {
 }
 
 /// Checks all relocations: by RELA section, then in file order.
-pub fn check<C: Class>(
+pub fn check<C: Class, const N: usize>(
     object: &Object<C>,
     addresses: &Addresses,
-    symbols: &mut Symbols<C>,
+    symbols: &mut Symbols<C, N>,
 ) -> Result<(), Answer> {
     let mut first = 0;
     for (target, relocations) in object.relocation_sections() {
@@ -167,14 +167,17 @@ pub fn check<C: Class>(
 }
 
 /// The error is the number, and the place in this list.
-fn check_list<C: Class>(list: &List<C>, symbols: &mut Symbols<C>) -> Result<(), (u32, u32)> {
+fn check_list<C: Class, const N: usize>(
+    list: &List<C>,
+    symbols: &mut Symbols<C, N>,
+) -> Result<(), (u32, u32)> {
     match check_from(list, symbols, 0, Before::START, None)? {
         Reached::End => Ok(()),
         Reached::Pair(index, before) if list.relocations.len() <= FEW => {
-            check_with_pairs::<C, FEW>(list, symbols, index, before)
+            check_with_pairs::<C, N, FEW>(list, symbols, index, before)
         }
         Reached::Pair(index, before) => {
-            check_with_pairs::<C, MAX_RELOCATIONS>(list, symbols, index, before)
+            check_with_pairs::<C, N, MAX_RELOCATIONS>(list, symbols, index, before)
         }
     }
 }
@@ -185,9 +188,9 @@ const FEW: usize = 4_096;
 /// Goes on at the first relocation with a pair. The high halves take room on
 /// the stack, which a list without pairs does not pay for.
 #[inline(never)]
-fn check_with_pairs<C: Class, const MOST: usize>(
+fn check_with_pairs<C: Class, const N: usize, const MOST: usize>(
     list: &List<C>,
-    symbols: &mut Symbols<C>,
+    symbols: &mut Symbols<C, N>,
     start: usize,
     before: Before,
 ) -> Result<(), (u32, u32)> {
@@ -196,9 +199,9 @@ fn check_with_pairs<C: Class, const MOST: usize>(
     check_from(list, symbols, start, before, Some(&high_halves)).map(|_| ())
 }
 
-fn check_from<C: Class>(
+fn check_from<C: Class, const N: usize>(
     list: &List<C>,
-    symbols: &mut Symbols<C>,
+    symbols: &mut Symbols<C, N>,
     start: usize,
     mut before: Before,
     high_halves: Option<&HighHalves<C>>,
@@ -206,8 +209,8 @@ fn check_from<C: Class>(
     let mut rest = &list.relocations[start..];
     loop {
         rest = match high_halves {
-            None => pass::<C, false>(list, rest, symbols, &mut before, None),
-            Some(_) => pass::<C, true>(list, rest, symbols, &mut before, high_halves),
+            None => pass::<C, N, false>(list, rest, symbols, &mut before, None),
+            Some(_) => pass::<C, N, true>(list, rest, symbols, &mut before, high_halves),
         };
         let Some((relocation, behind)) = rest.split_first() else {
             return Ok(Reached::End);
@@ -233,10 +236,10 @@ fn check_from<C: Class>(
 /// and where a symbol is named for the first time. A list without pairs has a
 /// copy of this function that knows none.
 #[inline(never)]
-fn pass<'r, C: Class, const PAIRS: bool>(
+fn pass<'r, C: Class, const N: usize, const PAIRS: bool>(
     list: &List<C>,
     relocations: &'r [C::Relocation],
-    symbols: &mut Symbols<C>,
+    symbols: &mut Symbols<C, N>,
     before: &mut Before,
     high_halves: Option<&HighHalves<C>>,
 ) -> &'r [C::Relocation] {
@@ -272,9 +275,9 @@ fn pass<'r, C: Class, const PAIRS: bool>(
 /// Whether all rules hold of a plain relocation. They are worked out beside
 /// each other, without a branch for each.
 #[inline(always)]
-fn holds<C: Class>(
+fn holds<C: Class, const N: usize>(
     list: &List<C>,
-    symbols: &Symbols<C>,
+    symbols: &Symbols<C, N>,
     entry: Entry,
     rules: &Rules,
     before: &Before,
@@ -301,9 +304,9 @@ fn is_call_at<C: Class>(list: &List<C>, entry: Entry) -> bool {
 
 /// Whether all rules hold of a PCREL_LO12; then its pair is remembered.
 #[inline(always)]
-fn pair_holds<C: Class>(
+fn pair_holds<C: Class, const N: usize>(
     list: &List<C>,
-    symbols: &mut Symbols<C>,
+    symbols: &mut Symbols<C, N>,
     entry: Entry,
     rules: &Rules,
     before: &Before,

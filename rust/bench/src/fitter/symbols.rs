@@ -19,35 +19,30 @@ const PAIR: u32 = 0x7FFF;
 
 /// What is known of a symbol by now.
 #[derive(Clone, Copy, Default)]
-pub struct Memory<W> {
+struct Memory<W> {
     value: W,
     mark: u32,
 }
 
 /// The symbols of an object, and what is known of each by now. The memory is
 /// filled as relocations name symbols, so that an object with many symbols and
-/// few relocations costs no more than it must.
-pub struct Symbols<'a, C: Class> {
+/// few relocations costs no more than it must. It has room for `N` symbols, at
+/// least as many as the table has, and one.
+pub struct Symbols<'a, C: Class, const N: usize> {
     entries: &'a [C::Symbol],
     allocated: Set,
     addresses: &'a Addresses,
-    memory: &'a mut [Memory<C::Word>],
+    memory: [Memory<C::Word>; N],
     has_pairs: bool,
 }
 
-impl<'a, C: Class> Symbols<'a, C> {
-    /// The memory is as long as the symbol table or longer, and has an entry for
-    /// symbol 0.
-    pub fn new(
-        object: &Object<'a, C>,
-        addresses: &'a Addresses,
-        memory: &'a mut [Memory<C::Word>],
-    ) -> Symbols<'a, C> {
-        let symbols = Symbols {
+impl<'a, C: Class, const N: usize> Symbols<'a, C, N> {
+    pub fn new(object: &Object<'a, C>, addresses: &'a Addresses) -> Symbols<'a, C, N> {
+        let mut symbols = Symbols {
             entries: object.symbols(),
             allocated: object.allocated,
             addresses,
-            memory,
+            memory: [Memory::default(); N],
             has_pairs: false,
         };
         // S is 0 for symbol 0, whatever its entry holds.

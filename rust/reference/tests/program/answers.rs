@@ -81,12 +81,15 @@ fn too_long() {
     });
 }
 
+/// Which file is longer, what the library answers, and the change.
+type Longer = (&'static str, (u32, u32), fn(&mut Input));
+
 /// A file of 65,537 bytes each in turn, and an order with as many values as there
 /// may be: the program keeps its limit, and the library takes all but an order
 /// with bytes left over.
 #[test]
 fn too_long_for_the_program_alone() {
-    let lengthen: [(&str, (u32, u32), fn(&mut Input)); 4] = [
+    const LONGER: [Longer; 4] = [
         ("object", (0, 0), |input| input.object.resize(65_537, 0xEE)),
         ("order", (2, 0), |input| input.order.resize(65_537, 0)),
         ("image", (0, 0), |input| input.image.resize(65_537, 0xA5)),
@@ -94,7 +97,7 @@ fn too_long_for_the_program_alone() {
     ];
     let mut inputs = Vec::new();
     for class in Class::ALL {
-        for (name, answer, longer) in lengthen {
+        for (name, answer, longer) in LONGER {
             let mut input = Input::from(&good().of(class));
             longer(&mut input);
             inputs.push((format!("{name}, {class:?}"), answer, input));
