@@ -38,7 +38,8 @@ allocatedWell s i =
     || ((eqb (h .alignment) 0 || oneBit 64 (h .alignment))
     && not (eqb (h .kind) SYMTAB || eqb (h .kind) RELA || eqb (h .kind) REL))
 
--- "At most one SYMTAB: entry size 16, whole entries, at most 1,024. The higher row of two is at fault." In class 2, "symbols 24".
+-- "At most one SYMTAB: entry size 16, whole entries, at most 1,024. The higher row of two is at fault." In class 2, "symbols 24"; document 02: up
+-- to 8,192.
 unfoldable pub symbolTableWell : List ℕ → ℕ → Bool
 symbolTableWell s i =
     let h = sectionAt s i in
@@ -62,7 +63,7 @@ relaKept s i =
 unfoldable pub relaWell : List ℕ → ℕ → Bool
 relaWell s i = not (countingRela s i) || relaKept s i
 
--- "All counting RELA rows together hold at most 4,096 records; the row that passes this is at fault."
+-- "All counting RELA rows together hold at most 4,096 records; the row that passes this is at fault."; document 02: up to 32,768
 unfoldable pub relocationsKept : List ℕ → ℕ → Bool
 relocationsKept s i = leb (relocationsBelow s (suc i)) maxRelocations
 

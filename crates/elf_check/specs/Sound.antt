@@ -15,7 +15,7 @@ use Rattle.elf_check.specs.Rules.{maxSymbols, maxRelocations}
 pub record SoundSymbols (s : List ℕ) (i : ℕ) : Type 0 where
   -- "At most one SYMTAB", "The higher row of two is at fault."
   pub lowest : i ≡ symbolTable s
-  -- "entry size 16, whole entries, at most 1,024"
+  -- "entry size 16, whole entries, at most 1,024"; document 02: up to 8,192
   pub entries : sectionAt s i .entsize ≡ symbolSize (classOf s)
   pub whole : sectionAt s i .size % symbolSize (classOf s) ≡ 0
   pub few : symbolEntries (classOf s) (sectionAt s i) ≤ maxSymbols
@@ -32,7 +32,7 @@ pub record SoundRela (s : List ℕ) (i : ℕ) : Type 0 where
   pub target-there : sectionAt s i .info < sectionCount s
   pub target-loaded : loaded (sectionAt s (sectionAt s i .info)) ≡ true
   pub target-new : (j : ℕ) → j < i → countingRela s j ≡ true → sectionAt s j .info ≡ sectionAt s i .info → ⊥
-  -- "All counting RELA rows together hold at most 4,096 records; the row that passes this is at fault."
+  -- "All counting RELA rows together hold at most 4,096 records; the row that passes this is at fault."; document 02: up to 32,768
   pub few : relocationsBelow s (suc i) ≤ maxRelocations
 
 -- section i keeps every rule

@@ -1,4 +1,4 @@
--- "The 32 row addresses travel as one array passed by value."
+-- "The 32 row addresses travel as one array passed by value."; document 02 has up to 128 rows.
 use Prim.Native.Nat.{ℕ}
 use mathlib.Core.List.{List}
 use lib.ListN.{replicate}

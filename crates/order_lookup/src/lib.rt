@@ -91,7 +91,7 @@ pub fn placed_at(class: Class, order: &[u8], counts: OrderHeader, section: u32) 
     find(class, order, start, counts.placements, section)
 }
 
-// "The 32 row addresses travel as one array passed by value."
+// "The 32 row addresses travel as one array passed by value."; document 02 has up to 128 rows.
 pub type Addresses = [u64; MAX_SECTIONS];
 
 // Stores the address of each section that the order places into an array of zeros. A section that the order does not place
