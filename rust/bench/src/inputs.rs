@@ -150,6 +150,15 @@ pub fn growth() -> Vec<Row> {
         let pairs = |class| pairs::far_in(image, class, count);
         rows.extend(both(format!("{count}-in-pairs"), &pairs));
     }
+    let crowded = |class| pairs::crowded_in(262_144, class, 32_768);
+    rows.extend(both("32768-crowded".into(), &crowded));
+    let turned = |class| pairs::turned(262_144, class, 32_768);
+    for row in both("32768-turned".into(), &turned) {
+        rows.push(Row {
+            answer: (9, 3),
+            ..row
+        });
+    }
     for count in [1_024, 2_048, 4_096, 8_192] {
         let symbols = |class| others::many_symbols(class, count - 1, 64);
         rows.extend(both(format!("{count}-symbols"), &symbols));

@@ -5,6 +5,7 @@ use testing::build::{Class, Relocation, Symbol};
 use testing::damage::Input;
 
 use super::code::*;
+use super::IMAGE;
 
 /// As many pairs as there is room for beside 4,096 relocations and few labels.
 const MOST_PAIRS: usize = 1_984;
@@ -66,6 +67,24 @@ pub fn falling(class: Class, count: usize) -> Input {
     code.input(class, &symbols, &[])
 }
 
+/// One PCREL_LO12 names the only PCREL_HI20 at its label, and all others are
+/// behind it, at offsets that fall: the list of high halves has to be sorted
+/// from the other end. Refused at the third.
+pub fn turned(image: usize, class: Class, count: usize) -> Input {
+    let mut code = Code::default();
+    high(&mut code, 0);
+    low(&mut code, 0, 0);
+    for _ in 2..count {
+        code.plain(AUIPC_A0);
+    }
+    for place in (2..count as u64).rev() {
+        let offset = 4 * place;
+        code.relocations
+            .push(Relocation::new(offset, PCREL_HI20, TARGET_SYMBOL, 0));
+    }
+    code.input_in(image, class, &symbols([0].into_iter()), &[])
+}
+
 /// A PCREL_LO12 names the label of the PCREL_HI20 before it. Every pair has a
 /// label of its own, so that there is room for 1,000 pairs, or for 800 of class
 /// 2.
@@ -83,6 +102,11 @@ pub fn near(class: Class, count: usize) -> Input {
 /// Half of all are RELAX at the offset of one PCREL_HI20, before it and behind
 /// it, and all others name it, by many labels.
 pub fn crowded(class: Class, count: usize) -> Input {
+    crowded_in(IMAGE, class, count)
+}
+
+/// The same, in an image of this length.
+pub fn crowded_in(image: usize, class: Class, count: usize) -> Input {
     const LABELS: usize = 64;
     let mut code = Code::default();
     code.plain(AUIPC_A0);
@@ -92,5 +116,6 @@ pub fn crowded(class: Class, count: usize) -> Input {
     for turn in 0..count - code.relocations.len() {
         low(&mut code, turn, turn % LABELS);
     }
-    code.input(class, &symbols([0; LABELS].into_iter()), &[])
+    let symbols = symbols([0; LABELS].into_iter());
+    code.input_in(image, class, &symbols, &[])
 }
