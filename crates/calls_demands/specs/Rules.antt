@@ -1,7 +1,7 @@
 -- Every rule of document 01 as a proposition, in the order of the numbers of "When the fitter says no".
 use mathlib.Core.Logic.{_⊎_}
 use mathlib.Core.Path.{_≡_}
-use mathlib.Core.Bool.{true, false}
+use mathlib.Core.Bool.{Bool, true, false}
 use mathlib.Core.List.{List}
 use Prim.Native.Nat.{ℕ, suc, _+_, _*_, _/_, _%_, _^_, _≤_, _<_}
 use lib.ListN.{length, getD}
@@ -24,7 +24,7 @@ use Rattle.relocations_types.specs.declared.Part.the-variants.{Whole, Distance,
 use Rattle.relocations_types.specs.declared.Rule.{Rule}
 use Rattle.relocations_types.specs.declared.Decision.the-variants.{Align, Store}
 use Rattle.numbers_definitions.specs.Classes.{by, bits, addressBytes}
-use Rattle.elf_read.specs.Headers.{classOf, addressWidth, headerSize, sectionSize, sectionTable, sectionCount, maxSections}
+use Rattle.elf_read.specs.Headers.{classOf, hasRvc, addressWidth, headerSize, sectionSize, sectionTable, sectionCount, maxSections}
 use Rattle.elf_read.specs.Sections.{sectionAt, allocated, isAllocated, symbolTable}
 use Rattle.elf_read.specs.Entries.{symbolAt, symbolCount, relocationCount, locationOf}
 use Rattle.elf_header.specs.Headers.{maxObject}
@@ -157,7 +157,7 @@ pub record PaddingWell (object : List ℕ) (x : Site) (j : ℕ) : Type 0 where
   pub inside : offset object x j + natAbs (A object x j) ≤ x .target .size
 
 pub record ShapeWell (object : List ℕ) (x : Site) (j : ℕ) : Type 0 where
-  -- "all others | refused"
+  -- "all others | refused"; document 02: "If e_flags bit 0 is clear, types 44 and 45 are refused with 9"
   pub known : isRefused (decisionAt object x j) ≡ false
   -- "Record offsets never fall."
   pub rising : (i : ℕ) → suc i ≡ j → offset object x i ≤ offset object x j
@@ -191,12 +191,17 @@ FormWell object x j =
 abbrev pub PairWell : List ℕ → Site → ℕ → Type 0
 PairWell object x j = needsPair (decisionAt object x j) ≡ true → howMany (isPair object x (symbol object x j .value)) (count object x) ≡ 1
 
--- ---- 13 "distance odd or too far", in class c, for t, which is T, and p, which is P
+-- ---- 13 "distance odd or too far", in class c, for t, which is T, and p, which is P. rvc says that bit 0 of e_flags is set.
+
+-- document 02: "If e_flags bit 0 is clear, .. a distance for 16 to 19 that isn't a multiple of 4 with 13"
+abbrev pub KeepsAlignment : Bool → ℤ → Type 0
+KeepsAlignment rvc z = rvc ≡ false → natAbs z % 4 ≡ 0
 
 -- 16, 17, 44, 45: T - P "reduced to the signed range of the address width", "even", and in the field's range
-pub record InReach (r : Range) (z : ℤ) : Type 0 where
+pub record InReach (rvc : Bool) (r : Range) (z : ℤ) : Type 0 where
   pub is-even : Even z
   pub in-range : Within (r .back) (r .ahead) z
+  pub aligned : KeepsAlignment rvc z
 
 -- document 02, in class 2: "for 18, 19, 23 and 26 the distance or address, read as a signed 64-bit number, lies in
 -- -2,147,485,696..2,147,481,599"
@@ -211,21 +216,21 @@ OperandReachable c PcRelative t p = InHalvesReach c (minus (bits c) t p)
 OperandReachable c Paired t p = Unit {0}
 
 -- 18, 19: "T - P modulo 2^32, which is even": modulo 2^w, where addresses have w bits
-abbrev pub PartReachable : Class → Part → Operand → Field → ℕ → ℕ → Type 0
-PartReachable c Whole o f t p = Unit {0}
-PartReachable c Distance o f t p = InReach (rangeOf f) (distance (bits c) t p)
-PartReachable c High o f t p = OperandReachable c o t p
-PartReachable c Low o f t p = Unit {0}
-PartReachable c BothHalves o f t p = Even (pos (minus (bits c) t p)) × OperandReachable c o t p
+abbrev pub PartReachable : Class → Bool → Part → Operand → Field → ℕ → ℕ → Type 0
+PartReachable c rvc Whole o f t p = Unit {0}
+PartReachable c rvc Distance o f t p = InReach rvc (rangeOf f) (distance (bits c) t p)
+PartReachable c rvc High o f t p = OperandReachable c o t p
+PartReachable c rvc Low o f t p = Unit {0}
+PartReachable c rvc BothHalves o f t p = Even (pos (minus (bits c) t p)) × OperandReachable c o t p × KeepsAlignment rvc (pos (minus (bits c) t p))
 
-abbrev pub Reachable : Class → Calculation → Field → ℕ → ℕ → Type 0
-Reachable c (Of part operand) f t p = PartReachable c part operand f t p
-Reachable c Add f t p = Unit {0}
-Reachable c Sub f t p = Unit {0}
-Reachable c Set f t p = Unit {0}
+abbrev pub Reachable : Class → Bool → Calculation → Field → ℕ → ℕ → Type 0
+Reachable c rvc (Of part operand) f t p = PartReachable c rvc part operand f t p
+Reachable c rvc Add f t p = Unit {0}
+Reachable c rvc Sub f t p = Unit {0}
+Reachable c rvc Set f t p = Unit {0}
 
 abbrev pub ReachWell : List ℕ → Site → ℕ → ℕ → Type 0
-ReachWell object x j t = (r : Rule) → decisionAt object x j ≡ Store r → Reachable (classOf object) (r .calculation) (r .field) t (P object x j)
+ReachWell object x j t = (r : Rule) → decisionAt object x j ≡ Store r → Reachable (classOf object) (hasRvc object) (r .calculation) (r .field) t (P object x j)
 
 -- ---- 14 "padding not on its boundary": "P + A a multiple of the smallest power of two at least A + 2"
 

@@ -1,7 +1,7 @@
 -- The header of an ELF file (System V gABI), for both classes: where its section headers are, and the sizes that the format gives its
 -- parts. `by c m n` is m in a file of class 1 and n in a file of class 2.
-use Prim.Native.Nat.{ℕ}
-use mathlib.Core.Bool.{cond}
+use Prim.Native.Nat.{ℕ, _%_}
+use mathlib.Core.Bool.{Bool, cond}
 use mathlib.Core.List.{List}
 use lib.Dec.{eqb}
 use Rattle.numbers_definitions.specs.declared.Class.{Class}
@@ -36,6 +36,14 @@ sectionTable s = leAt (addressBytes (classOf s)) s (by (classOf s) 32 40)
 
 abbrev pub sectionCount : List ℕ → ℕ
 sectionCount s = leAt 2 s (by (classOf s) 48 60)
+
+-- e_flags
+abbrev pub fileFlags : List ℕ → ℕ
+fileFlags s = leAt 4 s (by (classOf s) 36 48)
+
+-- whether bit 0 of e_flags is set (EF_RISCV_RVC): the object may hold instructions of 16 bits
+unfoldable pub hasRvc : List ℕ → Bool
+hasRvc s = eqb (fileFlags s % 2) 1
 
 -- "1 to 32 rows"; document 02: "Rows and placements up to 128"
 abbrev pub maxSections : ℕ

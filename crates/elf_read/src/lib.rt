@@ -4,7 +4,7 @@ ghost use mathlib.Core.Bool.{_&&_};
 ghost use Prim.Native.Nat.{_+_, _*_, _^_, _≤_, _<_};
 ghost use lib.ListN.{length};
 ghost use lib.Dec.{leb, eqb};
-ghost use Rattle.elf_read.specs.Headers.{classOf, headerSize, sectionSize, symbolSize, relocationSize, sectionTable, sectionCount};
+ghost use Rattle.elf_read.specs.Headers.{classOf, headerSize, sectionSize, symbolSize, relocationSize, sectionTable, sectionCount, fileFlags, hasRvc};
 ghost use Rattle.elf_read.specs.Sections.{readSection, sectionAt, allocated, loaded, isAllocated, symbolTable, targets, countingRela, relocationEntries, relocationsIn, relocationsBelow};
 ghost use Rattle.elf_read.specs.Requires.{HeaderInside, TableInside, Inside, EntryInside};
 ghost use Rattle.elf_read.specs.Entries.{bytesOf, symbolEntries, readSymbol, symbolAt, symbolCount, readRelocation, relocationAt, locationOf};
@@ -139,6 +139,25 @@ pub fn section_count(object: &[u8]) -> usize
         Class::Elf32 => numbers_bytes::read16(object, 48) as usize,
         Class::Elf64 => numbers_bytes::read16(object, 60) as usize,
     }
+}
+
+// e_flags of an object.
+fn flags_of(object: &[u8]) -> u32
+    requires { ⌜ HeaderInside (now object) ⌝ }
+    ensures { λ r. ⌜ r ≡ fileFlags (now (object .entry)) ⌝ }
+{
+    match class_of(object) {
+        Class::Elf32 => numbers_bytes::read32(object, 36),
+        Class::Elf64 => numbers_bytes::read32(object, 48),
+    }
+}
+
+// Whether bit 0 of e_flags is set: the object may hold instructions of 16 bits.
+pub fn has_rvc(object: &[u8]) -> bool
+    requires { ⌜ HeaderInside (now object) ⌝ }
+    ensures { λ r. ⌜ r ≡ hasRvc (now (object .entry)) ⌝ }
+{
+    flags_of(object) % 2 == 1
 }
 
 // The section header at a place of a file of class 1.

@@ -1,7 +1,8 @@
 -- How far jumps and branches reach.
-use Prim.Native.Nat.{ℕ}
-use mathlib.Core.Bool.{Bool, true, _&&_}
-use lib.IntN.{ℤ}
+use Prim.Native.Nat.{ℕ, _%_}
+use mathlib.Core.Bool.{Bool, true, _&&_, _||_}
+use lib.Dec.{eqb}
+use lib.IntN.{ℤ, natAbs}
 use Rattle.numbers_definitions.specs.declared.Class.{Class}
 use Rattle.numbers_definitions.specs.declared.Class.the-variants.{Elf32, Elf64}
 use Rattle.instructions_fields.specs.declared.Field.{Field}
@@ -47,6 +48,11 @@ rangeOf (Data width) = anywhere
 -- a distance is even and within a range
 unfoldable pub reaches : Range → ℤ → Bool
 reaches r z = even z && within (r .back) (r .ahead) z
+
+-- "If e_flags bit 0 is clear, .. a distance for 16 to 19 that isn't a multiple of 4": without short instructions the manual wants every
+-- instruction at a multiple of four bytes (IALIGN). rvc says that the bit is set; then two bytes are enough, and a distance is even already.
+unfoldable pub keepsAlignment : Bool → ℤ → Bool
+keepsAlignment rvc z = rvc || eqb (natAbs z % 4) 0
 
 -- "-2,147,485,696..2,147,481,599": what two halves make up. LUI and AUIPC give the multiples of 4,096 from -2^31 to 2^31 - 4,096, and the low
 -- half adds a number from -2,048 to 2,047.

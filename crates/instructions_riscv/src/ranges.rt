@@ -1,9 +1,10 @@
 // How far jumps and branches reach.
 ghost use mathlib.Core.Path.{_≡_};
 ghost use Prim.Native.Nat.{_^_, _<_};
+ghost use lib.IntN.{pos};
 ghost use Rattle.numbers_definitions.specs.Classes.{bits};
 ghost use Rattle.numbers_definitions.specs.Whole.{signed};
-ghost use Rattle.instructions_riscv.specs.Ranges.{anywhere, rangeOf, reaches, halvesReach};
+ghost use Rattle.instructions_riscv.specs.Ranges.{anywhere, rangeOf, reaches, keepsAlignment, halvesReach};
 use instructions_fields::Field;
 use numbers_definitions::Class;
 
@@ -63,6 +64,13 @@ pub fn in_reach(class: Class, range: Range, d: u64) -> bool
     } else {
         (back % 2 == 0) & (back <= range.back)
     }
+}
+
+// Whether a distance leads from an instruction's boundary to another: `rvc` says that instructions of 16 bits are allowed.
+pub fn keeps_alignment(rvc: bool, d: u64) -> bool
+    ensures { λ r. ⌜ r ≡ keepsAlignment rvc (pos d) ⌝ }
+{
+    rvc | (d % 4 == 0)
 }
 
 // Whether two halves make up an address or a distance. In class 1 they always do. In class 2 it is from -2,147,485,696 to

@@ -7,7 +7,7 @@ use lib.IntN.{ℤ, pos, _+ℤ_}
 use lib.Dec.{eqb}
 use Rattle.numbers_definitions.specs.Whole.{minus}
 use Rattle.elf_read.specs.declared.Relocation.{Relocation}
-use Rattle.elf_read.specs.Headers.{classOf, addressWidth}
+use Rattle.elf_read.specs.Headers.{classOf, hasRvc, addressWidth}
 use Rattle.placing_symbols.specs.declared.SymbolValue.{SymbolValue}
 use Rattle.relocations_types.specs.declared.Calculation.{Calculation}
 use Rattle.relocations_types.specs.declared.Decision.{Decision}
@@ -46,7 +46,7 @@ module _ (v : ℕ → SymbolValue) (object : List ℕ) (x : Site) where
       ∷ check BadSymbol (symbolWell object x j (valueBy j))
       ∷ check BadForm (formWell object x j)
       ∷ check NoPair (pairWell object x j)
-      ∷ check OutOfReach (distanceWell (classOf object) (decisionAt object x j) (targetBy j) (P object x j))
+      ∷ check OutOfReach (distanceWell (classOf object) (hasRvc object) (decisionAt object x j) (targetBy j) (P object x j))
       ∷ check OffBoundary (boundaryWell (decisionAt object x j) (P object x j) (A object x j))
       ∷ [])
 

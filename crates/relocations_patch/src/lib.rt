@@ -10,7 +10,7 @@ ghost use Rattle.numbers_definitions.specs.Whole.{residue, signed, minus};
 ghost use Rattle.instructions_riscv.specs.Forms.{hasForm};
 ghost use Rattle.relocations_values.specs.Values.{S};
 ghost use Rattle.relocations_decisions.specs.Decisions.{isPaired};
-ghost use Rattle.relocations_rules.specs.Rules.{standsWell, reachesWell};
+ghost use Rattle.relocations_rules.specs.Rules.{standsWell, partReaches, reachesWell};
 ghost use Rattle.relocations_bytes.specs.Patches.{highPart, lowPart, operandOf, patched};
 ghost use Rattle.relocations_patch.specs.Regular.{isUpper, fills, Regular, operandBy};
 use instructions_encode::put_b;
@@ -33,6 +33,7 @@ use instructions_riscv::halves::hi20;
 use instructions_riscv::halves::lo12;
 use instructions_riscv::ranges::in_halves_reach;
 use instructions_riscv::ranges::in_reach;
+use instructions_riscv::ranges::keeps_alignment;
 use instructions_riscv::ranges::range_of;
 use numbers_arithmetic::difference;
 use numbers_definitions::Address;
@@ -41,6 +42,7 @@ use placing_symbols::SymbolValue;
 use relocations_decisions::is_paired;
 use relocations_types::Calculation;
 use relocations_types::Operand;
+use relocations_types::Part;
 
 // Both halves of a number, at the bits where AUIPC or LUI and the instruction after it hold them.
 fn both_halves(class: Class, x: u64) -> u64
@@ -125,6 +127,20 @@ fn upper_opcode(form: Form) -> u64
     }
 }
 
+// Check 13 of a jump or a branch. v is T - P modulo 2^w.
+fn jump_reaches(class: Class, rvc: bool, field: Field, v: u64) -> bool
+    ensures { λ r. ⌜ ((t p : ℕ) → v ≡ minus (bits class) t p → r ≡ partReaches class rvc Part.Distance Operand.PcRelative field t p) ⌝ }
+{
+    in_reach(class, range_of(field), v) & keeps_alignment(rvc, v)
+}
+
+// Check 13 of a CALL. v is T - P modulo 2^w.
+fn call_reaches(class: Class, rvc: bool, v: u64) -> bool
+    ensures { λ r. ⌜ ((t p : ℕ) → v ≡ minus (bits class) t p → r ≡ partReaches class rvc Part.BothHalves Operand.PcRelative Field.Call t p) ⌝ }
+{
+    (v % 2 == 0) & in_halves_reach(class, v) & keeps_alignment(rvc, v)
+}
+
 // What a relocation makes of its bytes: whether they have its form and the distance is in reach, as checks 11 and 13 ask, and the
 // bytes that it leaves.
 pub struct Applied {
@@ -134,10 +150,11 @@ pub struct Applied {
 }
 
 // A rule at a place. `found` is the touched bytes as the object has them, and w as the relocation finds them; x is S + A in two's
-// complement, p is P, and d is the paired high half's T - P. One match on the field decides everything: what goes into the field
-// and which form is asked for are then known.
+// complement, p is P, and d is the paired high half's T - P. `rvc` says that bit 0 of e_flags is set. One match on the field decides
+// everything: what goes into the field and which form is asked for are then known.
 pub fn apply_rule(
     class: Class,
+    rvc: bool,
     calculation: Calculation,
     field: Field,
     form: Form,
@@ -148,7 +165,7 @@ pub fn apply_rule(
     d: u64,
 ) -> Applied
     requires { ⌜ Regular calculation field form ⌝ }
-    ensures { λ r. ⌜ (r .stands ≡ standsWell class form (p .0) found) × (r .reaches ≡ reachesWell class calculation field (residue (bits class) (signed 64 x)) (p .0)) × (r .word ≡ patched (bits class) calculation field w (signed 64 x) (p .0) d) ⌝ }
+    ensures { λ r. ⌜ (r .stands ≡ standsWell class form (p .0) found) × (r .reaches ≡ reachesWell class rvc calculation field (residue (bits class) (signed 64 x)) (p .0)) × (r .word ≡ patched (bits class) calculation field w (signed 64 x) (p .0) d) ⌝ }
 {
     let even = p.0 % 2 == 0;
     let next = found / 0x1_0000_0000;
@@ -171,27 +188,27 @@ pub fn apply_rule(
         },
         Field::B => Applied {
             stands: even & has_form(class, Form::Branch, found, next),
-            reaches: in_reach(class, range_of(Field::B), v),
+            reaches: jump_reaches(class, rvc, Field::B, v),
             word: put_b(w, v),
         },
         Field::J => Applied {
             stands: even & has_form(class, Form::Jal, found, next),
-            reaches: in_reach(class, range_of(Field::J), v),
+            reaches: jump_reaches(class, rvc, Field::J, v),
             word: put_j(w, v),
         },
         Field::Cb => Applied {
             stands: even & has_form(class, Form::CBranch, found, next),
-            reaches: in_reach(class, range_of(Field::Cb), v),
+            reaches: jump_reaches(class, rvc, Field::Cb, v),
             word: put_cb(w, v),
         },
         Field::Cj => Applied {
             stands: even & has_form(class, Form::CJump, found, next),
-            reaches: in_reach(class, range_of(Field::Cj), v),
+            reaches: jump_reaches(class, rvc, Field::Cj, v),
             word: put_cj(w, v),
         },
         Field::Call => Applied {
             stands: even & has_form(class, Form::CallPair, found, next),
-            reaches: (v % 2 == 0) & in_halves_reach(class, v),
+            reaches: call_reaches(class, rvc, v),
             word: put_field(Field::Call, w, both_halves(class, v)),
         },
         Field::Data(width) => Applied {

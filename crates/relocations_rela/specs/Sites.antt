@@ -5,7 +5,7 @@ use lib.ListN.{getD}
 use lib.IntN.{ℤ}
 use Rattle.numbers_definitions.specs.Whole.{signed}
 use Rattle.elf_read.specs.declared.Relocation.{Relocation}
-use Rattle.elf_read.specs.Headers.{classOf}
+use Rattle.elf_read.specs.Headers.{classOf, hasRvc}
 use Rattle.elf_read.specs.Sections.{sectionAt, relocationEntries}
 use Rattle.elf_read.specs.Entries.{bytesOf, relocationAt}
 use Rattle.relocations_types.specs.declared.Decision.{Decision}
@@ -30,7 +30,7 @@ abbrev pub offset : List ℕ → Site → ℕ → ℕ
 offset object x j = entry object x j .offset .0
 
 abbrev pub decisionAt : List ℕ → Site → ℕ → Decision
-decisionAt object x j = decision (classOf object) (entry object x j .kind)
+decisionAt object x j = decision (classOf object) (hasRvc object) (entry object x j .kind)
 
 -- A, a signed number. In the file it is the third number of the entry, in two's complement; the entry that is read keeps it modulo 2^64
 -- (`Addends.addend-is`).

@@ -27,7 +27,7 @@ use Rattle.relocations_types.specs.declared.Part.the-variants.{Whole, Distance,
 use Rattle.relocations_types.specs.declared.Decision.{Decision}
 use Rattle.relocations_types.specs.declared.Decision.the-variants.{Marker, Align, Store, Refused}
 use Rattle.instructions_riscv.specs.Forms.{hasForm}
-use Rattle.instructions_riscv.specs.Ranges.{distance, rangeOf, reaches, halvesReach}
+use Rattle.instructions_riscv.specs.Ranges.{distance, rangeOf, reaches, keepsAlignment, halvesReach}
 use Rattle.relocations_rela.specs.declared.sites.Site.{Site}
 use Rattle.relocations_values.specs.declared.pairs.Pair.{Pair}
 use Rattle.relocations_values.specs.declared.pairs.Pair.the-variants.{At, NotOne}
@@ -93,7 +93,7 @@ isOne NotOne = false
 unfoldable pub pairWell : List ℕ → Site → ℕ → Bool
 pairWell object x j = not (needsPair (decisionAt object x j)) || isOne (pairOf object x (symbol object x j .value))
 
--- ---- check 13, in class c, for t, which is T, and p, which is P
+-- ---- check 13, in class c, for t, which is T, and p, which is P. rvc says that bit 0 of e_flags is set.
 
 -- Document 02, in class 2: "for 18, 19, 23 and 26 the distance or address, read as a signed 64-bit number, lies in
 -- -2,147,485,696..2,147,481,599". 26: the address T; 18, 19, 23: the distance T - P modulo 2^w. 24 and 25 have no range of their own.
@@ -103,25 +103,27 @@ operandReaches c PcRelative t p = halvesReach c (minus (bits c) t p)
 operandReaches c Paired t p = true
 
 -- of a part: 16, 17, 44, 45: the distance, "even", and in the field's range; 18, 19: "T - P modulo 2^32, which is
--- even", and 2^w in class c; 18, 19, 23, 26: within reach of two halves
-abbrev pub partReaches : Class → Part → Operand → Field → ℕ → ℕ → Bool
-partReaches c Whole o f t p = true
-partReaches c Distance o f t p = reaches (rangeOf f) (distance (bits c) t p)
-partReaches c High o f t p = operandReaches c o t p
-partReaches c Low o f t p = true
-partReaches c BothHalves o f t p = even (pos (minus (bits c) t p)) && operandReaches c o t p
+-- even", and 2^w in class c; 18, 19, 23, 26: within reach of two halves; "If e_flags bit 0 is clear, .. a distance for 16 to 19 that
+-- isn't a multiple of 4 with 13" (44 and 45 are refused there with 9)
+abbrev pub partReaches : Class → Bool → Part → Operand → Field → ℕ → ℕ → Bool
+partReaches c rvc Whole o f t p = true
+partReaches c rvc Distance o f t p = reaches (rangeOf f) (distance (bits c) t p) && keepsAlignment rvc (distance (bits c) t p)
+partReaches c rvc High o f t p = operandReaches c o t p
+partReaches c rvc Low o f t p = true
+partReaches c rvc BothHalves o f t p =
+    even (pos (minus (bits c) t p)) && operandReaches c o t p && keepsAlignment rvc (pos (minus (bits c) t p))
 
-abbrev pub reachesWell : Class → Calculation → Field → ℕ → ℕ → Bool
-reachesWell c (Of part operand) f t p = partReaches c part operand f t p
-reachesWell c Add f t p = true
-reachesWell c Sub f t p = true
-reachesWell c Set f t p = true
+abbrev pub reachesWell : Class → Bool → Calculation → Field → ℕ → ℕ → Bool
+reachesWell c rvc (Of part operand) f t p = partReaches c rvc part operand f t p
+reachesWell c rvc Add f t p = true
+reachesWell c rvc Sub f t p = true
+reachesWell c rvc Set f t p = true
 
-abbrev pub distanceWell : Class → Decision → ℕ → ℕ → Bool
-distanceWell c (Store r) t p = reachesWell c (r .calculation) (r .field) t p
-distanceWell c Marker t p = true
-distanceWell c Align t p = true
-distanceWell c Refused t p = true
+abbrev pub distanceWell : Class → Bool → Decision → ℕ → ℕ → Bool
+distanceWell c rvc (Store r) t p = reachesWell c rvc (r .calculation) (r .field) t p
+distanceWell c rvc Marker t p = true
+distanceWell c rvc Align t p = true
+distanceWell c rvc Refused t p = true
 
 -- ---- check 14: "P + A a multiple of the smallest power of two at least A + 2"
 

@@ -4,7 +4,7 @@ use mathlib.Core.Bool.{Bool, true, false, cond}
 use mathlib.Core.List.{List, [], _∷_, _++_}
 use lib.Dec.{ltb}
 use Rattle.numbers_definitions.specs.First.{first}
-use Rattle.elf_read.specs.Headers.{classOf}
+use Rattle.elf_read.specs.Headers.{classOf, hasRvc}
 use Rattle.elf_read.specs.Entries.{relocationCount, locationOf}
 use Rattle.relocations_rela.specs.declared.sites.Site.{Site}
 use Rattle.relocations_rules.specs.declared.Finding.{Finding}
@@ -53,7 +53,7 @@ module _ (object order addresses : List ℕ) (x : Site) (j : ℕ) where
   -- 13 and 14
   abbrev pub later : List Check
   later =
-      check OutOfReach (distanceWell (classOf object) (decisionAt object x j) (targetAt object order addresses x j) (P object x j))
+      check OutOfReach (distanceWell (classOf object) (hasRvc object) (decisionAt object x j) (targetAt object order addresses x j) (P object x j))
       ∷ check OffBoundary (boundaryWell (decisionAt object x j) (P object x j) (A object x j))
       ∷ []
 

@@ -1,6 +1,7 @@
--- "Every type number from 0 to 255 has a line in one decision": document 01's table of relocation types, and document 02's line for class 2.
+-- "Every type number from 0 to 255 has a line in one decision": document 01's table of relocation types, and what document 02 says of class 2 and of
+-- objects without short instructions.
 use Prim.Native.Nat.{ℕ}
-use mathlib.Core.Bool.{Bool, false, cond, _||_}
+use mathlib.Core.Bool.{Bool, true, false, not, cond, _&&_, _||_}
 use mathlib.Core.List.{List, [], _∷_}
 use lib.Dec.{eqb}
 use Rattle.numbers_definitions.specs.declared.Class.{Class}
@@ -117,5 +118,25 @@ unfoldable pub lookup : ℕ → List Line → Decision
 lookup t [] = Refused
 lookup t (l ∷ ls) = cond (among t (l .types)) (l .decisionAt) (lookup t ls)
 
-unfoldable pub decision : Class → ℕ → Decision
-decision c t = lookup t (linesOf c)
+-- forms of instructions of 16 bits
+abbrev pub isShort : Form → Bool
+isShort CBranch = true
+isShort CJump = true
+isShort Any = false
+isShort Lui = false
+isShort Auipc = false
+isShort Jal = false
+isShort Branch = false
+isShort LowI = false
+isShort LowS = false
+isShort CallPair = false
+
+-- "If e_flags bit 0 is clear, types 44 and 45 are refused with 9": rvc says that the bit is set
+abbrev pub permitted : Bool → Decision → Decision
+permitted rvc (Store r) = cond (isShort (r .form) && not rvc) Refused (Store r)
+permitted rvc Marker = Marker
+permitted rvc Align = Align
+permitted rvc Refused = Refused
+
+unfoldable pub decision : Class → Bool → ℕ → Decision
+decision c rvc t = permitted rvc (lookup t (linesOf c))

@@ -1,7 +1,8 @@
 // The decision from a relocation's type number to its calculation, field and width, or a refusal.
 ghost use mathlib.Core.Path.{_≡_};
+ghost use mathlib.Core.Bool.{not, cond};
 ghost use lib.Dec.{eqb};
-ghost use Rattle.relocations_types.specs.Types.{of as «of-operand», word as «the-word», jump as «the-jump», pairing as «the-pairing», stacking as «the-stacking», pairingType, decision};
+ghost use Rattle.relocations_types.specs.Types.{of as «of-operand», word as «the-word», jump as «the-jump», pairing as «the-pairing», stacking as «the-stacking», pairingType, linesOf, lookup, decision};
 use instructions_fields::Field;
 use instructions_fields::Width;
 use instructions_riscv::forms::Form;
@@ -88,7 +89,7 @@ fn word(operand: Operand) -> Decision
 
 // A data word of 64 bits, which only class 2 has.
 fn word64(class: Class) -> Decision
-    ensures { λ r. ⌜ r ≡ decision class 2 ⌝ }
+    ensures { λ r. ⌜ r ≡ lookup 2 (linesOf class) ⌝ }
 {
     match class {
         Class::Elf32 => Decision::Refused,
@@ -107,6 +108,16 @@ fn jump(field: Field, form: Form, size: u8) -> Decision
     ensures { λ r. ⌜ r ≡ «the-jump» field form size ⌝ }
 {
     of(Part::Distance, Operand::PcRelative, field, form, size)
+}
+
+// A distance in an instruction of 16 bits, which only an object with bit 0 of e_flags may have.
+fn short_jump(rvc: bool, field: Field, form: Form) -> Decision
+    ensures { λ r. ⌜ r ≡ cond (not rvc) Decision.Refused («the-jump» field form 2) ⌝ }
+{
+    if rvc {
+        return jump(field, form, 2);
+    }
+    Decision::Refused
 }
 
 // The high half that a PCREL_LO12 pairs with.
@@ -145,8 +156,9 @@ pub fn is_pairing(number: u32) -> bool
     number == PCREL_HI20
 }
 
-pub fn decide(class: Class, number: u32) -> Decision
-    ensures { λ r. ⌜ r ≡ decision class number ⌝ }
+// What a type asks for in an object of the class. `rvc` says that bit 0 of its e_flags is set.
+pub fn decide(class: Class, rvc: bool, number: u32) -> Decision
+    ensures { λ r. ⌜ r ≡ decision class rvc number ⌝ }
 {
     match number {
         0 | 51 => Decision::Marker,
@@ -156,8 +168,8 @@ pub fn decide(class: Class, number: u32) -> Decision
         57 => word(Operand::PcRelative),
         16 => jump(Field::B, Form::Branch, 4),
         17 => jump(Field::J, Form::Jal, 4),
-        44 => jump(Field::Cb, Form::CBranch, 2),
-        45 => jump(Field::Cj, Form::CJump, 2),
+        44 => short_jump(rvc, Field::Cb, Form::CBranch),
+        45 => short_jump(rvc, Field::Cj, Form::CJump),
         18 | 19 => of(
             Part::BothHalves,
             Operand::PcRelative,

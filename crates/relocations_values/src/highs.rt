@@ -1,5 +1,6 @@
 // The high halves of a site, listed once, so that each low half finds its pair by halving.
 ghost use mathlib.Core.Path.{_≡_};
+ghost use mathlib.Core.Bool.{Bool};
 ghost use Prim.Native.Nat.{_^_, _≤_, _<_};
 ghost use lib.ListN.{length};
 ghost use Rattle.numbers_definitions.specs.declared.Class.{Class};
@@ -19,9 +20,9 @@ struct Gathered {
     falls: bool,
 }
 
-// Whether a relocation type is that of a high half. It is the same in both classes.
+// Whether a relocation type is that of a high half. It is the same in both classes, with and without short instructions.
 fn is_high(kind: u32) -> bool
-    ensures { λ r. ⌜ ((c : Class) → r ≡ givesPair (decision c kind)) ⌝ }
+    ensures { λ r. ⌜ ((c : Class) (rvc : Bool) → r ≡ givesPair (decision c rvc kind)) ⌝ }
 {
     is_pairing(kind)
 }

@@ -54,10 +54,11 @@ pub fn half(x: u32) {
     end();
 }
 
-// t: a type, and then 0 for a marker, 1 for ALIGN, 3 for a refusal, or 2 with its rule.
-pub fn decision(number: u8) {
+// t: a type, whether bit 0 of e_flags is set, and then 0 for a marker, 1 for ALIGN, 3 for a refusal, or 2 with its rule.
+pub fn decision(rvc: bool, number: u8) {
     first(b't', number as u64);
-    match relocations_types::decide(Class::Elf32, number as u32) {
+    flag(rvc);
+    match relocations_types::decide(Class::Elf32, rvc, number as u32) {
         Decision::Marker => then(0),
         Decision::Align => then(1),
         Decision::Store(asked) => rule(asked),
@@ -104,7 +105,8 @@ pub fn data(number: u64, v: u64, x: u64) {
     end();
 }
 
-// r: a range, a target, an address, and whether the target is reached from the address, in each class.
+// r: a range, a target, an address, whether the target is reached from the address, in each class, and whether the distance keeps the
+// alignment where bit 0 of e_flags is clear.
 pub fn reach(number: u64, place: u64) {
     let ends = choices::range(number);
     let jump = choices::case(ends, place);
@@ -113,12 +115,18 @@ pub fn reach(number: u64, place: u64) {
     then(jump.p.0);
     flag(reached(Class::Elf32, ends, jump));
     flag(reached(Class::Elf64, ends, jump));
+    flag(aligned(jump));
     end();
 }
 
 fn reached(class: Class, ends: Range, jump: choices::Jump) -> bool {
     let d = numbers_arithmetic::difference(class, jump.t.0, jump.p.0);
     instructions_riscv::ranges::in_reach(class, ends, d)
+}
+
+fn aligned(jump: choices::Jump) -> bool {
+    let d = numbers_arithmetic::difference(Class::Elf32, jump.t.0, jump.p.0);
+    instructions_riscv::ranges::keeps_alignment(false, d)
 }
 
 // i: a word, the next one, and which forms they have.

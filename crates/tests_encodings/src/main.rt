@@ -8,7 +8,7 @@ mod lines;
 fn main() {
     run(b'f', 416);
     run(b'h', 64);
-    run(b't', 256);
+    run(b't', 512);
     run(b'e', 125);
     run(b'd', 40);
     run(b'r', 56);
@@ -39,7 +39,7 @@ fn line(kind: u8, i: u64, a: u64, b: u64) {
     match kind {
         b'f' => lines::field(i % 13, a, b),
         b'h' => lines::half((a % 0x1_0000_0000) as u32),
-        b't' => lines::decision((i % 256) as u8),
+        b't' => lines::decision(i < 256, (i % 256) as u8),
         b'e' => lines::data(
             i / 25,
             choices::edge(i / 25, i / 5 % 5),

@@ -146,18 +146,21 @@ fn place_in<T: PartialEq>(all: &[T], one: T) -> usize {
     all.iter().position(|other| *other == one).expect("listed")
 }
 
-fn type_line(kind: u64) -> String {
+/// The first 256 lines are for objects with bit 0 of e_flags set, the others for those without it.
+fn type_line(i: u64) -> String {
+    let (kind, rvc) = (i % 256, u8::from(i < 256));
     match effect_of(kind as u32, Class::Elf32) {
-        Effect::Marker => format!("t {kind:x} 0"),
-        Effect::Align => format!("t {kind:x} 1"),
-        Effect::Refused => format!("t {kind:x} 3"),
+        Effect::Marker => format!("t {kind:x} {rvc} 0"),
+        Effect::Align => format!("t {kind:x} {rvc} 1"),
+        Effect::Refused => format!("t {kind:x} {rvc} 3"),
+        Effect::Patch(patch) if rvc == 0 && patch.form.is_compressed() => format!("t {kind:x} {rvc} 3"),
         Effect::Patch(patch) => {
             let calculation = calculation(patch);
             let field = place_in(&FIELDS, patch.field);
             let form = place_in(&FORMS, patch.form);
             let bytes = patch.field.bytes();
             let pairs = u8::from(kind == 23);
-            format!("t {kind:x} 2 {calculation} {field:x} {form:x} {bytes:x} {pairs:x}")
+            format!("t {kind:x} {rvc} 2 {calculation} {field:x} {form:x} {bytes:x} {pairs:x}")
         }
     }
 }
@@ -194,7 +197,8 @@ fn reach_line(i: u64) -> String {
         let distance = class.signed(t - p);
         u8::from(distance % 2 == 0 && reach.contains(&distance))
     });
-    format!("r {number:x} {t:x} {p:x} {} {}", reached[0], reached[1])
+    let aligned = u8::from((t - p) % 4 == 0);
+    format!("r {number:x} {t:x} {p:x} {} {} {aligned}", reached[0], reached[1])
 }
 
 /// A word whose rd and rs1 are 0 or 1 and whose funct3 is often 0.
@@ -226,7 +230,7 @@ fn form_line(i: u64, a: u64, b: u64) -> String {
 fn lines() -> String {
     run(416, field_line)
         + &run(64, |_, a, _| half_line(a))
-        + &run(256, |i, _, _| type_line(i))
+        + &run(512, |i, _, _| type_line(i))
         + &run(125, |i, _, _| edge_line(i))
         + &run(40, |i, a, b| data_line(i % 5, a, b))
         + &run(56, |i, _, _| reach_line(i))

@@ -11,7 +11,7 @@ use borrow.Author.Tests.{leb-true, ltb-true, ltb-false, eqb-true, eq-eqb}
 use Rattle.numbers_definitions.proofs.Laws.Tests.{and-left, and-right, clash}
 use Rattle.numbers_definitions.proofs.Laws.First.{first-is, everywhere-is}
 use Rattle.numbers_definitions.proofs.Laws.Whole.{residue-lt}
-use Rattle.elf_read.specs.Headers.{classOf, addressWidth, sectionCount}
+use Rattle.elf_read.specs.Headers.{classOf, hasRvc, addressWidth, sectionCount}
 use Rattle.elf_read.specs.Sections.{sectionAt, countingRela}
 use Rattle.elf_read.specs.Entries.{bytesOf}
 use Rattle.order_format.specs.declared.OrderHeader.{OrderHeader}
@@ -140,7 +140,7 @@ module _ (object order : List ℕ) (counts : OrderHeader) (image : List ℕ) (fi
         let empty : ltb 0 (h .size) ≡ false = rw there at e in
         let inside : end object x j ≤ h .size = shape-well object x j (kept-rules object order a x j (is-checked .kept j l) .shape) .inside in
         let touches-n : touched (decisionAt object x j) ≡ r .size = ap touched p in
-        omega (arith, width-some (r .size) (store-width (classOf object) (entry object x j .kind) r p), inside, ltb-false 0 (h .size) empty)
+        omega (arith, width-some (r .size) (store-width (classOf object) (hasRvc object) (entry object x j .kind) r p), inside, ltb-false 0 (h .size) empty)
     no-store j l e Marker p s = clash false refl s
     no-store j l e Align p s = clash false refl s
     no-store j l e Refused p s = clash false refl s

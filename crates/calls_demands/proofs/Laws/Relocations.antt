@@ -14,11 +14,11 @@ use Rattle.numbers_definitions.specs.declared.Class.the-variants.{Elf32, Elf64}
 use Rattle.numbers_definitions.specs.Classes.{bits}
 use Rattle.numbers_definitions.specs.Whole.{signed, within, even, minus}
 use Rattle.numbers_definitions.specs.Powers.{ceilPower}
-use Rattle.numbers_definitions.proofs.Laws.Tests.{and-left, and-right, never, both, one-of-two, or-two, given, implied}
+use Rattle.numbers_definitions.proofs.Laws.Tests.{and-left, and-right, never, both, one-of-two, or-two, or-right, given, implied}
 use Rattle.instructions_fields.specs.declared.Field.{Field}
 use Rattle.instructions_riscv.specs.declared.forms.Form.{Form}
 use Rattle.instructions_riscv.specs.Forms.{hasForm}
-use Rattle.instructions_riscv.specs.Ranges.{distance, rangeOf, reaches, halvesReach}
+use Rattle.instructions_riscv.specs.Ranges.{distance, rangeOf, reaches, keepsAlignment, halvesReach}
 use Rattle.relocations_types.specs.declared.Calculation.{Calculation}
 use Rattle.relocations_types.specs.declared.Calculation.the-variants.{Of, Add, Sub, Set}
 use Rattle.relocations_types.specs.declared.Operand.{Operand}
@@ -29,7 +29,7 @@ use Rattle.relocations_types.specs.declared.Rule.{Rule}
 use Rattle.relocations_types.specs.declared.Decision.{Decision}
 use Rattle.relocations_types.specs.declared.Decision.the-variants.{Marker, Align, Store, Refused}
 use Rattle.placing_symbols.specs.declared.SymbolValue.{SymbolValue}
-use Rattle.elf_read.specs.Headers.{classOf}
+use Rattle.elf_read.specs.Headers.{classOf, hasRvc}
 use Rattle.relocations_rela.specs.declared.sites.Site.{Site}
 use Rattle.relocations_rela.specs.declared.shape.Previous.{Previous}
 use Rattle.relocations_rela.specs.declared.shape.Previous.the-variants.{Nothing, Entry}
@@ -39,7 +39,7 @@ use Rattle.relocations_rela.specs.Shape.{neverFalls, end, staysInside, previous
 use Rattle.relocations_values.specs.Pairs.{pairOf}
 use Rattle.relocations_values.specs.declared.pairs.Pair.the-variants.{At, NotOne}
 use Rattle.relocations_rules.specs.Rules.{isResolved, symbol, inTarget, symbolWell, isData, standsWell, asksWell, formWell, isOne, pairWell, operandReaches, partReaches, reachesWell, distanceWell, boundaryWell}
-use Rattle.calls_demands.specs.Rules.{Within, Even, SharePlace, PaddingWell, ShapeWell, SymbolWell, FormWell, PairWell, InHalvesReach, OperandReachable, PartReachable, Reachable, ReachWell, BoundaryWell}
+use Rattle.calls_demands.specs.Rules.{Within, Even, SharePlace, PaddingWell, ShapeWell, SymbolWell, FormWell, PairWell, KeepsAlignment, InHalvesReach, OperandReachable, PartReachable, Reachable, ReachWell, BoundaryWell}
 
 -- 24 and 25 are not markers
 needs-store : (d : Decision) → needsPair d ≡ true → isStore d ≡ true
@@ -234,26 +234,37 @@ module _ (object : List ℕ) (x : Site) where
   operand-reached c PcRelative t p e = in-halves c (minus (bits c) t p) e
   operand-reached c Paired t p e = tt
 
-  part-reached : (c : Class) (part : Part) (o : Operand) (f : Field) (t p : ℕ) → partReaches c part o f t p ≡ true → PartReachable c part o f t p
-  unfolding reaches
-  part-reached c Whole o f t p e = tt
-  part-reached c Distance o f t p e =
-      let z : ℤ = distance (bits c) t p in
-      record {
-        is-even = even-is z (and-left (even z) (within (rangeOf f .back) (rangeOf f .ahead) z) e);
-        in-range = within-is (rangeOf f .back) (rangeOf f .ahead) z (and-right (even z) (within (rangeOf f .back) (rangeOf f .ahead) z) e);
-      }
-  part-reached c High o f t p e = operand-reached c o t p e
-  part-reached c Low o f t p e = tt
-  part-reached c BothHalves o f t p e =
-      let d : ℤ = pos (minus (bits c) t p) in
-      (even-is d (and-left (even d) (operandReaches c o t p) e), operand-reached c o t p (and-right (even d) (operandReaches c o t p) e))
+  kept-aligned : (rvc : Bool) (z : ℤ) → keepsAlignment rvc z ≡ true → KeepsAlignment rvc z
+  unfolding keepsAlignment
+  kept-aligned rvc z e clear = eqb-true _ _ (or-right rvc (eqb (natAbs z % 4) 0) clear e)
 
-  reached : (k : Class) (c : Calculation) (f : Field) (t p : ℕ) → reachesWell k c f t p ≡ true → Reachable k c f t p
-  reached k (Of part operand) f t p e = part-reached k part operand f t p e
-  reached k Add f t p e = tt
-  reached k Sub f t p e = tt
-  reached k Set f t p e = tt
+  module _ (c : Class) (rvc : Bool) where
+    part-reached : (part : Part) (o : Operand) (f : Field) (t p : ℕ) → partReaches c rvc part o f t p ≡ true → PartReachable c rvc part o f t p
+    unfolding reaches
+    part-reached Whole o f t p e = tt
+    part-reached Distance o f t p e =
+        let z : ℤ = distance (bits c) t p in
+        let near : (even z && within (rangeOf f .back) (rangeOf f .ahead) z) ≡ true = and-left (reaches (rangeOf f) z) (keepsAlignment rvc z) e in
+        record {
+          is-even = even-is z (and-left (even z) (within (rangeOf f .back) (rangeOf f .ahead) z) near);
+          in-range = within-is (rangeOf f .back) (rangeOf f .ahead) z (and-right (even z) (within (rangeOf f .back) (rangeOf f .ahead) z) near);
+          aligned = kept-aligned rvc z (and-right (reaches (rangeOf f) z) (keepsAlignment rvc z) e);
+        }
+    part-reached High o f t p e = operand-reached c o t p e
+    part-reached Low o f t p e = tt
+    part-reached BothHalves o f t p e =
+        let d : ℤ = pos (minus (bits c) t p) in
+        let near : (even d && operandReaches c o t p) ≡ true = and-left (even d && operandReaches c o t p) (keepsAlignment rvc d) e in (
+          even-is d (and-left (even d) (operandReaches c o t p) near),
+          operand-reached c o t p (and-right (even d) (operandReaches c o t p) near),
+          kept-aligned rvc d (and-right (even d && operandReaches c o t p) (keepsAlignment rvc d) e),
+        )
+
+    reached : (m : Calculation) (f : Field) (t p : ℕ) → reachesWell c rvc m f t p ≡ true → Reachable c rvc m f t p
+    reached (Of part operand) f t p e = part-reached part operand f t p e
+    reached Add f t p e = tt
+    reached Sub f t p e = tt
+    reached Set f t p e = tt
 
   halves-back : (c : Class) (v : ℕ) → InHalvesReach c v → halvesReach c v ≡ true
   halves-back Elf32 v r = refl
@@ -264,32 +275,43 @@ module _ (object : List ℕ) (x : Site) where
   operand-back c PcRelative t p r = halves-back c (minus (bits c) t p) r
   operand-back c Paired t p r = refl
 
-  part-back : (c : Class) (part : Part) (o : Operand) (f : Field) (t p : ℕ) → PartReachable c part o f t p → partReaches c part o f t p ≡ true
-  unfolding reaches
-  part-back c Whole o f t p r = refl
-  part-back c Distance o f t p r =
-      let z : ℤ = distance (bits c) t p in
-      both _ _ (is-even z (r .is-even)) (is-within (rangeOf f .back) (rangeOf f .ahead) z (r .in-range))
-  part-back c High o f t p r = operand-back c o t p r
-  part-back c Low o f t p r = refl
-  part-back c BothHalves o f t p r =
-      both (even (pos (minus (bits c) t p))) (operandReaches c o t p) (is-even (pos (minus (bits c) t p)) (r .0)) (operand-back c o t p (r .1))
+  aligned-back : (rvc : Bool) (z : ℤ) → KeepsAlignment rvc z → keepsAlignment rvc z ≡ true
+  unfolding keepsAlignment
+  aligned-back true z h = refl
+  aligned-back false z h = eq-eqb _ _ (h refl)
 
-  reaches-back : (k : Class) (c : Calculation) (f : Field) (t p : ℕ) → Reachable k c f t p → reachesWell k c f t p ≡ true
-  reaches-back k (Of part operand) f t p r = part-back k part operand f t p r
-  reaches-back k Add f t p r = refl
-  reaches-back k Sub f t p r = refl
-  reaches-back k Set f t p r = refl
+  module _ (c : Class) (rvc : Bool) where
+    part-back : (part : Part) (o : Operand) (f : Field) (t p : ℕ) → PartReachable c rvc part o f t p → partReaches c rvc part o f t p ≡ true
+    unfolding reaches
+    part-back Whole o f t p r = refl
+    part-back Distance o f t p r =
+        let z : ℤ = distance (bits c) t p in
+        both (reaches (rangeOf f) z) (keepsAlignment rvc z)
+        (both _ _ (is-even z (r .is-even)) (is-within (rangeOf f .back) (rangeOf f .ahead) z (r .in-range)))
+        (aligned-back rvc z (r .aligned))
+    part-back High o f t p r = operand-back c o t p r
+    part-back Low o f t p r = refl
+    part-back BothHalves o f t p r =
+        let d : ℤ = pos (minus (bits c) t p) in
+        both (even d && operandReaches c o t p) (keepsAlignment rvc d)
+        (both (even d) (operandReaches c o t p) (is-even d (r .0)) (operand-back c o t p (r .1)))
+        (aligned-back rvc d (r .2))
 
-  pub reach-well : (j t : ℕ) → distanceWell (classOf object) (decisionAt object x j) t (P object x j) ≡ true → ReachWell object x j t
-  reach-well j t e r is = reached (classOf object) (r .calculation) (r .field) t (P object x j) (ap (λ d. distanceWell (classOf object) d t (P object x j)) (sym is) ∙ e)
+    reaches-back : (m : Calculation) (f : Field) (t p : ℕ) → Reachable c rvc m f t p → reachesWell c rvc m f t p ≡ true
+    reaches-back (Of part operand) f t p r = part-back part operand f t p r
+    reaches-back Add f t p r = refl
+    reaches-back Sub f t p r = refl
+    reaches-back Set f t p r = refl
 
-  pub well-reach : (j t : ℕ) → ReachWell object x j t → distanceWell (classOf object) (decisionAt object x j) t (P object x j) ≡ true
+  pub reach-well : (j t : ℕ) → distanceWell (classOf object) (hasRvc object) (decisionAt object x j) t (P object x j) ≡ true → ReachWell object x j t
+  reach-well j t e r is = reached (classOf object) (hasRvc object) (r .calculation) (r .field) t (P object x j) (ap (λ d. distanceWell (classOf object) (hasRvc object) d t (P object x j)) (sym is) ∙ e)
+
+  pub well-reach : (j t : ℕ) → ReachWell object x j t → distanceWell (classOf object) (hasRvc object) (decisionAt object x j) t (P object x j) ≡ true
   well-reach j t h = go (decisionAt object x j) h
     where
-      go : (d : Decision) → ((r : Rule) → d ≡ Store r → Reachable (classOf object) (r .calculation) (r .field) t (P object x j))
-          → distanceWell (classOf object) d t (P object x j) ≡ true
-      go (Store r) h = reaches-back (classOf object) (r .calculation) (r .field) t (P object x j) (h r refl)
+      go : (d : Decision) → ((r : Rule) → d ≡ Store r → Reachable (classOf object) (hasRvc object) (r .calculation) (r .field) t (P object x j))
+          → distanceWell (classOf object) (hasRvc object) d t (P object x j) ≡ true
+      go (Store r) h = reaches-back (classOf object) (hasRvc object) (r .calculation) (r .field) t (P object x j) (h r refl)
       go Marker h = refl
       go Align h = refl
       go Refused h = refl

@@ -11,7 +11,7 @@ use lib.Seq.{ext-getD}
 use Rattle.numbers_definitions.proofs.Laws.Tests.{clash}
 use Rattle.numbers_definitions.proofs.Laws.Bytes.{Bytes}
 use Rattle.numbers_definitions.proofs.Laws.Lists.{length-part}
-use Rattle.elf_read.specs.Headers.{classOf, addressWidth, sectionCount}
+use Rattle.elf_read.specs.Headers.{classOf, hasRvc, addressWidth, sectionCount}
 use Rattle.elf_read.specs.Sections.{sectionAt, countingRela}
 use Rattle.order_format.specs.declared.OrderHeader.{OrderHeader}
 use Rattle.order_lookup.specs.Addresses.{addressesFor}
@@ -132,7 +132,7 @@ module _ (object order : List ℕ) where
             let a = says g lg (Store r) e in
             let z = says h lh (Store r) e in
             same-number sg sh (offset object x j) n b bsg bsh (omega (arith, length-is g (lg .same-length), inside)) (omega (arith, length-is h (lh .same-length), inside))
-            (bytes-known (addressWidth object) (address-wide object) (classOf object) (entry object x j .kind) r e _ _ (spelt-lt n sg (offset object x j) bsg) (spelt-lt n sh (offset object x j) bsh) _ _ _ _ (a .0) (z .0) (a .1 ∙ sym (z .1)))
+            (bytes-known (addressWidth object) (address-wide object) (classOf object) (hasRvc object) (entry object x j .kind) r e _ _ (spelt-lt n sg (offset object x j) bsg) (spelt-lt n sh (offset object x j) bsh) _ _ _ _ (a .0) (z .0) (a .1 ∙ sym (z .1)))
             (c .low) (omega (arith, c .high))
         go Marker e = let none : end object x j ≡ offset object x j + 0 = ap (λ d. offset object x j + touched d) e in absurd (omega (arith, c .low, c .high))
         go Align e = let none : end object x j ≡ offset object x j + 0 = ap (λ d. offset object x j + touched d) e in absurd (omega (arith, c .low, c .high))

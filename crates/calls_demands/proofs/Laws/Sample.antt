@@ -11,7 +11,7 @@ use Rattle.numbers_definitions.specs.Bytes.{le, leAt, bytes}
 use Rattle.numbers_definitions.specs.First.{first, everywhere, tabulate}
 use Rattle.numbers_definitions.specs.Sums.{sum}
 use Rattle.numbers_definitions.specs.Powers.{oneBit}
-use Rattle.elf_read.specs.Headers.{classOf, addressWidth, sectionCount}
+use Rattle.elf_read.specs.Headers.{classOf, hasRvc, addressWidth, sectionCount}
 use Rattle.elf_read.specs.Sections.{readSection, sectionAt, allocated, loaded, symbolTable, isAllocated, countingRel, countingRela, relocationsIn}
 use Rattle.elf_read.specs.Entries.{readRelocation, relocationAt, relocationCount, locationOf}
 use Rattle.elf_header.specs.Headers.{headerAllowed, tableAllowed}
@@ -124,27 +124,27 @@ unfolding object words bytes leAt le classOf sum relocationsIn countingRela isAl
 relocations-are = refl
 
 shape-is : Shape object order 0
-unfolding object order words bytes leAt le classOf sum relocationsIn locationOf countingRela isAllocated readSection sectionAt allocated siteAt readRelocation relocationAt decision table lookup among shapeWell neverFalls staysInside noOverlap previous first addresses tabulate placedAt valueIn entryAt
+unfolding object order words bytes leAt le classOf sum relocationsIn locationOf countingRela isAllocated readSection sectionAt allocated siteAt readRelocation relocationAt decision hasRvc table lookup among shapeWell neverFalls staysInside noOverlap previous first addresses tabulate placedAt valueIn entryAt
 shape-is = shape-well object (site object order 0) (entryOf object order 0) refl
 
 symbol-is : SymbolResolves object order 0
-unfolding object order words bytes leAt le classOf sum relocationsIn locationOf countingRela isAllocated readSection sectionAt allocated siteAt readRelocation relocationAt decision table lookup among symbolWell symbolValue first addresses tabulate placedAt valueIn entryAt
+unfolding object order words bytes leAt le classOf sum relocationsIn locationOf countingRela isAllocated readSection sectionAt allocated siteAt readRelocation relocationAt decision hasRvc table lookup among symbolWell symbolValue first addresses tabulate placedAt valueIn entryAt
 symbol-is = symbol-well object (site object order 0) (entryOf object order 0) (valueOf object order 0) refl
 
 form-is : FormIs object order 0
-unfolding object order words bytes leAt le classOf sum relocationsIn locationOf countingRela isAllocated readSection sectionAt allocated siteAt readRelocation relocationAt decision table lookup among formWell standsWell first addresses tabulate placedAt valueIn entryAt
+unfolding object order words bytes leAt le classOf sum relocationsIn locationOf countingRela isAllocated readSection sectionAt allocated siteAt readRelocation relocationAt decision hasRvc table lookup among formWell standsWell first addresses tabulate placedAt valueIn entryAt
 form-is = form-well object (site object order 0) (entryOf object order 0) refl
 
 pair-is : OnePair object order 0
-unfolding object order words bytes leAt le classOf sum relocationsIn locationOf countingRela isAllocated readSection sectionAt allocated siteAt readRelocation relocationAt decision table lookup among pairWell first addresses tabulate placedAt valueIn entryAt
+unfolding object order words bytes leAt le classOf sum relocationsIn locationOf countingRela isAllocated readSection sectionAt allocated siteAt readRelocation relocationAt decision hasRvc table lookup among pairWell first addresses tabulate placedAt valueIn entryAt
 pair-is = pair-well object (site object order 0) (entryOf object order 0) refl
 
 reach-is : Reaches object order 0
-unfolding object order words bytes leAt le classOf sum relocationsIn locationOf countingRela isAllocated readSection sectionAt allocated siteAt readRelocation relocationAt decision table lookup among first addresses tabulate placedAt valueIn entryAt
+unfolding object order words bytes leAt le classOf sum relocationsIn locationOf countingRela isAllocated readSection sectionAt allocated siteAt readRelocation relocationAt decision hasRvc table lookup among first addresses tabulate placedAt valueIn entryAt
 reach-is = reach-well object (site object order 0) (entryOf object order 0) _ refl
 
 boundary-is : OnBoundary object order 0
-unfolding object order words bytes leAt le classOf sum relocationsIn locationOf countingRela isAllocated readSection sectionAt allocated siteAt readRelocation relocationAt decision table lookup among first addresses tabulate placedAt valueIn entryAt
+unfolding object order words bytes leAt le classOf sum relocationsIn locationOf countingRela isAllocated readSection sectionAt allocated siteAt readRelocation relocationAt decision hasRvc table lookup among first addresses tabulate placedAt valueIn entryAt
 boundary-is = boundary-well object (site object order 0) (entryOf object order 0) refl
 
 -- the section's four bytes are all that is laid

@@ -11,7 +11,7 @@ use borrow.Author.Tests.{ltb-true, ltb-false, not-true, not-false}
 use Rattle.numbers_definitions.proofs.Laws.Tests.{never, clash}
 use Rattle.numbers_definitions.specs.First.{first}
 use Rattle.numbers_definitions.proofs.Laws.First.{first-below, first-at}
-use Rattle.elf_read.specs.Headers.{classOf, addressWidth, sectionCount}
+use Rattle.elf_read.specs.Headers.{classOf, hasRvc, addressWidth, sectionCount}
 use Rattle.elf_read.specs.Entries.{relocationCount}
 use Rattle.elf_header.specs.Headers.{headerAllowed, tableAllowed}
 use Rattle.elf_check.specs.declared.SectionCheck.{SectionCheck}
@@ -81,7 +81,7 @@ module _ (object order : List ℕ) where
 
   means : (k : ℕ) → Means k (findingOf object order (addressesFor object order) k)
   unfolding findingOf finding firstBroken
-  means k = go (shapeWell object x j) refl (symbolWell object x j v) refl (formWell object x j) refl (pairWell object x j) refl (distanceWell (classOf object) d t (P object x j)) refl (boundaryWell d (P object x j) (A object x j)) refl
+  means k = go (shapeWell object x j) refl (symbolWell object x j v) refl (formWell object x j) refl (pairWell object x j) refl (distanceWell (classOf object) (hasRvc object) d t (P object x j)) refl (boundaryWell d (P object x j) (A object x j)) refl
     where
       x : Site
       x = site object order k
@@ -99,7 +99,7 @@ module _ (object order : List ℕ) where
       t = targetAt object order (addressesFor object order) x j
 
       go : (a : Bool) → shapeWell object x j ≡ a → (b : Bool) → symbolWell object x j v ≡ b → (c : Bool) → formWell object x j ≡ c → (p : Bool) → pairWell object x j ≡ p
-          → (q : Bool) → distanceWell (classOf object) d t (P object x j) ≡ q → (r : Bool) → boundaryWell d (P object x j) (A object x j) ≡ r
+          → (q : Bool) → distanceWell (classOf object) (hasRvc object) d t (P object x j) ≡ q → (r : Bool) → boundaryWell d (P object x j) (A object x j) ≡ r
           → Means k (cond a (cond b (cond c (cond p (cond q (cond r Kept OffBoundary) OutOfReach) NoPair) BadForm) BadSymbol) BadShape)
       go false e₁ b e₂ c e₃ p e₄ q e₅ r e₆ = inl (refl, λ s. clash _ e₁ (well-shape object x j s))
       go true e₁ false e₂ c e₃ p e₄ q e₅ r e₆ = inr (shape-well object x j e₁, inl (refl, λ s. clash _ e₂ (well-symbol object x j v s)))

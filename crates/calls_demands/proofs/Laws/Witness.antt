@@ -24,7 +24,7 @@ use Rattle.instructions_fields.specs.Fields.{layout}
 use Rattle.instructions_riscv.specs.Halves.{high, low}
 use Rattle.instructions_riscv.specs.declared.forms.Form.the-variants.{LowI}
 use Rattle.instructions_riscv.specs.Forms.{hasForm}
-use Rattle.instructions_riscv.specs.Ranges.{reaches}
+use Rattle.instructions_riscv.specs.Ranges.{reaches, keepsAlignment}
 use Rattle.relocations_types.specs.declared.Operand.the-variants.{Paired}
 use Rattle.relocations_types.specs.declared.Part.the-variants.{Low}
 use Rattle.relocations_types.specs.declared.Calculation.the-variants.{Of}
@@ -32,7 +32,7 @@ use Rattle.relocations_types.specs.declared.Role.the-variants.{Plain}
 use Rattle.relocations_types.specs.declared.Rule.{Rule}
 use Rattle.relocations_types.specs.declared.Decision.the-variants.{Store}
 use Rattle.relocations_types.specs.Types.{table, among, lookup, decision}
-use Rattle.elf_read.specs.Headers.{classOf, addressWidth, sectionCount}
+use Rattle.elf_read.specs.Headers.{classOf, hasRvc, addressWidth, sectionCount}
 use Rattle.elf_read.specs.Sections.{readSection, sectionAt, allocated, loaded, symbolTable, countingRel, countingRela, relocationsIn, isAllocated}
 use Rattle.elf_read.specs.Entries.{readSymbol, readRelocation, bytesOf, symbolCount, symbolAt, relocationAt, relocationCount, locationOf}
 use Rattle.elf_header.specs.Headers.{headerAllowed, tableAllowed}
@@ -176,7 +176,7 @@ record Fine (code from : ℕ) : Type 0 where
   only-laid : (t b : ℕ) → Covers object (orderWith code) t b → (from ≤ b) × (b < from + 28)
 
 fine₁ : Fine 0x20000000 0
-unfolding object orderWith words bytes leAt le classOf wellFormed ascending everywhere first entryAt windowAllowed lengthAllowed readSection sectionAt allocated placedAt valueIn externalValue symbolTable symbolCount readSymbol symbolAt isAllocated misplaced aligned unit endsInMemory endOf inWindow hasBytes loaded share apart addresses tabulate sum relocationsIn locationOf countingRela siteAt readRelocation relocationAt bytesOf part decision table lookup among neverFalls staysInside previous sharesPlace noOverlap shapeWell ofSection symbolValue inTarget symbolWell hasForm standsWell formWell isPair howMany pairOf pairWell reaches within even residue signed plus minus finding firstBroken findingOf relocationCheck
+unfolding object orderWith words bytes leAt le classOf wellFormed ascending everywhere first entryAt windowAllowed lengthAllowed readSection sectionAt allocated placedAt valueIn externalValue symbolTable symbolCount readSymbol symbolAt isAllocated misplaced aligned unit endsInMemory endOf inWindow hasBytes loaded share apart addresses tabulate sum relocationsIn locationOf countingRela siteAt readRelocation relocationAt bytesOf part decision hasRvc table lookup among neverFalls staysInside previous sharesPlace noOverlap shapeWell ofSection symbolValue inTarget symbolWell hasForm standsWell formWell isPair howMany pairOf pairWell reaches keepsAlignment within even residue signed plus minus finding firstBroken findingOf relocationCheck
 fine₁ = record { order-is = refl; window-is = refl; placed-are = refl; relocations-are = refl; only-laid = laid }
   where
     laid : (t b : ℕ) → Covers object order₁ t b → (0 ≤ b) × (b < 28)
@@ -189,7 +189,7 @@ fine₁ = record { order-is = refl; window-is = refl; placed-are = refl; relocat
     laid (suc (suc (suc (suc (suc (suc t)))))) b c = absurd (omega (arith, c .there, count-is))
 
 fine₂ : Fine 0x20000020 24
-unfolding object orderWith words bytes leAt le classOf wellFormed ascending everywhere first entryAt windowAllowed lengthAllowed readSection sectionAt allocated placedAt valueIn externalValue symbolTable symbolCount readSymbol symbolAt isAllocated misplaced aligned unit endsInMemory endOf inWindow hasBytes loaded share apart addresses tabulate sum relocationsIn locationOf countingRela siteAt readRelocation relocationAt bytesOf part decision table lookup among neverFalls staysInside previous sharesPlace noOverlap shapeWell ofSection symbolValue inTarget symbolWell hasForm standsWell formWell isPair howMany pairOf pairWell reaches within even residue signed plus minus finding firstBroken findingOf relocationCheck
+unfolding object orderWith words bytes leAt le classOf wellFormed ascending everywhere first entryAt windowAllowed lengthAllowed readSection sectionAt allocated placedAt valueIn externalValue symbolTable symbolCount readSymbol symbolAt isAllocated misplaced aligned unit endsInMemory endOf inWindow hasBytes loaded share apart addresses tabulate sum relocationsIn locationOf countingRela siteAt readRelocation relocationAt bytesOf part decision hasRvc table lookup among neverFalls staysInside previous sharesPlace noOverlap shapeWell ofSection symbolValue inTarget symbolWell hasForm standsWell formWell isPair howMany pairOf pairWell reaches keepsAlignment within even residue signed plus minus finding firstBroken findingOf relocationCheck
 fine₂ = record { order-is = refl; window-is = refl; placed-are = refl; relocations-are = refl; only-laid = laid }
   where
     laid : (t b : ℕ) → Covers object order₂ t b → (24 ≤ b) × (b < 24 + 28)
@@ -288,11 +288,11 @@ left₂ = done-leaves object order₂ files (demand-2 .holds-done object order�
 
 -- each takes 28 bytes of the journal
 takes₁ : spanOf (planOf object order₁) .size ≡ 28
-unfolding object orderWith words bytes le leAt classOf part readSection sectionAt allocated loaded hasBytes addresses tabulate placedAt valueIn externalValue entryAt first sum pieces planOf spanOf end lowest relocated relaOf countingRela siteAt after applied sumAt distanceAt isPair howMany pairOf symbolTable symbolCount readSymbol symbolAt isAllocated ofSection readRelocation relocationAt decision table lookup among bytesOf patched symbolValue residue signed plus minus high low read put
+unfolding object orderWith words bytes le leAt classOf part readSection sectionAt allocated loaded hasBytes addresses tabulate placedAt valueIn externalValue entryAt first sum pieces planOf spanOf end lowest relocated relaOf countingRela siteAt after applied sumAt distanceAt isPair howMany pairOf symbolTable symbolCount readSymbol symbolAt isAllocated ofSection readRelocation relocationAt decision hasRvc table lookup among bytesOf patched symbolValue residue signed plus minus high low read put
 takes₁ = refl
 
 takes₂ : spanOf (planOf object order₂) .size ≡ 28
-unfolding object orderWith words bytes le leAt classOf part readSection sectionAt allocated loaded hasBytes addresses tabulate placedAt valueIn externalValue entryAt first sum pieces planOf spanOf end lowest relocated relaOf countingRela siteAt after applied sumAt distanceAt isPair howMany pairOf symbolTable symbolCount readSymbol symbolAt isAllocated ofSection readRelocation relocationAt decision table lookup among bytesOf patched symbolValue residue signed plus minus high low read put
+unfolding object orderWith words bytes le leAt classOf part readSection sectionAt allocated loaded hasBytes addresses tabulate placedAt valueIn externalValue entryAt first sum pieces planOf spanOf end lowest relocated relaOf countingRela siteAt after applied sumAt distanceAt isPair howMany pairOf symbolTable symbolCount readSymbol symbolAt isAllocated ofSection readRelocation relocationAt decision hasRvc table lookup among bytesOf patched symbolValue residue signed plus minus high low read put
 takes₂ = refl
 
 stood₁ : stand (begin files) object order₁ (judgement object order₁ (length (files .image))) ≡ succeed (only (stands₁ ∷ []))
@@ -329,11 +329,11 @@ image₂ =
     ++ words (0x12346517 ∷ 0xFD850513 ∷ 0x00002097 ∷ 0x7E0080E7 ∷ 0xFE0508E3 ∷ [])
 
 lays₁ : overwritten (files .image) (planOf object order₁) ≡ image₁
-unfolding files image₁ object orderWith words bytes le leAt classOf part readSection sectionAt allocated loaded hasBytes addresses tabulate placedAt valueIn externalValue entryAt first sum pieces planOf overwritten relocated relaOf countingRela siteAt after applied sumAt distanceAt isPair howMany pairOf symbolTable symbolCount readSymbol symbolAt isAllocated ofSection readRelocation relocationAt decision table lookup among bytesOf patched symbolValue residue signed plus minus high low read put
+unfolding files image₁ object orderWith words bytes le leAt classOf part readSection sectionAt allocated loaded hasBytes addresses tabulate placedAt valueIn externalValue entryAt first sum pieces planOf overwritten relocated relaOf countingRela siteAt after applied sumAt distanceAt isPair howMany pairOf symbolTable symbolCount readSymbol symbolAt isAllocated ofSection readRelocation relocationAt decision hasRvc table lookup among bytesOf patched symbolValue residue signed plus minus high low read put
 lays₁ = refl
 
 lays₂ : overwritten image₁ (planOf object order₂) ≡ image₂
-unfolding image₁ image₂ object orderWith words bytes le leAt classOf part readSection sectionAt allocated loaded hasBytes addresses tabulate placedAt valueIn externalValue entryAt first sum pieces planOf overwritten relocated relaOf countingRela siteAt after applied sumAt distanceAt isPair howMany pairOf symbolTable symbolCount readSymbol symbolAt isAllocated ofSection readRelocation relocationAt decision table lookup among bytesOf patched symbolValue residue signed plus minus high low read put
+unfolding image₁ image₂ object orderWith words bytes le leAt classOf part readSection sectionAt allocated loaded hasBytes addresses tabulate placedAt valueIn externalValue entryAt first sum pieces planOf overwritten relocated relaOf countingRela siteAt after applied sumAt distanceAt isPair howMany pairOf symbolTable symbolCount readSymbol symbolAt isAllocated ofSection readRelocation relocationAt decision hasRvc table lookup among bytesOf patched symbolValue residue signed plus minus high low read put
 lays₂ = refl
 
 -- ---- what is read by the manual's fields out of the code and the data of an install
@@ -367,7 +367,7 @@ low-half = record { calculation = Of Low Paired; field = I; form = LowI; size = 
 
 -- demand 2 says so of each of the two, over any image
 says₁ : (before after : List ℕ) → Laid object order₁ before after → Says (part after 0 20) (part after 24 4) 0x12345FF8 0x2800 0x118
-unfolding object orderWith words bytes le leAt classOf sum relocationsIn countingRela readSection sectionAt allocated isAllocated siteAt readRelocation relocationAt symbolTable symbolCount readSymbol symbolAt ofSection decision table lookup among addresses tabulate placedAt valueIn externalValue entryAt first symbolValue bytesOf part residue signed plus minus isPair howMany pairOf distanceAt sumAt stackAt ReadsBack high low read
+unfolding object orderWith words bytes le leAt classOf sum relocationsIn countingRela readSection sectionAt allocated isAllocated siteAt readRelocation relocationAt symbolTable symbolCount readSymbol symbolAt ofSection decision hasRvc table lookup among addresses tabulate placedAt valueIn externalValue entryAt first symbolValue bytesOf part residue signed plus minus isPair howMany pairOf distanceAt sumAt stackAt ReadsBack high low read
 says₁ before after l =
     record {
       pair = halves-add object order₁ before after l 4 1 0 (record { there = omega arith; counts = refl; entry = omega arith }) low-half refl refl refl;
@@ -377,7 +377,7 @@ says₁ before after l =
     }
 
 says₂ : (before after : List ℕ) → Laid object order₂ before after → Says (part after 32 20) (part after 24 4) 0x12345FD8 0x27E0 0xF8
-unfolding object orderWith words bytes le leAt classOf sum relocationsIn countingRela readSection sectionAt allocated isAllocated siteAt readRelocation relocationAt symbolTable symbolCount readSymbol symbolAt ofSection decision table lookup among addresses tabulate placedAt valueIn externalValue entryAt first symbolValue bytesOf part residue signed plus minus isPair howMany pairOf distanceAt sumAt stackAt ReadsBack high low read
+unfolding object orderWith words bytes le leAt classOf sum relocationsIn countingRela readSection sectionAt allocated isAllocated siteAt readRelocation relocationAt symbolTable symbolCount readSymbol symbolAt ofSection decision hasRvc table lookup among addresses tabulate placedAt valueIn externalValue entryAt first symbolValue bytesOf part residue signed plus minus isPair howMany pairOf distanceAt sumAt stackAt ReadsBack high low read
 says₂ before after l =
     record {
       pair = halves-add object order₂ before after l 4 1 0 (record { there = omega arith; counts = refl; entry = omega arith }) low-half refl refl refl;

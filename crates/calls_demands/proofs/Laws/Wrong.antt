@@ -15,7 +15,7 @@ use Rattle.instructions_fields.specs.declared.Field.the-variants.{Data}
 use Rattle.instructions_fields.specs.Layouts.{read, put}
 use Rattle.instructions_fields.specs.Fields.{layout}
 use Rattle.elf_read.proofs.Laws.Headers.{header-there}
-use Rattle.elf_read.specs.Headers.{classOf, addressWidth, sectionCount}
+use Rattle.elf_read.specs.Headers.{classOf, hasRvc, addressWidth, sectionCount}
 use Rattle.elf_read.specs.Sections.{readSection, sectionAt, allocated, loaded, isAllocated, countingRela, relocationsIn}
 use Rattle.elf_read.specs.Entries.{readRelocation, bytesOf, relocationAt}
 use Rattle.order_format.specs.Orders.{entryAt, ascending, wellFormed}
@@ -65,7 +65,7 @@ module _ (installs : InstallCall) (d : Demand2 installs) where
 
   -- the relocation, read out of the image that is left: its field is T
   read-out : (image : List ℕ) → installs object order files .after .image ≡ image → read (layout (Data W32)) (leAt 4 (sectionIn object order image 1) 0) ≡ 0x12345678
-  unfolding object order words bytes le leAt classOf sum relocationsIn countingRela isAllocated readSection sectionAt allocated siteAt readRelocation relocationAt decision table lookup among addresses tabulate placedAt valueIn entryAt first symbolValue residue signed ReadsBack
+  unfolding object order words bytes le leAt classOf sum relocationsIn countingRela isAllocated readSection sectionAt allocated siteAt readRelocation relocationAt decision hasRvc table lookup among addresses tabulate placedAt valueIn entryAt first symbolValue residue signed ReadsBack
   read-out image e =
       let back = d .laid object order files is-done .fields 3 0 (record { there = omega arith; counts = refl; entry = omega arith }) in
       ap (λ s. read (layout (Data W32)) (leAt 4 (sectionIn object order s 1) 0)) (sym e) ∙ back .0
@@ -126,7 +126,7 @@ gives-no-place installs d wrong = omega (arith, ap (λ a. a .place) (names-the-s
 -- one that lays whatever the answer is: demand 1, "image and ledger then hold exactly the bytes they held"
 pub lays-anyway : (installs : InstallCall) (rollsBack : RollbackCall) → Demand1 installs rollsBack → Demand2 installs
     → ((o r : List ℕ) (f : Files) → installs o r f .after .image ≡ overwritten (f .image) (planOf o r)) → ⊥
-unfolding object bare files words bytes le leAt classOf part readSection sectionAt allocated loaded hasBytes addresses tabulate placedAt valueIn entryAt first read put overwritten pieces planOf relocated relaOf countingRela isAllocated siteAt after applied sumAt readRelocation relocationAt decision table lookup among bytesOf patched symbolValue residue signed
+unfolding object bare files words bytes le leAt classOf part readSection sectionAt allocated loaded hasBytes addresses tabulate placedAt valueIn entryAt first read put overwritten pieces planOf relocated relaOf countingRela isAllocated siteAt after applied sumAt readRelocation relocationAt decision hasRvc table lookup among bytesOf patched symbolValue residue signed
 lays-anyway installs rollsBack d₁ d₂ wrong =
     let refused : installs object bare files .answer ≡ done → ⊥ = λ e. omega (arith, ap (λ a. a .number) (sym (names-the-section installs d₂) ∙ e)) in
     let same : overwritten (files .image) (planOf object bare) ≡ files .image = sym (wrong object bare files) ∙ ap (λ f. f .image) (d₁ .install-kept object bare files refused) in
@@ -154,7 +154,7 @@ stood =
 
 -- each of the four laid bytes differs from that of the starting image
 differs : (b : ℕ) → b < 4 → getD (files .image) b 0 ≡ getD (overwritten (files .image) (planOf object order)) b 0 → ⊥
-unfolding object order files words bytes le leAt classOf part readSection sectionAt allocated loaded hasBytes addresses tabulate placedAt valueIn entryAt first read put overwritten pieces planOf relocated relaOf countingRela isAllocated siteAt after applied sumAt readRelocation relocationAt decision table lookup among bytesOf patched symbolValue residue signed
+unfolding object order files words bytes le leAt classOf part readSection sectionAt allocated loaded hasBytes addresses tabulate placedAt valueIn entryAt first read put overwritten pieces planOf relocated relaOf countingRela isAllocated siteAt after applied sumAt readRelocation relocationAt decision hasRvc table lookup among bytesOf patched symbolValue residue signed
 differs zero h e = let z : _≡_ {A = ℕ} 0xA5 0x78 = e in omega arith
 differs (suc zero) h e = let z : _≡_ {A = ℕ} 0xA5 0x56 = e in omega arith
 differs (suc (suc zero)) h e = let z : _≡_ {A = ℕ} 0xA5 0x34 = e in omega arith

@@ -1,13 +1,14 @@
 -- Laws of the ranges of distances.
 use mathlib.Core.Path.{_≡_, refl, sym, ap, _∙_}
 use Prim.Native.Nat.{ℕ, zero, suc, _-_, _+_, _*_, _%_, _^_, _≤_, _<_}
-use mathlib.Core.Bool.{Bool, true, false, cond, _&&_}
+use mathlib.Core.Bool.{Bool, true, false, cond, _&&_, _||_}
 use lib.Dec.{ltb, leb, eqb}
-use borrow.Author.Tests.{ltb-true, ltb-false, lt-ltb, le-ltb}
+use borrow.Author.Tests.{ltb-true, ltb-false, lt-ltb, le-ltb, eqb-true, eqb-false, eq-eqb, ne-eqb}
 use native.Mathlib.Decide.{decLt}
-use native.Mathlib.Nat.{mod-eq-of-lt, mod-self, add-comm}
+use native.Mathlib.Nat.{mod-eq-of-lt, mod-self, add-comm, mul-mod-left}
 use native.Mathlib.Omega.{arith}
-use lib.IntN.{ℤ, pos, negsuc, negℤ, _+ℤ_, _-ℤ_}
+use lib.Pow.{pow-add}
+use lib.IntN.{ℤ, pos, negsuc, negℤ, _+ℤ_, _-ℤ_, natAbs}
 use Rattle.numbers_definitions.specs.declared.Class.the-variants.{Elf64}
 use Rattle.numbers_definitions.specs.Whole.{residue, signed, within, even, plus, minus}
 use Rattle.numbers_definitions.proofs.Laws.Tests.{and-left, and-right, same-test}
@@ -17,7 +18,7 @@ use Rattle.instructions_fields.specs.declared.Field.the-variants.{B, J, Cb, Cj}
 use Rattle.instructions_fields.specs.Layouts.{read, put}
 use Rattle.instructions_fields.specs.Fields.{layout, valueBits, unit}
 use Rattle.instructions_riscv.specs.declared.ranges.Range.{Range}
-use Rattle.instructions_riscv.specs.Ranges.{distance, branch, jal, rvcBranch, rvcJump, reaches, halvesReach}
+use Rattle.instructions_riscv.specs.Ranges.{distance, branch, jal, rvcBranch, rvcJump, reaches, keepsAlignment, halvesReach}
 use Rattle.instructions_fields.proofs.Laws.Fields.{reads-back-signed}
 use Rattle.instructions_riscv.proofs.Laws.Halves.{at-least}
 
@@ -114,6 +115,27 @@ distance-leads w t p h =
     ∙ ap (λ n. n % 2 ^ w) (add-comm (residue w (pos p)) d)
     ∙ residue-sub w (pos t) (pos p)
     ∙ mod-eq-of-lt h
+
+-- ---- a distance and its residue keep the alignment alike
+
+four-divides : (w : ℕ) → 2 ≤ w → 2 ^ w % 4 ≡ 0
+four-divides w h = at-least (λ w. 2 ^ w % 4 ≡ 0) 2 w h (λ k. rw (pow-add 2 k 2) (mul-mod-left (2 ^ k) 4))
+
+-- where m is a multiple of 4, m - d is one exactly if d is
+left-fours : (m d : ℕ) → m % 4 ≡ 0 → d < m → eqb (suc (m - suc d) % 4) 0 ≡ eqb (d % 4) 0
+left-fours m d fours h = go (eqb (d % 4) 0) refl
+  where
+    go : (b : Bool) → eqb (d % 4) 0 ≡ b → eqb (suc (m - suc d) % 4) 0 ≡ b
+    go true e = let is : d % 4 ≡ 0 = eqb-true _ _ e in eq-eqb (suc (m - suc d) % 4) 0 (omega arith)
+    go false e = let is : d % 4 ≡ 0 → ⊥ = eqb-false _ _ e in ne-eqb (suc (m - suc d) % 4) 0 (λ n. is (omega arith))
+
+pub aligned-signed : (rvc : Bool) (w d : ℕ) → 2 ≤ w → d < 2 ^ w → keepsAlignment rvc (signed w d) ≡ keepsAlignment rvc (pos d)
+unfolding keepsAlignment signed
+aligned-signed rvc w d wide h = ap (λ b. rvc || b) (go (ltb (2 * d) (2 ^ w)))
+  where
+    go : (b : Bool) → eqb (natAbs (cond b (pos d) (pos d -ℤ pos (2 ^ w))) % 4) 0 ≡ eqb (d % 4) 0
+    go true = refl
+    go false = ap (λ z. eqb (natAbs z % 4) 0) (sub-back d (2 ^ w) h) ∙ left-fours (2 ^ w) d (four-divides w wide) h
 
 -- ---- the range of two halves, as one comparison
 

@@ -59,7 +59,7 @@ storable-shape object x j size n sound h kept e room =
     }
   where
     go : (d : Decision) → decisionAt object x j ≡ d → 0 < touched (decisionAt object x j) → isWidth (touched (decisionAt object x j)) ≡ true
-    go (Store r) q some = ap (λ d. isWidth (touched d)) q ∙ store-width _ _ r q
+    go (Store r) q some = ap (λ d. isWidth (touched d)) q ∙ store-width _ _ _ r q
     go Marker q some = let none : touched (decisionAt object x j) ≡ 0 = ap touched q in absurd (omega arith)
     go Align q some = let none : touched (decisionAt object x j) ≡ 0 = ap touched q in absurd (omega arith)
     go Refused q some = let none : touched (decisionAt object x j) ≡ 0 = ap touched q in absurd (omega arith)

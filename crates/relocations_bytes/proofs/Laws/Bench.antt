@@ -1,5 +1,5 @@
--- Document 01's bench numbers marked K, those of class 2 and those of jumps across the top of memory, as one list with one claim. Each number is what the definitions give of a whole
--- object with one relocation: the bytes of its section afterwards, or the number of the first rule that the relocation breaks.
+-- Document 01's bench numbers marked K, those of class 2, of jumps across the top of memory and of objects without short instructions, as one
+-- list with one claim. Each number is what the definitions give of a whole object with one relocation: the bytes of its section afterwards, or the number of the first rule that the relocation breaks.
 use mathlib.Core.Path.{_≡_, refl}
 use mathlib.Core.List.{List, [], _∷_, _++_, map}
 use Prim.Native.Nat.{ℕ}
@@ -12,9 +12,9 @@ use Rattle.numbers_definitions.specs.Whole.{residue, signed, within, even, minu
 use Rattle.instructions_fields.specs.Layouts.{read, put}
 use Rattle.instructions_riscv.specs.Halves.{high, low}
 use Rattle.instructions_riscv.specs.Forms.{hasForm}
-use Rattle.instructions_riscv.specs.Ranges.{reaches}
+use Rattle.instructions_riscv.specs.Ranges.{reaches, keepsAlignment}
 use Rattle.relocations_types.specs.Types.{table, among, lookup, decision}
-use Rattle.elf_read.specs.Headers.{classOf}
+use Rattle.elf_read.specs.Headers.{classOf, hasRvc}
 use Rattle.elf_read.specs.Sections.{readSection, sectionAt, allocated, countingRela, relocationsIn, isAllocated}
 use Rattle.elf_read.specs.Entries.{bytesOf, readSymbol, readRelocation, relocationAt, locationOf}
 use Rattle.relocations_rela.specs.Sites.{siteAt}
@@ -40,11 +40,11 @@ unfoldable pub words : List ℕ → List ℕ
 words [] = []
 words (w ∷ ws) = bytes 4 w ++ words ws
 
--- section 1 is the eight bytes w; its relocation is at offset 0, of a type, with symbol 0, so that S is 0, and with an addend
-unfoldable pub object : ℕ → ℕ → ℕ → List ℕ
-object type w addend =
+-- e_flags is flags; section 1 is the eight bytes w; its relocation is at offset 0, of a type, with symbol 0, so that S is 0, and with an addend
+unfoldable pub objectOf : ℕ → ℕ → ℕ → ℕ → List ℕ
+objectOf flags type w addend =
     -- the header
-    words (0x464C457F ∷ 0x00010101 ∷ 0 ∷ 0 ∷ 0x00F30001 ∷ 1 ∷ 0 ∷ 0 ∷ 72 ∷ 0 ∷ 52 ∷ 0x00280000 ∷ 3 ∷ [])
+    words (0x464C457F ∷ 0x00010101 ∷ 0 ∷ 0 ∷ 0x00F30001 ∷ 1 ∷ 0 ∷ 0 ∷ 72 ∷ flags ∷ 52 ∷ 0x00280000 ∷ 3 ∷ [])
     -- the section, the relocation
     ++ bytes 8 w
     ++ words (0 ∷ type ∷ addend ∷ [])
@@ -53,13 +53,17 @@ object type w addend =
     ++ words (0 ∷ 1 ∷ 2 ∷ 0 ∷ 52 ∷ 8 ∷ 0 ∷ 0 ∷ 1 ∷ 0 ∷ [])
     ++ words (0 ∷ 4 ∷ 0 ∷ 0 ∷ 60 ∷ 12 ∷ 0 ∷ 1 ∷ 4 ∷ 12 ∷ [])
 
--- the bytes w after a relocation of a type with S + A at P, as one number
+-- the bytes w after a relocation of a type with S + A at P, as one number; bit 0 of e_flags is set
 abbrev laid : ℕ → ℕ → ℕ → ℕ → ℤ
-laid type w a p = pos (leAt 8 (relocated (object type w a) [] (0 ∷ p ∷ []) 1) 0)
+laid type w a p = pos (leAt 8 (relocated (objectOf 1 type w a) [] (0 ∷ p ∷ []) 1) 0)
 
 -- the number of the first rule that it breaks, or 0 if it breaks none
 abbrev gives : ℕ → ℕ → ℕ → ℕ → ℤ
-gives type w a p = pos (number (findingOf (object type w a) [] (0 ∷ p ∷ []) 0))
+gives type w a p = pos (number (findingOf (objectOf 1 type w a) [] (0 ∷ p ∷ []) 0))
+
+-- the same where the bit is clear, and all others are set
+abbrev without : ℕ → ℕ → ℕ → ℕ → ℤ
+without type w a p = pos (number (findingOf (objectOf 0xFFFFFFFE type w a) [] (0 ∷ p ∷ []) 0))
 
 -- ---- the same in class 2
 
@@ -67,12 +71,12 @@ unfoldable pub doubles : List ℕ → List ℕ
 doubles [] = []
 doubles (d ∷ ds) = bytes 8 d ++ doubles ds
 
-unfoldable pub object64 : ℕ → ℕ → ℕ → List ℕ
-object64 type w addend =
+unfoldable pub objectOf64 : ℕ → ℕ → ℕ → ℕ → List ℕ
+objectOf64 flags type w addend =
     -- the header
     words (0x464C457F ∷ 0x00010102 ∷ 0 ∷ 0 ∷ 0x00F30001 ∷ 1 ∷ [])
     ++ doubles (0 ∷ 0 ∷ 96 ∷ [])
-    ++ words (0 ∷ 64 ∷ 0x00400000 ∷ 3 ∷ [])
+    ++ words (flags ∷ 64 ∷ 0x00400000 ∷ 3 ∷ [])
     -- the section, the relocation
     ++ doubles (w ∷ 0 ∷ type ∷ addend ∷ [])
     -- the section header table: NULL, PROGBITS, RELA
@@ -81,10 +85,13 @@ object64 type w addend =
     ++ (words (0 ∷ 4 ∷ []) ++ doubles (0 ∷ 0 ∷ 72 ∷ 24 ∷ []) ++ words (0 ∷ 1 ∷ []) ++ doubles (8 ∷ 24 ∷ []))
 
 abbrev laid64 : ℕ → ℕ → ℕ → ℕ → ℤ
-laid64 type w a p = pos (leAt 8 (relocated (object64 type w a) [] (0 ∷ p ∷ []) 1) 0)
+laid64 type w a p = pos (leAt 8 (relocated (objectOf64 1 type w a) [] (0 ∷ p ∷ []) 1) 0)
 
 abbrev gives64 : ℕ → ℕ → ℕ → ℕ → ℤ
-gives64 type w a p = pos (number (findingOf (object64 type w a) [] (0 ∷ p ∷ []) 0))
+gives64 type w a p = pos (number (findingOf (objectOf64 1 type w a) [] (0 ∷ p ∷ []) 0))
+
+abbrev without64 : ℕ → ℕ → ℕ → ℕ → ℤ
+without64 type w a p = pos (number (findingOf (objectOf64 0xFFFFFFFE type w a) [] (0 ∷ p ∷ []) 0))
 
 unfoldable pub numbers : List Number
 numbers =
@@ -99,13 +106,15 @@ numbers =
     -- "CALL at 0x1000 to 0x2800: 00000097 000080E7 becomes 00002097 800080E7."
     ∷ (laid 18 0x000080E700000097 0x2800 0x1000 is pos 0x800080E700002097)
     ∷ (laid 19 0x000080E700000097 0x2800 0x1000 is pos 0x800080E700002097)
-    -- "JAL 000000EF, distance 8: 008000EF. Distance 1,048,574 done, 1,048,576 gives 13."
+    -- "JAL 000000EF, distance 8: 008000EF. Distance 1,048,574 done, 1,048,576 gives 13."; document 02: with bit 0 of e_flags set
     ∷ (laid 17 0x000000EF 0x1008 0x1000 is pos 0x008000EF)
     ∷ (gives 17 0x000000EF 0x200FFE 0x101000 is pos 0)
+    ∷ (without 17 0x000000EF 0x200FFE 0x101000 is pos 13)
     ∷ (gives 17 0x000000EF 0x201000 0x101000 is pos 13)
-    -- "BRANCH 00000063, -4: FE000EE3. 4,094 done, 4,096 gives 13."
+    -- "BRANCH 00000063, -4: FE000EE3. 4,094 done, 4,096 gives 13."; document 02: with bit 0 of e_flags set
     ∷ (laid 16 0x00000063 0xFFC 0x1000 is pos 0xFE000EE3)
     ∷ (gives 16 0x00000063 0x1FFE 0x1000 is pos 0)
+    ∷ (without 16 0x00000063 0x1FFE 0x1000 is pos 13)
     ∷ (gives 16 0x00000063 0x2000 0x1000 is pos 13)
     -- "RVC_JUMP A001, -2: BFFD. RVC_BRANCH C101, 8: C501."
     ∷ (laid 45 0xA001 0xFFE 0x1000 is pos 0xBFFD)
@@ -169,8 +178,37 @@ numbers =
     ∷ (gives64 17 0x000000EF 0xFFFFFFFFFFF00010 0x10 is pos 0)
     ∷ (gives64 17 0x000000EF 0xFFFFFFFFFFF0000E 0x10 is pos 13)
     ∷ (gives64 17 0x000000EF 0x8000000000000000 0 is pos 13)
+    -- "If e_flags bit 0 is clear, types 44 and 45 are refused with 9", whatever else they break: here the form and the distance
+    ∷ (without 44 0xC101 0x1008 0x1000 is pos 9)
+    ∷ (without 45 0xA001 0xFFE 0x1000 is pos 9)
+    ∷ (without 45 0 0x101001 0x1000 is pos 9)
+    ∷ (without64 44 0xC101 0x1008 0x1000 is pos 9)
+    ∷ (without64 45 0xA001 0xFFE 0x1000 is pos 9)
+    -- "a distance for 16 to 19 that isn't a multiple of 4 with 13": 4 is done and 2 is not, ahead, back, and across the top
+    ∷ (without 16 0x00000063 0x1004 0x1000 is pos 0)
+    ∷ (without 16 0x00000063 0x1002 0x1000 is pos 13)
+    ∷ (without 17 0x000000EF 0xFFC 0x1000 is pos 0)
+    ∷ (without 17 0x000000EF 0xFFE 0x1000 is pos 13)
+    ∷ (without 17 0x000000EF 0x10 0xFFFFFFF0 is pos 0)
+    ∷ (without 17 0x000000EF 0x10 0xFFFFFFF2 is pos 13)
+    ∷ (without 18 0x000080E700000097 0x2800 0x1000 is pos 0)
+    ∷ (without 18 0x000080E700000097 0x2802 0x1000 is pos 13)
+    ∷ (without 19 0x000080E700000097 0xFFE 0x1000 is pos 13)
+    ∷ (without64 16 0x00000063 0x1FFE 0x1000 is pos 13)
+    ∷ (without64 17 0x000000EF 0x200FFE 0x101000 is pos 13)
+    ∷ (without64 17 0x000000EF 0x10 0xFFFFFFFFFFFFFFF0 is pos 0)
+    ∷ (without64 17 0x000000EF 0x10 0xFFFFFFFFFFFFFFF2 is pos 13)
+    ∷ (without64 18 0x000080E700000097 0x407FFFF7FC 0x4000000000 is pos 0)
+    ∷ (without64 18 0x000080E700000097 0x407FFFF7FE 0x4000000000 is pos 13)
+    ∷ (without64 19 0x000080E700000097 0x407FFFF7FE 0x4000000000 is pos 13)
+    -- the distance counts and not the place: an instruction may stand at 2 modulo 4
+    ∷ (without 17 0x000000EF 0x100A 0x1002 is pos 0)
+    -- nothing else is refused
+    ∷ (without 23 0x00000097 0x1002 0x1000 is pos 0)
+    ∷ (without 26 0x00000537 0x1002 0 is pos 0)
+    ∷ (without64 23 0x00000097 0x1002 0x1000 is pos 0)
     ∷ []
 
 pub right : map (λ n. n .given) numbers ≡ map (λ n. n .said) numbers
-unfolding numbers object object64 words doubles bytes le leAt part first sum ceilPower ceilLog residue signed within even minus read put high low hasForm reaches decision table lookup among classOf readSection sectionAt allocated isAllocated countingRela relocationsIn bytesOf readSymbol readRelocation relocationAt locationOf siteAt neverFalls staysInside previous noOverlap shapeWell symbolValue symbolWell standsWell formWell pairWell finding firstBroken findingOf patched sumAt applied after relaOf relocated
+unfolding numbers objectOf objectOf64 words doubles bytes le leAt part first sum ceilPower ceilLog residue signed within even minus read put high low hasForm reaches keepsAlignment decision table lookup among classOf hasRvc readSection sectionAt allocated isAllocated countingRela relocationsIn bytesOf readSymbol readRelocation relocationAt locationOf siteAt neverFalls staysInside previous noOverlap shapeWell symbolValue symbolWell standsWell formWell pairWell finding firstBroken findingOf patched sumAt applied after relaOf relocated
 right = refl

@@ -68,7 +68,7 @@ module _ (object order addresses : List ℕ) (x : Site) (final : List ℕ) (back
   -- a pair is a PCREL_HI20
   hi20 : (j : ℕ) (value : SectionOffset) → isPair object x value j ≡ true → decisionAt object x j ≡ pairing
   unfolding isPair
-  hi20 j value e = pair-is _ (entry object x j .kind) (and-left (givesPair (decisionAt object x j)) (eqb (offset object x j) (value .0)) e)
+  hi20 j value e = pair-is _ _ (entry object x j .kind) (and-left (givesPair (decisionAt object x j)) (eqb (offset object x j) (value .0)) e)
 
   -- a PCREL_LO12 has one
   has-pair : Checked object order addresses x → (j : ℕ) → j < count object x → needsPair (decisionAt object x j) ≡ true → (i : ℕ) × (pairOf object x (symbol object x j .value) ≡ At i)

@@ -1,6 +1,6 @@
 -- The bytes of a relocation are determined by what is read out of them.
 use mathlib.Core.Path.{_≡_, sym, ap, ap₂, _∙_}
-use mathlib.Core.Bool.{true, _&&_}
+use mathlib.Core.Bool.{Bool, true, _&&_}
 use Prim.Native.Nat.{ℕ, _+_, _/_, _%_, _^_, _≤_, _<_}
 use native.Mathlib.Omega.{arith}
 use lib.Dec.{eqb}
@@ -84,10 +84,10 @@ read-known w h Sub f b v t p d z e x y = x ∙ sym y
 read-known w h Set f b v t p d z e x y = x ∙ sym y
 
 -- and so the bytes are determined too
-pub bytes-known : (w : ℕ) → 32 ≤ w → (k : Class) (kind : ℕ) (r : Rule) → decision k kind ≡ Store r → (b v : ℕ) → b < 256 ^ r .size → v < 256 ^ r .size
+pub bytes-known : (w : ℕ) → 32 ≤ w → (k : Class) (rvc : Bool) (kind : ℕ) (r : Rule) → decision k rvc kind ≡ Store r → (b v : ℕ) → b < 256 ^ r .size → v < 256 ^ r .size
     → (t p d : ℕ) (z : ℤ) → Said w (r .calculation) (r .field) b t p d z → Said w (r .calculation) (r .field) v t p d z
     → outside (layout (r .field)) b ≡ outside (layout (r .field)) v → b ≡ v
-bytes-known w h k kind r e b v hb hv t p d z x y o =
+bytes-known w h k rvc kind r e b v hb hv t p d z x y o =
     let f : Field = r .field in
-    let size : 256 ^ r .size ≡ 2 ^ total (layout f) = ap (λ k. 256 ^ k) (store-bytes k kind r e) ∙ sym (radix f) in
-    determined f b v (rw size at hb) (rw size at hv) o (read-known w h (r .calculation) f b v t p d z (store-suits k kind r e) x y)
+    let size : 256 ^ r .size ≡ 2 ^ total (layout f) = ap (λ k. 256 ^ k) (store-bytes k rvc kind r e) ∙ sym (radix f) in
+    determined f b v (rw size at hb) (rw size at hv) o (read-known w h (r .calculation) f b v t p d z (store-suits k rvc kind r e) x y)

@@ -69,18 +69,18 @@ stack-width c f h = go (stacks c) h
     go false l = absurd (omega arith)
 
 -- what two relocations that share their place have in common
-pub same-stack : (k : Class) (s t : ℕ) (a b : Rule) → decision k s ≡ Store a → decision k t ≡ Store b → 0 < stackWidth (decision k s) → stackWidth (decision k s) ≡ stackWidth (decision k t)
+pub same-stack : (k : Class) (rvc : Bool) (s t : ℕ) (a b : Rule) → decision k rvc s ≡ Store a → decision k rvc t ≡ Store b → 0 < stackWidth (decision k rvc s) → stackWidth (decision k rvc s) ≡ stackWidth (decision k rvc t)
     → (stacks (a .calculation) ≡ true) × (stacks (b .calculation) ≡ true) × (a .field ≡ b .field) × (a .size ≡ b .size)
-same-stack k s t a b p q some same =
+same-stack k rvc s t a b p q some same =
     let left : 0 < stackBits a = rw p at some in
     let equal : stackBits a ≡ stackBits b = sym (ap stackWidth p) ∙ same ∙ ap stackWidth q in
     let right : 0 < stackBits b = omega arith in
     let one = stack-width (a .calculation) (a .field) left in
     let two = stack-width (b .calculation) (b .field) right in
     let field : a .field ≡ b .field =
-    same-field (a .field) (b .field) (given (stacks (a .calculation)) (isDataField (a .field)) (store-data k s a p) (one .0)) (given (stacks (b .calculation)) (isDataField (b .field)) (store-data k t b q) (two .0))
+    same-field (a .field) (b .field) (given (stacks (a .calculation)) (isDataField (a .field)) (store-data k rvc s a p) (one .0)) (given (stacks (b .calculation)) (isDataField (b .field)) (store-data k rvc t b q) (two .0))
     (sym (one .1) ∙ equal ∙ two .1) in
-    (one .0, two .0, field, store-bytes k s a p ∙ ap fieldBytes field ∙ sym (store-bytes k t b q))
+    (one .0, two .0, field, store-bytes k rvc s a p ∙ ap fieldBytes field ∙ sym (store-bytes k rvc t b q))
 
 -- ---- the relocations of a site that keep check 9
 
@@ -108,7 +108,7 @@ same-end object x i j s p q = go (decisionAt object x i) refl (decisionAt object
   where
     go : (d : Decision) → decisionAt object x i ≡ d → (e : Decision) → decisionAt object x j ≡ e → isStore d ≡ true → isStore e ≡ true → end object x i ≡ end object x j
     go (Store a) u (Store b) v p q =
-        let same = same-stack _ _ _ a b u v (s .some) (s .width) in
+        let same = same-stack _ _ _ _ a b u v (s .some) (s .width) in
         let left : touched (decisionAt object x i) ≡ a .size = ap touched u in
         let right : touched (decisionAt object x j) ≡ b .size = ap touched v in
         omega (arith, s .place, same .3)

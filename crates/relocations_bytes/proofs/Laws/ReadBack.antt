@@ -27,7 +27,7 @@ use Rattle.relocations_types.specs.declared.Calculation.the-variants.{Of, Add, 
 use Rattle.relocations_types.specs.declared.Rule.{Rule}
 use Rattle.relocations_types.specs.declared.Decision.{Decision}
 use Rattle.relocations_types.specs.declared.Decision.the-variants.{Marker, Align, Store, Refused}
-use Rattle.elf_read.specs.Headers.{classOf, addressWidth}
+use Rattle.elf_read.specs.Headers.{classOf, hasRvc, addressWidth}
 use Rattle.relocations_rela.specs.declared.sites.Site.{Site}
 use Rattle.relocations_rela.specs.Sites.{count, decisionAt, offset, P, found}
 use Rattle.relocations_values.specs.Values.{targetAt}
@@ -95,8 +95,8 @@ data-some Cj e = never e
 data-some Call e = never e
 
 -- what two facts about a decision say about its parts
-reaches-of : (k : Class) (d : Decision) (r : Rule) (t p : ℕ) → d ≡ Store r → distanceWell k d t p ≡ true → reachesWell k (r .calculation) (r .field) t p ≡ true
-reaches-of k d r t p e h = sym (ap (λ d. distanceWell k d t p) e) ∙ h
+reaches-of : (k : Class) (rvc : Bool) (d : Decision) (r : Rule) (t p : ℕ) → d ≡ Store r → distanceWell k rvc d t p ≡ true → reachesWell k rvc (r .calculation) (r .field) t p ≡ true
+reaches-of k rvc d r t p e h = sym (ap (λ d. distanceWell k rvc d t p) e) ∙ h
 
 module _ (object order addresses : List ℕ) (x : Site) (k : Checked object order addresses x) (j : ℕ) (h : j < count object x)
     (r : Rule) (e : decisionAt object x j ≡ Store r) where
@@ -122,7 +122,7 @@ module _ (object order addresses : List ℕ) (x : Site) (k : Checked object orde
   now m = after object order addresses x m
 
   some : 0 < n
-  some = width-some n (store-width _ _ r e)
+  some = width-some n (store-width _ _ _ r e)
 
   store : isStore (decisionAt object x j) ≡ true
   store = ap isStore e
@@ -182,7 +182,7 @@ module _ (object order addresses : List ℕ) (x : Site) (k : Checked object orde
       ∙ ap (λ g. leAt n (lib.Seq.sets s (offset object x m) (bytes n (patched w b g (leAt n s (offset object x m)) y (P object x m) d))) at) same-field
       ∙ ap (λ i. leAt n (lib.Seq.sets s i (bytes n u)) at) o
       ∙ leAt-sets n s at u (fits m)
-      ∙ mod-eq-of-lt (patched-lt w b f (leAt n s (offset object x m)) y (P object x m) d n (store-bytes _ _ r e))
+      ∙ mod-eq-of-lt (patched-lt w b f (leAt n s (offset object x m)) y (P object x m) d n (store-bytes _ _ _ r e))
       ∙ ap (λ a. patched w b f (leAt n s a) y (P object x m) d) o
 
   -- ---- a relocation of no stack is alone
@@ -230,10 +230,10 @@ module _ (object order addresses : List ℕ) (x : Site) (k : Checked object orde
         let b : ℕ = leAt n (found object x) at in
         let whole : ℤ = stackAt object order addresses x at (read (layout f) b) (count object x) in
         let final : leAt n (now (count object x)) at ≡ laid = then (count object x) h (omega arith) in
-        let reach : reachesWell (classOf object) c f (residue w y) p ≡ true =
-        reaches-of (classOf object) (decisionAt object x j) r (residue w y) p e (kept-rules object order addresses x j (k .kept j h) .distance) in (
+        let reach : reachesWell (classOf object) (hasRvc object) c f (residue w y) p ≡ true =
+        reaches-of (classOf object) (hasRvc object) (decisionAt object x j) r (residue w y) p e (kept-rules object order addresses x j (k .kept j h) .distance) in (
           subst (λ u. Said w c f u (residue w y) p d whole) (sym final)
-              (said (classOf object) c f b y p d whole single (store-suits _ _ r e) reach),
+              (said (classOf object) (hasRvc object) c f b y p d whole single (store-suits _ _ _ r e) reach),
           ap (outside (layout f)) final ∙ outside-patched w c f b y p d,
         )
 
@@ -241,7 +241,7 @@ module _ (object order addresses : List ℕ) (x : Site) (k : Checked object orde
 
   module _ (stack : stacks c ≡ true) where
     on-data : isDataField f ≡ true
-    on-data = given (stacks c) (isDataField f) (store-data _ _ r e) stack
+    on-data = given (stacks c) (isDataField f) (store-data _ _ _ r e) stack
 
     wide : 0 < stackWidth (decisionAt object x j)
     wide = rw (e, stack) (data-some f on-data)
@@ -289,7 +289,7 @@ module _ (object order addresses : List ℕ) (x : Site) (k : Checked object orde
         go : (d : Decision) → decisionAt object x m ≡ d → isStore d ≡ true → ⊥
         go (Store b) q t =
             let many : touched (decisionAt object x m) ≡ b .size = ap touched q in
-            omega (arith, width-some (b .size) (store-width _ _ b q))
+            omega (arith, width-some (b .size) (store-width _ _ _ b q))
         go Marker q t = never t
         go Align q t = never t
         go Refused q t = never t
@@ -320,7 +320,7 @@ module _ (object order addresses : List ℕ) (x : Site) (k : Checked object orde
       where
         go : (d : Decision) → decisionAt object x m ≡ d → isStore d ≡ true → Holds (suc m)
         go (Store a) u t =
-            let same = same-stack _ _ _ r a e u (q .some) (q .width) in
+            let same = same-stack _ _ _ _ r a e u (q .some) (q .width) in
             taken m a u (sym (same .2)) (sym (same .3)) (sym (q .place)) (same .1) held
         go Marker u t = never t
         go Align u t = never t

@@ -30,7 +30,7 @@ use Rattle.relocations_types.specs.declared.Decision.{Decision}
 use Rattle.relocations_types.specs.declared.Decision.the-variants.{Marker, Align, Store, Refused}
 use Rattle.relocations_types.specs.Types.{table, decision}
 use Rattle.instructions_riscv.specs.Halves.{high, low}
-use Rattle.instructions_riscv.specs.Ranges.{distance, rangeOf, reaches, halvesReach}
+use Rattle.instructions_riscv.specs.Ranges.{distance, rangeOf, reaches, keepsAlignment, halvesReach}
 use Rattle.instructions_riscv.proofs.Laws.Halves.{HighSpelt, high-spelt-32, near-spelt, high-extended, low-half-spelt, halves-whole}
 use Rattle.instructions_riscv.proofs.Laws.Ranges.{branch-reads-back, jal-reads-back, rvc-branch-reads-back, rvc-jump-reads-back, distance-leads}
 use Rattle.relocations_decisions.specs.Decisions.{stacks}
@@ -105,9 +105,9 @@ suited Marker = true
 suited Align = true
 suited Refused = true
 
-pub store-suits : (k : Class) (t : ℕ) (r : Rule) → decision k t ≡ Store r → suits (r .calculation) (r .field) ≡ true
+pub store-suits : (k : Class) (rvc : Bool) (t : ℕ) (r : Rule) → decision k rvc t ≡ Store r → suits (r .calculation) (r .field) ≡ true
 unfolding holds table
-store-suits k t r e = sym (ap suited e) ∙ decided suited refl k t
+store-suits k rvc t r e = sym (ap suited e) ∙ decided suited refl k rvc t
 
 pub suits-part : (part : Part) (operand : Operand) (f : Field) → suits (Of part operand) f ≡ true → suitsPart part f ≡ true
 suits-part part operand f e = and-left (suitsPart part f) (hasPart part operand) e
@@ -231,20 +231,20 @@ both-back w (Data width) b d h e near small = never e
 
 -- ---- every part of every operand
 
-module _ (k : Class) (f : Field) (b t p d : ℕ) (small : t < 2 ^ bits k) where
+module _ (k : Class) (rvc : Bool) (f : Field) (b t p d : ℕ) (small : t < 2 ^ bits k) where
   abbrev w : ℕ
   w = bits k
 
   abbrev Back : Part → Operand → Type 0
   Back part o = SaidPart w part f (put (layout f) b (partOf w part (operandOf w o t p d))) (operandOf w o t p d) t p
 
-  back-part : (part : Part) (o : Operand) → suitsPart part f ≡ true → hasPart part o ≡ true → partReaches k part o f t p ≡ true → Back part o
+  back-part : (part : Part) (o : Operand) → suitsPart part f ≡ true → hasPart part o ≡ true → partReaches k rvc part o f t p ≡ true → Back part o
   back-part Whole o e g r = plain-back f b (operandOf w o t p d) e
   back-part Distance PcRelative e g r =
       let field : signed (valueBits f) (read (layout f) (put (layout f) b (minus w t p))) ≡ distance w t p =
       subst (λ n. signed (valueBits f) (read (layout f) (put (layout f) b n)) ≡ distance w t p)
       (residue-signed w (minus w t p) (minus-lt w t p))
-      (jump-back f w b (distance w t p) (wide k) e r) in
+      (jump-back f w b (distance w t p) (wide k) e (and-left (reaches (rangeOf f) (distance w t p)) (keepsAlignment rvc (distance w t p)) r)) in
       (field, ap (λ z. residue w (pos p +ℤ z)) field ∙ distance-leads w t p small)
   back-part Distance Absolute e g r = never g
   back-part Distance Paired e g r = never g
@@ -254,17 +254,19 @@ module _ (k : Class) (f : Field) (b t p d : ℕ) (small : t < 2 ^ bits k) where
   back-part Low o e g r = low-back f b w (operandOf w o t p d) (wide k) e
   back-part BothHalves PcRelative e g r =
       both-back w f b (minus w t p) (wide k) e
-      (reach-spelt k (minus w t p) (minus-lt w t p) (and-right (even (pos (minus w t p))) (halvesReach k (minus w t p)) r))
+      (reach-spelt k (minus w t p) (minus-lt w t p)
+      (and-right (even (pos (minus w t p))) (halvesReach k (minus w t p))
+      (and-left (even (pos (minus w t p)) && halvesReach k (minus w t p)) (keepsAlignment rvc (pos (minus w t p))) r)))
       (minus-lt w t p)
   back-part BothHalves Absolute e g r = never g
   back-part BothHalves Paired e g r = never g
 
 -- every calculation but those of stacks
-pub said : (k : Class) (c : Calculation) (f : Field) (b : ℕ) (x : ℤ) (p d : ℕ) (whole : ℤ) → stacks c ≡ false → suits c f ≡ true
-    → reachesWell k c f (residue (bits k) x) p ≡ true → Said (bits k) c f (patched (bits k) c f b x p d) (residue (bits k) x) p d whole
+pub said : (k : Class) (rvc : Bool) (c : Calculation) (f : Field) (b : ℕ) (x : ℤ) (p d : ℕ) (whole : ℤ) → stacks c ≡ false → suits c f ≡ true
+    → reachesWell k rvc c f (residue (bits k) x) p ≡ true → Said (bits k) c f (patched (bits k) c f b x p d) (residue (bits k) x) p d whole
 unfolding patched
-said k (Of part o) f b x p d whole s e r =
-    back-part k f b (residue (bits k) x) p d (residue-lt (bits k) x) part o (suits-part part o f e) (suits-operand part o f e) r
-said k Add f b x p d whole s e r = never (sym s)
-said k Sub f b x p d whole s e r = never (sym s)
-said k Set f b x p d whole s e r = never (sym s)
+said k rvc (Of part o) f b x p d whole s e r =
+    back-part k rvc f b (residue (bits k) x) p d (residue-lt (bits k) x) part o (suits-part part o f e) (suits-operand part o f e) r
+said k rvc Add f b x p d whole s e r = never (sym s)
+said k rvc Sub f b x p d whole s e r = never (sym s)
+said k rvc Set f b x p d whole s e r = never (sym s)

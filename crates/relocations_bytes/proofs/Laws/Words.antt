@@ -138,14 +138,14 @@ module _ (object order addresses : List ℕ) (x : Site) (sound : SoundSite objec
       go : (d : Decision) → decisionAt object x k ≡ d → isStore d ≡ true → leAt n (s j) at ≡ lastWord object order addresses x j
       go (Store q) p u =
           let some : 0 < stackWidth (decisionAt object x k) = omega (arith, says .2, share .some) in
-          let same = same-stack _ _ _ q r p e some (sym (says .2) ∙ share .width) in
+          let same = same-stack _ _ _ _ q r p e some (sym (says .2) ∙ share .width) in
           let many : touched (decisionAt object x k) ≡ n = ap touched p ∙ same .3 in
           let place : offset object x k ≡ at = sym (says .0) ∙ share .place in
           let w : ℕ = wordAt object order addresses x k in
           let inside = store-inside object x j sound (shape-inside object x j (kept j (omega arith))) n (ap touched e) in
           let fits : at + n ≤ length (s k) = omega (arith, length-after object order addresses x k) in
           let small : w < 256 ^ n =
-          rw p (rw (sym (same .3)) (patched-lt (addressWidth object) (q .calculation) (q .field) _ _ _ _ (q .size) (store-bytes _ _ q p))) in
+          rw p (rw (sym (same .3)) (patched-lt (addressWidth object) (q .calculation) (q .field) _ _ _ _ (q .size) (store-bytes _ _ _ q p))) in
           ap (λ l. leAt n l at) (last .3 ∙ after-store object order addresses x k (last .1))
           ∙ ap (λ m. leAt n (sets (s k) (offset object x k) (bytes m w)) at) many
           ∙ ap (λ i. leAt n (sets (s k) i (bytes n w)) at) place
@@ -163,7 +163,7 @@ module _ (object order addresses : List ℕ) (x : Site) (sound : SoundSite objec
       size : (d : Decision) → decisionAt object x k ≡ d → isStore d ≡ true → 0 < touched (decisionAt object x k)
       size (Store q) p v =
           let many : touched (decisionAt object x k) ≡ q .size = ap touched p in
-          omega (arith, width-some (q .size) (store-width _ _ q p))
+          omega (arith, width-some (q .size) (store-width _ _ _ q p))
       size Marker p v = never v
       size Align p v = never v
       size Refused p v = never v

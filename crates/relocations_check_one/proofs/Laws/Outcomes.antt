@@ -21,7 +21,7 @@ use Rattle.elf_read.specs.declared.Section.{Section}
 use Rattle.elf_read.specs.declared.Symbol.{Symbol}
 use Rattle.elf_read.specs.Sections.{sectionAt, symbolTable}
 use Rattle.elf_read.specs.Entries.{symbolAt}
-use Rattle.elf_read.specs.Headers.{classOf, addressWidth}
+use Rattle.elf_read.specs.Headers.{classOf, hasRvc, addressWidth}
 use Rattle.elf_read.proofs.Laws.Headers.{address-narrow}
 use Rattle.placing_symbols.specs.declared.SymbolValue.{SymbolValue}
 use Rattle.placing_symbols.specs.Values.{symbolValue}
@@ -74,7 +74,7 @@ module _ (v : ℕ → SymbolValue) (object : List ℕ) (x : Site) (j : ℕ) wher
   module _ (r : Rule) (e : decisionAt object x j ≡ Store r) where
     pub store-number : shapeWell object x j ≡ true
         → number (findingBy v object x j)
-        ≡ storeNumber (symbolWell object x j (valueBy v object x j)) (formWell object x j) (pairWell object x j) (reachesWell (classOf object) (r .calculation) (r .field) (targetBy v object x j) (P object x j))
+        ≡ storeNumber (symbolWell object x j (valueBy v object x j)) (formWell object x j) (pairWell object x j) (reachesWell (classOf object) (hasRvc object) (r .calculation) (r .field) (targetBy v object x j) (P object x j))
     unfolding findingBy firstBroken
     store-number s = rw (s, e)
 
@@ -186,14 +186,14 @@ module _ (v : ℕ → SymbolValue) (object : List ℕ) (x : Site) (j : ℕ) (rul
   at-place = place-read object x j here p (f .read) place (f .there .site) inside (ap isStore (f .decided))
 
   reach-is : (t : ℕ) → t ≡ T w (S value) (signed 64 (here .addend))
-      → reachesWell (classOf object) (rule .calculation) (rule .field) t p ≡ reachesWell (classOf object) (rule .calculation) (rule .field) (targetBy v object x j) (P object x j)
+      → reachesWell (classOf object) (hasRvc object) (rule .calculation) (rule .field) t p ≡ reachesWell (classOf object) (hasRvc object) (rule .calculation) (rule .field) (targetBy v object x j) (P object x j)
   reach-is t te =
-      ap (λ t. reachesWell (classOf object) (rule .calculation) (rule .field) t p)
+      ap (λ t. reachesWell (classOf object) (hasRvc object) (rule .calculation) (rule .field) t p)
       (te ∙ ap (λ y. T w (S y) (signed 64 (here .addend))) value-read ∙ ap (λ r. T w (S (valueBy v object x j)) (signed 64 (r .addend))) (f .read))
-      ∙ ap (reachesWell (classOf object) (rule .calculation) (rule .field) (targetBy v object x j)) at-place
+      ∙ ap (reachesWell (classOf object) (hasRvc object) (rule .calculation) (rule .field) (targetBy v object x j)) at-place
 
   pub number-read : (n t : ℕ) (symbols forms pairs reaches : Bool) → n ≡ storeNumber symbols forms pairs reaches → symbols ≡ symbolWell object x j (valueBy v object x j)
-      → forms ≡ formWell object x j → (symbols ≡ true → pairs ≡ pairWell object x j) → reaches ≡ reachesWell (classOf object) (rule .calculation) (rule .field) t p → t ≡ T w (S value) (signed 64 (here .addend))
+      → forms ≡ formWell object x j → (symbols ≡ true → pairs ≡ pairWell object x j) → reaches ≡ reachesWell (classOf object) (hasRvc object) (rule .calculation) (rule .field) t p → t ≡ T w (S value) (signed 64 (here .addend))
       → n ≡ number (findingBy v object x j)
   number-read n t symbols forms pairs reaches e se fe pe re te =
       e

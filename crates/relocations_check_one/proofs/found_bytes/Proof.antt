@@ -16,7 +16,7 @@ read-bytes-requires c κs =
     let a = at .args in
     let f = at .pre in
     let inside = store-inside (a .object .now) (a .site) (a .j) (f .there .site) (shape-inside _ _ _ (f .shape)) _ (ap touched (f .decided)) in
-    (rw (part .section-bytes .ensures, f .read) inside, store-width _ _ _ (f .decided))
+    (rw (part .section-bytes .ensures, f .read) inside, store-width _ _ _ _ (f .decided))
 
 returns : tie.Need-returns
 returns c =

@@ -1,7 +1,8 @@
 -- Every rule of the table is regular; and what the field alone then says.
 use mathlib.Core.Path.{_≡_, refl, sym, ap, _∙_, subst}
 use mathlib.Core.Bool.{Bool, true, false, _&&_}
-use Prim.Native.Nat.{ℕ, _/_, _%_, _^_, _<_}
+use Prim.Native.Nat.{ℕ, _/_, _%_, _^_, _≤_, _<_}
+use native.Mathlib.Omega.{arith}
 use lib.Dec.{eqb}
 use lib.IntN.{ℤ, pos}
 use Rattle.numbers_definitions.specs.declared.Class.{Class}
@@ -12,14 +13,15 @@ use Rattle.numbers_definitions.proofs.Laws.Tests.{never}
 use Rattle.numbers_definitions.proofs.Laws.Whole.{cut-signed, minus-lt}
 use Rattle.instructions_fields.specs.declared.Width.{Width}
 use Rattle.instructions_fields.specs.declared.Field.{Field}
-use Rattle.instructions_fields.specs.declared.Field.the-variants.{Data}
+use Rattle.instructions_fields.specs.declared.Field.the-variants.{Call, Data}
 use Rattle.instructions_fields.specs.Layouts.{put}
 use Rattle.instructions_fields.specs.Fields.{layout}
 use Rattle.instructions_riscv.specs.declared.forms.Form.{Form}
 use Rattle.instructions_riscv.specs.declared.forms.Form.the-variants.{Any, Lui, Auipc, Jal, Branch, LowI, LowS, CallPair, CBranch, CJump}
 use Rattle.instructions_riscv.specs.Forms.{hasForm}
 use Rattle.instructions_riscv.specs.declared.ranges.Range.{Range}
-use Rattle.instructions_riscv.specs.Ranges.{rangeOf, reaches, halvesReach}
+use Rattle.instructions_riscv.specs.Ranges.{rangeOf, reaches, keepsAlignment, halvesReach}
+use Rattle.instructions_riscv.proofs.Laws.Ranges.{aligned-signed}
 use Rattle.relocations_types.specs.declared.Operand.{Operand}
 use Rattle.relocations_types.specs.declared.Operand.the-variants.{Absolute, PcRelative, Paired}
 use Rattle.relocations_types.specs.declared.Part.{Part}
@@ -49,7 +51,7 @@ RegularOf Marker = Unit {0}
 RegularOf Align = Unit {0}
 RegularOf Refused = Unit {0}
 
-regular-each : (k : Class) (t : ℕ) → RegularOf (decision k t)
+regular-each : (k : Class) (rvc : Bool) (t : ℕ) → RegularOf (decision k rvc t)
 unfolding table
 regular-each =
     each-decided RegularOf (
@@ -144,8 +146,8 @@ regular-each =
     by : {part : Part} (o : Operand) → OfPart part (Of part o)
     by o = record { operand = o; is = refl }
 
-pub rules-regular : (k : Class) (t : ℕ) (r : Rule) → decision k t ≡ Store r → Regular (r .calculation) (r .field) (r .form)
-rules-regular k t r e = subst RegularOf e (regular-each k t)
+pub rules-regular : (k : Class) (rvc : Bool) (t : ℕ) (r : Rule) → decision k rvc t ≡ Store r → Regular (r .calculation) (r .field) (r .form)
+rules-regular k rvc t r e = subst RegularOf e (regular-each k rvc t)
 
 -- ---- check 11: of LUI and AUIPC, and of any other form of an instruction
 
@@ -168,8 +170,8 @@ upper-instruction CJump e = refl
 -- ---- check 13, and the bytes, of a part
 
 module _ (c : Calculation) (f : Field) (part : Part) (o : OfPart part c) where
-  pub part-reaches : (k : Class) (t p : ℕ) → partReaches k part (o .operand) f t p ≡ reachesWell k c f t p
-  part-reaches k t p = ap (λ c. reachesWell k c f t p) (sym (o .is))
+  pub part-reaches : (k : Class) (rvc : Bool) (t p : ℕ) → partReaches k rvc part (o .operand) f t p ≡ reachesWell k rvc c f t p
+  part-reaches k rvc t p = ap (λ c. reachesWell k rvc c f t p) (sym (o .is))
 
   pub part-patched : (w b : ℕ) (x : ℤ) (p d v : ℕ) → v ≡ operandBy w c (residue w x) p d → put (layout f) b (partOf w part v) ≡ patched w c f b x p d
   unfolding patched
@@ -177,7 +179,7 @@ module _ (c : Calculation) (f : Field) (part : Part) (o : OfPart part c) where
       ap (λ v. put (layout f) b (partOf w part v)) (e ∙ ap (λ c. operandBy w c (residue w x) p d) (o .is))
       ∙ ap (λ c. patched w c f b x p d) (sym (o .is))
 
--- ---- check 13 of a high half, and of both halves, by the operand
+-- ---- check 13 of a high half, by the operand
 
 operand-reaches : (k : Class) (o : Operand) (t p d : ℕ) → isPaired o ≡ false → halvesReach k (operandOf (bits k) o t p d) ≡ operandReaches k o t p
 operand-reaches k Absolute t p d e = refl
@@ -190,33 +192,41 @@ high-reaches k c o t p d v e v-is =
     ap (halvesReach k) (v-is ∙ ap (λ c. operandBy (bits k) c t p d) (o .is))
     ∙ operand-reaches k (o .operand) t p d (sym (ap takesPair (o .is)) ∙ e)
 
-pub both-reach : (k : Class) (c : Calculation) (t p d v : ℕ) → c ≡ Of BothHalves PcRelative → v ≡ operandBy (bits k) c t p d
-    → (eqb (v % 2) 0 && halvesReach k v) ≡ (even (pos (minus (bits k) t p)) && operandReaches k PcRelative t p)
+-- ---- check 13 of a CALL, a jump or a branch, whose operand is T - P
+
+pub call-within : (k : Class) (rvc : Bool) (t p v : ℕ) (h a : Bool) → v ≡ minus (bits k) t p → h ≡ halvesReach k v → a ≡ keepsAlignment rvc (pos v)
+    → (eqb (v % 2) 0 && h && a) ≡ partReaches k rvc BothHalves PcRelative Call t p
 unfolding even
-both-reach k c t p d v is v-is = ap (λ v. eqb (v % 2) 0 && halvesReach k v) (v-is ∙ ap (λ c. operandBy (bits k) c t p d) is)
+call-within k rvc t p v h a is h-is a-is = rw (h-is, a-is) (ap (λ v. eqb (v % 2) 0 && halvesReach k v && keepsAlignment rvc (pos v)) is)
 
--- ---- check 13 of a jump or branch, whose operand is T - P
+pub jump-within :
+    (k : Class) (rvc : Bool) (f : Field) (t p v : ℕ) (r : Range) (b : Bool) → v ≡ minus (bits k) t p → r ≡ rangeOf f
+    → (v < 2 ^ bits k → b ≡ reaches r (signed (bits k) v)) → (b && keepsAlignment rvc (pos v)) ≡ partReaches k rvc Distance PcRelative f t p
+jump-within k rvc f t p v r b is r-is e =
+    let small : v < 2 ^ bits k = subst (λ n. n < 2 ^ bits k) (sym is) (minus-lt (bits k) t p) in
+    ap (λ b. b && keepsAlignment rvc (pos v)) (e small ∙ ap (λ r. reaches r (signed (bits k) v)) r-is)
+    ∙ ap (λ b. reaches (rangeOf f) (signed (bits k) v) && b) (sym (aligned-signed rvc (bits k) v (two k) small))
+    ∙ ap (λ v. reaches (rangeOf f) (signed (bits k) v) && keepsAlignment rvc (signed (bits k) v)) is
+  where
+    two : (k : Class) → 2 ≤ bits k
+    two Elf32 = omega arith
+    two Elf64 = omega arith
 
-pub jump-reaches :
-    (k : Class) (c : Calculation) (f : Field) (t p d v : ℕ) (r : Range) (b : Bool) → c ≡ Of Distance PcRelative → v ≡ operandBy (bits k) c t p d → r ≡ rangeOf f
-    → (v < 2 ^ bits k → b ≡ reaches r (signed (bits k) v)) → b ≡ partReaches k Distance PcRelative f t p
-jump-reaches k c f t p d v r b is v-is r-is e =
-    let v-known : v ≡ minus (bits k) t p = v-is ∙ ap (λ c. operandBy (bits k) c t p d) is in
-    e (subst (λ n. n < 2 ^ bits k) (sym v-known) (minus-lt (bits k) t p))
-    ∙ ap (λ r. reaches r (signed (bits k) v)) r-is
-    ∙ ap (λ v. reaches (rangeOf f) (signed (bits k) v)) v-known
+-- T - P as the operand of a part
+pub relative : (k : Class) (part : Part) (c : Calculation) (t p d v : ℕ) → c ≡ Of part PcRelative → v ≡ operandBy (bits k) c t p d → v ≡ minus (bits k) t p
+relative k part c t p d v is v-is = v-is ∙ ap (λ c. operandBy (bits k) c t p d) is
 
 -- ---- data
 
-pub data-reaches : (c : Calculation) (width : Width) → fills c ≡ true → (w : Class) (t p : ℕ) → true ≡ reachesWell w c (Data width) t p
-data-reaches (Of Whole o) width e w t p = refl
-data-reaches (Of Distance o) width e w t p = never e
-data-reaches (Of High o) width e w t p = never e
-data-reaches (Of Low o) width e w t p = never e
-data-reaches (Of BothHalves o) width e w t p = never e
-data-reaches Add width e w t p = refl
-data-reaches Sub width e w t p = refl
-data-reaches Set width e w t p = refl
+pub data-reaches : (c : Calculation) (width : Width) → fills c ≡ true → (w : Class) (rvc : Bool) (t p : ℕ) → true ≡ reachesWell w rvc c (Data width) t p
+data-reaches (Of Whole o) width e w rvc t p = refl
+data-reaches (Of Distance o) width e w rvc t p = never e
+data-reaches (Of High o) width e w rvc t p = never e
+data-reaches (Of Low o) width e w rvc t p = never e
+data-reaches (Of BothHalves o) width e w rvc t p = never e
+data-reaches Add width e w rvc t p = refl
+data-reaches Sub width e w rvc t p = refl
+data-reaches Set width e w rvc t p = refl
 
 pub whole-part : (part : Part) (w v : ℕ) → fills (Of part Absolute) ≡ true → v ≡ partOf w part v
 whole-part Whole w v e = refl
@@ -227,12 +237,12 @@ whole-part BothHalves w v e = never e
 
 -- ---- all three, of the field that was matched
 
-module _ (k : Class) (c : Calculation) (form : Form) (found w t p d : ℕ) (x : ℤ) where
+module _ (k : Class) (rvc : Bool) (c : Calculation) (form : Form) (found w t p d : ℕ) (x : ℤ) where
   abbrev n : ℕ
   n = bits k
 
   abbrev pub Made : Field → Bool → Bool → ℕ → Type 0
-  Made f stands reaches word = (stands ≡ standsWell k form p found) × (reaches ≡ reachesWell k c f t p) × (word ≡ patched n c f w x p d)
+  Made f stands reaches word = (stands ≡ standsWell k form p found) × (reaches ≡ reachesWell k rvc c f t p) × (word ≡ patched n c f w x p d)
 
   -- of an instruction, whose form was asked for
   pub instruction-made :
@@ -246,14 +256,14 @@ module _ (k : Class) (c : Calculation) (form : Form) (found w t p d : ℕ) (x : 
       → form ≡ asked
       → isData asked ≡ false
       → h ≡ hasForm k asked found (found / 2 ^ 32)
-      → r ≡ partReaches k part (o .operand) g t p
+      → r ≡ partReaches k rvc part (o .operand) g t p
       → v ≡ operandBy n c (residue n x) p d
       → u ≡ put (layout g) w (partOf n part v)
       → Made f (eqb (p % 2) 0 && h) r u
   instruction-made f g part asked h r u v told o form-is e h-is r-is v-is u-is =
       subst (λ f. Made f (eqb (p % 2) 0 && h) r u) (sym told) (
         ap (λ h. eqb (p % 2) 0 && h) h-is ∙ stands-form k asked p found e ∙ ap (λ a. standsWell k a p found) (sym form-is),
-        r-is ∙ part-reaches c g part o k t p,
+        r-is ∙ part-reaches c g part o k rvc t p,
         u-is ∙ part-patched c g part o n w x p d v v-is,
       )
 
@@ -262,4 +272,4 @@ module _ (k : Class) (c : Calculation) (form : Form) (found w t p d : ℕ) (x : 
       (f : Field) (width : Width) (u : ℕ) → f ≡ Data width → fills c ≡ true → form ≡ Any → u ≡ patched n c (Data width) w x p d → Made f true true u
   unfolding standsWell
   data-made f width u told e form-is u-is =
-      subst (λ f. Made f true true u) (sym told) (sym (ap (λ a. standsWell k a p found) form-is), data-reaches c width e k t p, u-is)
+      subst (λ f. Made f true true u) (sym told) (sym (ap (λ a. standsWell k a p found) form-is), data-reaches c width e k rvc t p, u-is)

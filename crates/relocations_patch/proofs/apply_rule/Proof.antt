@@ -1,8 +1,6 @@
 -- `relocations_patch::apply_rule` meets its contract.
 use mathlib.Core.Path.{_≡_, refl, sym, ap, _∙_, subst}
-use mathlib.Core.Bool.{_&&_}
-use Prim.Native.Nat.{ℕ, _/_, _%_, _^_}
-use lib.Dec.{eqb}
+use Prim.Native.Nat.{ℕ, _/_, _^_}
 use Rattle.numbers_definitions.specs.Classes.{bits}
 use Rattle.numbers_definitions.specs.Whole.{residue, signed}
 use Rattle.instructions_fields.specs.declared.Field.the-variants.{U, I, S, B, J, Cb, Cj, Call, Data}
@@ -12,7 +10,7 @@ use Rattle.instructions_riscv.specs.declared.forms.Form.the-variants.{LowI, Low
 use Rattle.relocations_types.specs.declared.Operand.the-variants.{PcRelative}
 use Rattle.relocations_types.specs.declared.Part.the-variants.{Distance, High, Low, BothHalves}
 use Rattle.relocations_patch.specs.Regular.{Regular}
-use Rattle.relocations_patch.proofs.Laws.Regular.{upper-instruction, high-reaches, both-reach, jump-reaches, instruction-made, data-made}
+use Rattle.relocations_patch.proofs.Laws.Regular.{upper-instruction, high-reaches, relative, instruction-made, data-made}
 use borrow.Author.Needs.{needs}
 use Rattle.relocations_patch.proofs.apply_rule.Statement.{statement}
 use Rattle.relocations_patch.proofs.apply_rule.Tie as tie
@@ -41,7 +39,7 @@ returns c =
     let o : tie.After-operand-value = search in
     let told = c .before .before .before .before .enum-told .given .1 in
     let g : Regular (a .calculation) U (a .form) = subst (λ f. Regular (a .calculation) f (a .form)) told (s .pre) in
-    instruction-made (a .class) (a .calculation) (a .form) (a .found) (a .w) (target s) (a .p .0) (a .d) (signed 64 (a .x))
+    instruction-made (a .class) (a .rvc) (a .calculation) (a .form) (a .found) (a .w) (target s) (a .p .0) (a .d) (signed 64 (a .x))
     (a .field) U High (a .form) _ _ _ _
     told
     (g .0)
@@ -59,7 +57,7 @@ returns-2 c =
     let o : tie.After-operand-value = search in
     let told = c .before .before .before .enum-told2 .given .1 in
     let g : Regular (a .calculation) I (a .form) = subst (λ f. Regular (a .calculation) f (a .form)) told (s .pre) in
-    instruction-made (a .class) (a .calculation) (a .form) (a .found) (a .w) (target s) (a .p .0) (a .d) (signed 64 (a .x))
+    instruction-made (a .class) (a .rvc) (a .calculation) (a .form) (a .found) (a .w) (target s) (a .p .0) (a .d) (signed 64 (a .x))
     (a .field) I Low LowI _ _ _ _
     told
     (g .0)
@@ -77,7 +75,7 @@ returns-3 c =
     let o : tie.After-operand-value = search in
     let told = c .before .before .before .enum-told3 .given .1 in
     let g : Regular (a .calculation) S (a .form) = subst (λ f. Regular (a .calculation) f (a .form)) told (s .pre) in
-    instruction-made (a .class) (a .calculation) (a .form) (a .found) (a .w) (target s) (a .p .0) (a .d) (signed 64 (a .x))
+    instruction-made (a .class) (a .rvc) (a .calculation) (a .form) (a .found) (a .w) (target s) (a .p .0) (a .d) (signed 64 (a .x))
     (a .field) S Low LowS _ _ _ _
     told
     (g .0)
@@ -93,17 +91,16 @@ returns-4 c =
     let s : tie.Start = search in
     let a = s .args in
     let o : tie.After-operand-value = search in
-    let told = c .before .before .before .before .enum-told4 .given .1 in
+    let told = c .before .before .before .enum-told4 .given .1 in
     let g : Regular (a .calculation) B (a .form) = subst (λ f. Regular (a .calculation) f (a .form)) told (s .pre) in
-    instruction-made (a .class) (a .calculation) (a .form) (a .found) (a .w) (target s) (a .p .0) (a .d) (signed 64 (a .x))
+    instruction-made (a .class) (a .rvc) (a .calculation) (a .form) (a .found) (a .w) (target s) (a .p .0) (a .d) (signed 64 (a .x))
     (a .field) B Distance Branch _ _ _ _
     told
     (record { operand = PcRelative; is = g .0 })
     (g .1)
     refl
-    (c .before .before .before .has-form3 .ensures)
-    (jump-reaches (a .class) (a .calculation) B (target s) (a .p .0) (a .d) _ _ _ (g .0)
-    (o .operand-value .ensures) (c .before .before .range-of .ensures) (c .before .in-reach .ensures))
+    (c .before .before .has-form3 .ensures)
+    (c .before .jump-reaches .ensures (target s) (a .p .0) (relative (a .class) Distance (a .calculation) (target s) (a .p .0) (a .d) _ (g .0) (o .operand-value .ensures)))
     (o .operand-value .ensures)
     (c .put-b .ensures)
 
@@ -112,17 +109,16 @@ returns-5 c =
     let s : tie.Start = search in
     let a = s .args in
     let o : tie.After-operand-value = search in
-    let told = c .before .before .before .before .enum-told5 .given .1 in
+    let told = c .before .before .before .enum-told5 .given .1 in
     let g : Regular (a .calculation) J (a .form) = subst (λ f. Regular (a .calculation) f (a .form)) told (s .pre) in
-    instruction-made (a .class) (a .calculation) (a .form) (a .found) (a .w) (target s) (a .p .0) (a .d) (signed 64 (a .x))
+    instruction-made (a .class) (a .rvc) (a .calculation) (a .form) (a .found) (a .w) (target s) (a .p .0) (a .d) (signed 64 (a .x))
     (a .field) J Distance Jal _ _ _ _
     told
     (record { operand = PcRelative; is = g .0 })
     (g .1)
     refl
-    (c .before .before .before .has-form4 .ensures)
-    (jump-reaches (a .class) (a .calculation) J (target s) (a .p .0) (a .d) _ _ _ (g .0)
-    (o .operand-value .ensures) (c .before .before .range-of2 .ensures) (c .before .in-reach2 .ensures))
+    (c .before .before .has-form4 .ensures)
+    (c .before .jump-reaches2 .ensures (target s) (a .p .0) (relative (a .class) Distance (a .calculation) (target s) (a .p .0) (a .d) _ (g .0) (o .operand-value .ensures)))
     (o .operand-value .ensures)
     (c .put-j .ensures)
 
@@ -131,17 +127,16 @@ returns-6 c =
     let s : tie.Start = search in
     let a = s .args in
     let o : tie.After-operand-value = search in
-    let told = c .before .before .before .before .enum-told6 .given .1 in
+    let told = c .before .before .before .enum-told6 .given .1 in
     let g : Regular (a .calculation) Cb (a .form) = subst (λ f. Regular (a .calculation) f (a .form)) told (s .pre) in
-    instruction-made (a .class) (a .calculation) (a .form) (a .found) (a .w) (target s) (a .p .0) (a .d) (signed 64 (a .x))
+    instruction-made (a .class) (a .rvc) (a .calculation) (a .form) (a .found) (a .w) (target s) (a .p .0) (a .d) (signed 64 (a .x))
     (a .field) Cb Distance CBranch _ _ _ _
     told
     (record { operand = PcRelative; is = g .0 })
     (g .1)
     refl
-    (c .before .before .before .has-form5 .ensures)
-    (jump-reaches (a .class) (a .calculation) Cb (target s) (a .p .0) (a .d) _ _ _ (g .0)
-    (o .operand-value .ensures) (c .before .before .range-of3 .ensures) (c .before .in-reach3 .ensures))
+    (c .before .before .has-form5 .ensures)
+    (c .before .jump-reaches3 .ensures (target s) (a .p .0) (relative (a .class) Distance (a .calculation) (target s) (a .p .0) (a .d) _ (g .0) (o .operand-value .ensures)))
     (o .operand-value .ensures)
     (c .put-cb .ensures)
 
@@ -150,17 +145,16 @@ returns-7 c =
     let s : tie.Start = search in
     let a = s .args in
     let o : tie.After-operand-value = search in
-    let told = c .before .before .before .before .enum-told7 .given .1 in
+    let told = c .before .before .before .enum-told7 .given .1 in
     let g : Regular (a .calculation) Cj (a .form) = subst (λ f. Regular (a .calculation) f (a .form)) told (s .pre) in
-    instruction-made (a .class) (a .calculation) (a .form) (a .found) (a .w) (target s) (a .p .0) (a .d) (signed 64 (a .x))
+    instruction-made (a .class) (a .rvc) (a .calculation) (a .form) (a .found) (a .w) (target s) (a .p .0) (a .d) (signed 64 (a .x))
     (a .field) Cj Distance CJump _ _ _ _
     told
     (record { operand = PcRelative; is = g .0 })
     (g .1)
     refl
-    (c .before .before .before .has-form6 .ensures)
-    (jump-reaches (a .class) (a .calculation) Cj (target s) (a .p .0) (a .d) _ _ _ (g .0)
-    (o .operand-value .ensures) (c .before .before .range-of4 .ensures) (c .before .in-reach4 .ensures))
+    (c .before .before .has-form6 .ensures)
+    (c .before .jump-reaches4 .ensures (target s) (a .p .0) (relative (a .class) Distance (a .calculation) (target s) (a .p .0) (a .d) _ (g .0) (o .operand-value .ensures)))
     (o .operand-value .ensures)
     (c .put-cj .ensures)
 
@@ -171,15 +165,14 @@ returns-8 c =
     let o : tie.After-operand-value = search in
     let told = c .before .before .before .before .enum-told8 .given .1 in
     let g : Regular (a .calculation) Call (a .form) = subst (λ f. Regular (a .calculation) f (a .form)) told (s .pre) in
-    instruction-made (a .class) (a .calculation) (a .form) (a .found) (a .w) (target s) (a .p .0) (a .d) (signed 64 (a .x))
+    instruction-made (a .class) (a .rvc) (a .calculation) (a .form) (a .found) (a .w) (target s) (a .p .0) (a .d) (signed 64 (a .x))
     (a .field) Call BothHalves CallPair _ _ _ _
     told
     (record { operand = PcRelative; is = g .0 })
     (g .1)
     refl
     (c .before .before .before .has-form7 .ensures)
-    (ap (λ b. eqb (o .operand-value .result % 2) 0 && b) (c .before .before .in-halves-reach2 .ensures)
-    ∙ both-reach (a .class) (a .calculation) (target s) (a .p .0) (a .d) _ (g .0) (o .operand-value .ensures))
+    (c .before .before .call-reaches .ensures (target s) (a .p .0) (relative (a .class) BothHalves (a .calculation) (target s) (a .p .0) (a .d) _ (g .0) (o .operand-value .ensures)))
     (o .operand-value .ensures)
     (c .put-field .ensures ∙ ap (put (layout Call) (a .w)) (c .before .both-halves .ensures))
 
@@ -191,7 +184,7 @@ returns-9 c =
     let k : tie.After-field = search in
     let told = k .field .given .1 in
     let g : Regular (a .calculation) (Data (k .field .given .0 .0)) (a .form) = subst (λ f. Regular (a .calculation) f (a .form)) told (s .pre) in
-    data-made (a .class) (a .calculation) (a .form) (a .found) (a .w) (target s) (a .p .0) (a .d) (signed 64 (a .x))
+    data-made (a .class) (a .rvc) (a .calculation) (a .form) (a .found) (a .w) (target s) (a .p .0) (a .d) (signed 64 (a .x))
     (a .field) (k .field .given .0 .0) _
     told
     (g .0)
@@ -220,19 +213,15 @@ apply-rule-spec =
     (λ c κs. search needs)
     (λ c κs. search needs)
     (λ c κs. search needs)
+    (λ c. search needs)
+    (λ c κs. search needs)
+    (λ c κs. search needs)
     (λ c κs. search needs)
     (λ c. search needs)
     (λ c κs. search needs)
     (λ c κs. search needs)
     (λ c κs. search needs)
-    (λ c κs. search needs)
     (λ c. search needs)
-    (λ c κs. search needs)
-    (λ c κs. search needs)
-    (λ c κs. search needs)
-    (λ c κs. search needs)
-    (λ c. search needs)
-    (λ c κs. search needs)
     (λ c κs. search needs)
     (λ c κs. search needs)
     (λ c κs. search needs)

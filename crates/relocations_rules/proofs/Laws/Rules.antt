@@ -12,7 +12,7 @@ use Rattle.numbers_definitions.specs.Whole.{signed, plus}
 use Rattle.numbers_definitions.specs.Powers.{ceilPower}
 use Rattle.numbers_definitions.proofs.Laws.Tests.{and-left, never}
 use Rattle.elf_read.specs.declared.Relocation.{Relocation}
-use Rattle.elf_read.specs.Headers.{classOf, addressWidth}
+use Rattle.elf_read.specs.Headers.{classOf, hasRvc, addressWidth}
 use Rattle.elf_read.specs.Entries.{symbolCount}
 use Rattle.placing_symbols.specs.declared.SymbolValue.{SymbolValue}
 use Rattle.placing_symbols.specs.declared.SymbolValue.the-variants.{Unresolved}
@@ -78,14 +78,14 @@ pub place-below : (object : List ℕ) (x : Site) (j : ℕ) → SoundSite object 
 place-below object x j f inside s = go (decisionAt object x j) refl s inside
   where
     go : (d : Decision) → decisionAt object x j ≡ d → isStore d ≡ true → offset object x j + touched d ≤ x .target .size → P object x j < 2 ^ addressWidth object
-    go (Store r) q s i = omega (arith, width-some (r .size) (store-width _ _ r q), f .placed)
+    go (Store r) q s i = omega (arith, width-some (r .size) (store-width _ _ _ r q), f .placed)
     go Marker q s i = never s
     go Align q s i = never s
     go Refused q s i = never s
 
 -- ---- check 14
 
-pub boundary-read : (object : List ℕ) (x : Site) (j : ℕ) (r : Relocation) (d : Decision) → r ≡ entry object x j → d ≡ decision (classOf object) (r .kind)
+pub boundary-read : (object : List ℕ) (x : Site) (j : ℕ) (r : Relocation) (d : Decision) → r ≡ entry object x j → d ≡ decision (classOf object) (hasRvc object) (r .kind)
     → boundaryWell d (x .address .0 + r .offset .0) (signed 64 (r .addend)) ≡ boundaryWell (decisionAt object x j) (P object x j) (A object x j)
 boundary-read object x j r d re de = rw (de, re)
 

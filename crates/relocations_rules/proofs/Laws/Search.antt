@@ -12,7 +12,7 @@ use Rattle.numbers_definitions.specs.Sums.{sum}
 use Rattle.numbers_definitions.proofs.Laws.First.{first-is, first-below}
 use Rattle.numbers_definitions.proofs.Laws.Sums.{sum-mono}
 use Rattle.elf_read.specs.declared.Location.{Location}
-use Rattle.elf_read.specs.Headers.{classOf, sectionCount}
+use Rattle.elf_read.specs.Headers.{classOf, hasRvc, sectionCount}
 use Rattle.elf_read.specs.Sections.{relocationsIn, relocationsBelow}
 use Rattle.elf_read.specs.Entries.{relocationCount, locationOf}
 use Rattle.elf_read.proofs.Laws.Entries.{located}
@@ -102,7 +102,7 @@ pub record Rules (object order addresses : List ℕ) (x : Site) (j : ℕ) : Type
   pub symbol : symbolWell object x j (valueAt object order addresses x j) ≡ true
   pub form : formWell object x j ≡ true
   pub pair : pairWell object x j ≡ true
-  pub distance : distanceWell (classOf object) (decisionAt object x j) (targetAt object order addresses x j) (P object x j) ≡ true
+  pub distance : distanceWell (classOf object) (hasRvc object) (decisionAt object x j) (targetAt object order addresses x j) (P object x j) ≡ true
   pub boundary : boundaryWell (decisionAt object x j) (P object x j) (A object x j) ≡ true
 
 other : {B : Type 0} (f : Finding) → isBroken f ≡ true → f ≡ Kept → B
@@ -111,7 +111,7 @@ other f b e = never (sym (ap isBroken e) ∙ b)
 pub kept-rules : (object order addresses : List ℕ) (x : Site) (j : ℕ) → finding object order addresses x j ≡ Kept → Rules object order addresses x j
 unfolding finding firstBroken
 kept-rules object order addresses x j e =
-    go (shapeWell object x j) refl (symbolWell object x j v) refl (formWell object x j) refl (pairWell object x j) refl (distanceWell (classOf object) d t (P object x j)) refl
+    go (shapeWell object x j) refl (symbolWell object x j v) refl (formWell object x j) refl (pairWell object x j) refl (distanceWell (classOf object) (hasRvc object) d t (P object x j)) refl
     (boundaryWell d (P object x j) (A object x j)) refl e
   where
     v : SymbolValue
@@ -124,7 +124,7 @@ kept-rules object order addresses x j e =
     t = targetAt object order addresses x j
 
     go : (a : Bool) → shapeWell object x j ≡ a → (b : Bool) → symbolWell object x j v ≡ b → (c : Bool) → formWell object x j ≡ c → (p : Bool) → pairWell object x j ≡ p
-        → (q : Bool) → distanceWell (classOf object) d t (P object x j) ≡ q → (r : Bool) → boundaryWell d (P object x j) (A object x j) ≡ r
+        → (q : Bool) → distanceWell (classOf object) (hasRvc object) d t (P object x j) ≡ q → (r : Bool) → boundaryWell d (P object x j) (A object x j) ≡ r
         → cond a (cond b (cond c (cond p (cond q (cond r Kept OffBoundary) OutOfReach) NoPair) BadForm) BadSymbol) BadShape ≡ Kept → Rules object order addresses x j
     go false e₁ b e₂ c e₃ p e₄ q e₅ r e₆ k = other BadShape refl k
     go true e₁ false e₂ c e₃ p e₄ q e₅ r e₆ k = other BadSymbol refl k

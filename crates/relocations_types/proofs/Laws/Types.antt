@@ -12,7 +12,7 @@ use Rattle.numbers_definitions.specs.declared.Class.{Class}
 use Rattle.numbers_definitions.specs.declared.Class.the-variants.{Elf32, Elf64}
 use Rattle.numbers_definitions.proofs.Laws.Tests.{and-left, and-right, or-false}
 use Rattle.relocations_types.specs.declared.Decision.the-variants.{Refused}
-use Rattle.relocations_types.specs.Types.{Line, table, linesOf, among, lookup, decision}
+use Rattle.relocations_types.specs.Types.{Line, table, linesOf, among, lookup, permitted, decision}
 
 -- ---- a number in a list, and in several
 
@@ -130,10 +130,10 @@ arms =
 no-line : (ls : List Line) → covers (typesOf ls) (joined ((18 ∷ 19 ∷ []) ∷ arms)) ≡ true → (t : ℕ) → Passed arms t → (OneOf (18 ∷ 19 ∷ []) t → ⊥) → lookup t ls ≡ Refused
 no-line ls all t p n = lookup-none t ls (covered t (typesOf ls) (joined ((18 ∷ 19 ∷ []) ∷ arms)) all (passed-among t ((18 ∷ 19 ∷ []) ∷ arms) (p, n)))
 
-pub others-refused : (c : Class) (t : ℕ) → Passed arms t → (OneOf (18 ∷ 19 ∷ []) t → ⊥) → decision c t ≡ Refused
+pub others-refused : (c : Class) (rvc : Bool) (t : ℕ) → Passed arms t → (OneOf (18 ∷ 19 ∷ []) t → ⊥) → decision c rvc t ≡ Refused
 unfolding decision typesOf table covers among joined
-others-refused Elf32 t p n = no-line (linesOf Elf32) refl t p n
-others-refused Elf64 t p n = no-line (linesOf Elf64) refl t p n
+others-refused Elf32 rvc t p n = ap (permitted rvc) (no-line (linesOf Elf32) refl t p n)
+others-refused Elf64 rvc t p n = ap (permitted rvc) (no-line (linesOf Elf64) refl t p n)
 
 pub call-types : (t : ℕ) → 16 ≤ t → t < 20 → Passed arms t → OneOf (18 ∷ 19 ∷ []) t
 unfolding among joined
@@ -163,7 +163,13 @@ pub too-high : (t : ℕ) → 20 ≤ t → (k : ℕ) → k < 20 → t ≡ k → �
 too-high t h k l e = omega arith
 
 -- a type other than 2 has its line in document 01's table, in both classes
-pub listed : (c : Class) (t k : ℕ) → t ≡ k → eqb k 2 ≡ false → decision c t ≡ lookup k table
+pub listed : (c : Class) (rvc : Bool) (t k : ℕ) → t ≡ k → eqb k 2 ≡ false → decision c rvc t ≡ permitted rvc (lookup k table)
 unfolding decision lookup among
-listed Elf32 t k e other = ap (λ t. lookup t table) e
-listed Elf64 t k e other = ap (λ t. lookup t (linesOf Elf64)) e ∙ rw other
+listed Elf32 rvc t k e other = ap (λ t. permitted rvc (lookup t table)) e
+listed Elf64 rvc t k e other = ap (λ t. permitted rvc (lookup t (linesOf Elf64))) e ∙ rw other
+
+-- the line of type 2, which no object refuses for its short instructions
+pub doubled : (c : Class) (rvc : Bool) (t : ℕ) → t ≡ 2 → decision c rvc t ≡ lookup 2 (linesOf c)
+unfolding decision lookup among table
+doubled Elf32 rvc t e = ap (λ t. permitted rvc (lookup t table)) e
+doubled Elf64 rvc t e = ap (λ t. permitted rvc (lookup t (linesOf Elf64))) e

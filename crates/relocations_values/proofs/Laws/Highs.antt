@@ -14,7 +14,7 @@ use borrow.Author.Tests.{ltb-false}
 use borrow.Author.Count.{below-more}
 use Rattle.numbers_definitions.proofs.Laws.Tests.{clash, neither-left, neither-right}
 use Rattle.numbers_definitions.specs.declared.SectionOffset.{SectionOffset}
-use Rattle.elf_read.specs.Headers.{classOf}
+use Rattle.elf_read.specs.Headers.{classOf, hasRvc}
 use Rattle.relocations_types.specs.Types.{decision}
 use Rattle.relocations_decisions.specs.Decisions.{givesPair}
 use Rattle.relocations_rela.specs.declared.sites.Site.{Site}
@@ -114,9 +114,9 @@ module _ (object : List ℕ) (x : Site) where
             (eq-or-lt-of-le a)
 
   -- the same by what was read
-  module _ (l : List ℕ) (m last : ℕ) (falls : Bool) (k : ℕ) (g : Gathering l m last falls k) (kind : ℕ) (read : kind ≡ entry object x k .kind) (b : Bool) (test : b ≡ givesPair (decision (classOf object) kind)) where
+  module _ (l : List ℕ) (m last : ℕ) (falls : Bool) (k : ℕ) (g : Gathering l m last falls k) (kind : ℕ) (read : kind ≡ entry object x k .kind) (b : Bool) (test : b ≡ givesPair (decision (classOf object) (hasRvc object) kind)) where
     is : b ≡ isHigh object x k
-    is = test ∙ ap (λ n. givesPair (decision (classOf object) n)) read
+    is = test ∙ ap (λ n. givesPair (decision (classOf object) (hasRvc object) n)) read
 
     pub read-passed : b ≡ false → Gathering l m last falls (k + 1)
     read-passed e = gathering-passed l m last falls k g (sym is ∙ e)

@@ -36,7 +36,7 @@ loop-again c =
     let at : tie.After-read-offset Inv-loop μ-loop = search in (
       omega (arith, t .loop-test .taken),
       simp length-set (l .loop .inv .1),
-      read-more _ _ _ _ _ _ _ (l .loop .inv .2) _ (read .read-kind .ensures) _ (high .is-high .ensures _) (arm .if1 .taken) (room t) _ (at .read-offset .ensures),
+      read-more _ _ _ _ _ _ _ (l .loop .inv .2) _ (read .read-kind .ensures) _ (high .is-high .ensures _ _) (arm .if1 .taken) (room t) _ (at .read-offset .ensures),
     )
 
 loop-again-2 : tie.Need-loop-again-2 Inv-loop μ-loop
@@ -44,7 +44,7 @@ loop-again-2 c =
     let l : tie.At-loop Inv-loop μ-loop = search in
     let read : tie.After-read-kind Inv-loop μ-loop = search in
     let high : tie.After-is-high Inv-loop μ-loop = search in
-    (omega arith, l .loop .inv .1, read-passed _ _ _ _ _ _ _ (l .loop .inv .2) _ (read .read-kind .ensures) _ (high .is-high .ensures _) (c .if1 .left))
+    (omega arith, l .loop .inv .1, read-passed _ _ _ _ _ _ _ (l .loop .inv .2) _ (read .read-kind .ensures) _ (high .is-high .ensures _ _) (c .if1 .left))
 
 returns : tie.Need-returns Inv-loop μ-loop
 returns c =

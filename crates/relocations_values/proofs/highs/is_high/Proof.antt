@@ -6,7 +6,7 @@ use Rattle.relocations_values.proofs.highs.is_high.Statement.{statement
 use Rattle.relocations_values.proofs.highs.is_high.Tie as tie
 
 returns : tie.Need-returns
-returns c k = let at : tie.Start = search in c .is-pairing .ensures ∙ sym (pair-type k (at .args .kind))
+returns c k rvc = let at : tie.Start = search in c .is-pairing .ensures ∙ sym (pair-type k rvc (at .args .kind))
 
 pub is-high-spec : {M : Type 1} → statement M
 is-high-spec = tie.close (tie.spec (λ c κs. search needs) returns)
