@@ -3,7 +3,7 @@
 //! a section or of the file.
 
 use bench::inputs::Call;
-use testing::build::{object, Class, Fit, Relocation, Section, Symbol};
+use testing::build::{object_with, Class, Fit, Relocation, Section, Symbol};
 use testing::damage::Input;
 use testing::random::Random;
 
@@ -332,14 +332,15 @@ fn the_last_bytes_of_a_file() {
 /// The object of this install with the bytes of section 1 at its end.
 fn with_section_last(fit: &Fit, bytes: &[u8]) -> Vec<u8> {
     let mut sections = fit.sections.clone();
-    let at = object(fit.class, &sections).len() - bytes.len();
+    let whole = |sections: &[Section]| object_with(fit.class, fit.flags, sections);
+    let at = whole(&sections).len() - bytes.len();
     sections[1] = Section {
         offset: Some(at as u64),
         size: Some(bytes.len() as u64),
         bytes: Vec::new(),
         ..sections[1].clone()
     };
-    let mut file = object(fit.class, &sections);
+    let mut file = whole(&sections);
     assert_eq!(file.len(), at);
     file.extend(bytes);
     file
