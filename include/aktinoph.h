@@ -20,6 +20,11 @@
  * that class: counts and the numbers of sections and symbols have four bytes in both; base, addresses and values have
  * four bytes for ELF32 and eight for ELF64. All are little-endian. The ledger is the same for both.
  *
+ * Compressed instructions: bit 0 of e_flags, which is at 36 in ELF32 and at 48 in ELF64, says whether the object is for a
+ * box that has them. Where it is clear, relocation types 44 and 45 are answered with 9, and a distance of types 16 to 19
+ * that is no multiple of 4 with 13. No other bit of e_flags is read. Whether objects of both kinds go together on one box
+ * is the caller's matter.
+ *
  * Every answer but AKTINOPH_DONE leaves image and ledger as they were, byte for byte. Object, order and calls never
  * change.
  */
@@ -65,7 +70,7 @@ enum aktinoph_answer {
     AKTINOPH_SYMBOL_UNRESOLVED = 10,     /* the symbol does not resolve; place: relocation */
     AKTINOPH_WRONG_INSTRUCTION = 11,     /* not an instruction that the type is for; place: relocation */
     AKTINOPH_NOT_ONE_PAIR = 12,          /* a PCREL_LO12 without exactly one PCREL_HI20; place: relocation */
-    AKTINOPH_OUT_OF_REACH = 13,          /* distance odd or too far, or (ELF64) address of HI20; place: relocation */
+    AKTINOPH_OUT_OF_REACH = 13,          /* distance odd, too far, no multiple of 4, (ELF64) HI20 too far; place: relocation */
     AKTINOPH_PADDING_OFF_BOUNDARY = 14,  /* ALIGN's padding does not end on its boundary; place: relocation */
     AKTINOPH_LEDGER_FULL = 15,           /* the ledger has 16 fits, or no room for the old bytes */
     AKTINOPH_NOTHING_STANDS = 16         /* no fit stands (take-back only) */

@@ -32,7 +32,8 @@ pub enum Answer {
     /// 8: this section is misaligned, outside the window, or overlaps a lower
     /// one.
     Misplaced(u32),
-    /// 9: this relocation's type, offset, overlap or addend is not allowed.
+    /// 9: this relocation's type, offset, overlap or addend is not allowed; the
+    /// types RVC_BRANCH and RVC_JUMP neither, where bit 0 of e_flags is clear.
     RelocationShape(u32),
     /// 10: this relocation's symbol does not resolve.
     SymbolUnresolved(u32),
@@ -40,8 +41,9 @@ pub enum Answer {
     WrongInstruction(u32),
     /// 12: this PCREL_LO12 relocation has not exactly one PCREL_HI20.
     NotOnePair(u32),
-    /// 13: this relocation's distance is odd or too far, or, in an RV64 object,
-    /// the address of a HI20 is.
+    /// 13: this relocation's distance is odd or too far, or no multiple of 4
+    /// where bit 0 of e_flags is clear, or, in an RV64 object, the address of a
+    /// HI20 is too far.
     OutOfReach(u32),
     /// 14: this ALIGN relocation's padding does not end on its boundary.
     PaddingOffBoundary(u32),
@@ -159,7 +161,9 @@ impl Answer {
             Answer::SymbolUnresolved(_) => "the symbol does not resolve",
             Answer::WrongInstruction(_) => "not an instruction that the type is for",
             Answer::NotOnePair(_) => "not exactly one PCREL_HI20 for this PCREL_LO12",
-            Answer::OutOfReach(_) => "the distance is odd or too far",
+            Answer::OutOfReach(_) => {
+                "the distance is odd or too far, or no multiple of 4 without compressed instructions"
+            }
             Answer::PaddingOffBoundary(_) => "the padding does not end on its boundary",
             Answer::LedgerFull => "the ledger has 16 fits, or no room for the old bytes",
             Answer::NothingStands => "no fit stands",

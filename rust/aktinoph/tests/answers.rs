@@ -34,7 +34,7 @@ const ANSWERS: [Row; 17] = [
     ("AKTINOPH_NOT_ONE_PAIR", Answer::NotOnePair(2), 12, 2,
      "relocation 2: not exactly one PCREL_HI20 for this PCREL_LO12"),
     ("AKTINOPH_OUT_OF_REACH", Answer::OutOfReach(7), 13, 7,
-     "relocation 7: the distance is odd or too far"),
+     "relocation 7: the distance is odd or too far, or no multiple of 4 without compressed instructions"),
     ("AKTINOPH_PADDING_OFF_BOUNDARY", Answer::PaddingOffBoundary(8), 14, 8,
      "relocation 8: the padding does not end on its boundary"),
     ("AKTINOPH_LEDGER_FULL", Answer::LedgerFull, 15, 0,

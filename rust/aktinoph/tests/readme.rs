@@ -15,7 +15,7 @@ fn as_shown(object: Vec<u8>, order: Vec<u8>, laid: &[u8]) -> Result<(), Refusal>
     let mut image = vec![0xA5; 1024];
     let mut ledger = vec![0; aktinoph::LEDGER_HEAD + image.len()];
 
-    aktinoph::fit(&object, &order, &mut image, &mut ledger).check()?;      // Err: "relocation 7: the distance is odd or too far"
+    aktinoph::fit(&object, &order, &mut image, &mut ledger).check()?;      // Err: "relocation 7: the symbol does not resolve"
     assert_eq!(image, laid);
     aktinoph::take_back(&mut image, &mut ledger).check()?;
     assert_eq!(image, vec![0xA5; 1024]);

@@ -1,12 +1,12 @@
-//! The comparison fitter: document 01 and Tickets 1, 3 and 7 written for speed, in
-//! safe Rust, without a heap. The library's time is measured against it.
+//! The comparison fitter: document 01 and Tickets 1, 3, 5 and 7 written for speed,
+//! in safe Rust, without a heap. The library's time is measured against it.
 //!
 //! It has two phases. The first makes every check in its order and writes
 //! nothing. The second saves and lays, and cannot fail. Each phase reads a
 //! relocation once. What a type asks for stands in a table (`types`), so that
 //! relocations of different types take the same path through the code, and a
-//! processor need not guess which one comes next. All of this is built once for
-//! each class (`class`).
+//! processor need not guess which one comes next. e_flags says which of two tables
+//! it is, once for an object. All of this is built once for each class (`class`).
 //!
 //! The checks of a relocation are made in two steps. The first step asks
 //! whether all rules hold, in any order (`relocations`). Only where it cannot

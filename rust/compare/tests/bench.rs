@@ -1,9 +1,10 @@
 //! Document 01's "Bench numbers" and "Errors we have met" through the static
-//! library, in both classes, and the numbers of Tickets 3 and 1.
+//! library, in both classes, and the numbers of Tickets 3 and 1. Bit 0 of e_flags
+//! is set, as Ticket 5 asks for, but where a test says that it is clear.
 
 use compare::call::{Command, Library, Outcome};
 use testing::build::{
-    journal, object, order, Class, Fit, Relocation, Section, Symbol, GLOBAL, WEAK,
+    journal, object, order, Class, Fit, Relocation, Section, Symbol, GLOBAL, RVC, WEAK,
 };
 use testing::damage::Input;
 
@@ -85,22 +86,61 @@ fn call() {
 fn jal() {
     assert_eq!(laid_word(17, 0xEF, 0x1008), 0x0080_00EF);
     let to = |distance: u64| one(17, &[0xEF, 0, 0, 0], 0x1000, 0x1000 + distance);
-    assert_eq!(answer(&to(1_048_574)), (0, 0));
     assert_eq!(answer(&to(1_048_576)), (13, 0));
+}
+
+#[test]
+fn jal_1048574_with_bit_0_set() {
+    let fit = one(17, &[0xEF, 0, 0, 0], 0x1000, 0x1000 + 1_048_574);
+    assert_eq!(laid(&fit.clone().with_flags(RVC)), "eff0ff7f");
+    assert_eq!(answer(&fit.with_flags(0)), (13, 0), "clear");
 }
 
 #[test]
 fn branch() {
     assert_eq!(laid_word(16, 0x63, 0x1000 - 4), 0xFE00_0EE3);
     let to = |distance: u64| one(16, &[0x63, 0, 0, 0], 0x1000, 0x1000 + distance);
-    assert_eq!(answer(&to(4_094)), (0, 0));
     assert_eq!(answer(&to(4_096)), (13, 0));
 }
 
 #[test]
-fn compressed() {
-    assert_eq!(laid(&one(45, &[0x01, 0xA0], 0x1000, 0x1000 - 2)), "fdbf");
-    assert_eq!(laid(&one(44, &[0x01, 0xC1], 0x1000, 0x1000 + 8)), "01c5");
+fn branch_4094_with_bit_0_set() {
+    let fit = one(16, &[0x63, 0, 0, 0], 0x1000, 0x1000 + 4_094);
+    assert_eq!(laid(&fit.clone().with_flags(RVC)), "e30f007e");
+    assert_eq!(answer(&fit.with_flags(0)), (13, 0), "clear");
+}
+
+#[test]
+fn compressed_with_bit_0_set() {
+    let jump = one(45, &[0x01, 0xA0], 0x1000, 0x1000 - 2).with_flags(RVC);
+    assert_eq!(laid(&jump), "fdbf");
+    assert_eq!(answer(&jump.with_flags(0)), (9, 0), "clear");
+    let branch = one(44, &[0x01, 0xC1], 0x1000, 0x1000 + 8).with_flags(RVC);
+    assert_eq!(laid(&branch), "01c5");
+    assert_eq!(answer(&branch.with_flags(0)), (9, 0), "clear");
+}
+
+/// With the bit clear: multiples of 4, and two bytes beside each.
+#[test]
+fn with_bit_0_clear() {
+    let call = 0x0000_80E7_0000_0097_u64.to_le_bytes();
+    let rows: [(u32, &[u8], i64, &str); 6] = [
+        (16, &[0x63, 0, 0, 0], -4, "e30e00fe"),
+        (16, &[0x63, 0, 0, 0], 4_092, "e30e007e"),
+        (17, &[0xEF, 0, 0, 0], 8, "ef008000"),
+        (17, &[0xEF, 0, 0, 0], 1_048_572, "eff0df7f"),
+        (18, &call, 0x1800, "97200000e7800080"),
+        (19, &call, -4, "97000000e780c0ff"),
+    ];
+    for (kind, bytes, distance, after) in rows {
+        let to = |distance| {
+            let target = 0x20_0000_u64.wrapping_add_signed(distance);
+            one(kind, bytes, 0x20_0000, target).with_flags(0)
+        };
+        assert_eq!(laid(&to(distance)), after, "type {kind} over {distance}");
+        assert_eq!(answer(&to(distance - 2)), (13, 0), "type {kind}");
+        assert_eq!(answer(&to(distance + 2)), (13, 0), "type {kind}");
+    }
 }
 
 #[test]

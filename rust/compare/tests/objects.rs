@@ -1,13 +1,10 @@
 //! The real objects through the static library: the bytes that a real linker
-//! lays, and all as before after a rollback.
+//! lays, and all as before after a rollback or a refusal.
 
 use compare::call::{Command, Library};
 use testing::build::{journal, Class};
 use testing::damage::Input;
-use testing::given::{objects, Given};
-
-/// What the image holds before an install.
-const FILL: u8 = 0xA5;
+use testing::given::{objects, Given, FILL};
 
 /// What is wrong with one object, if anything.
 fn wrong(library: &mut Library, given: Given) -> Option<String> {
@@ -23,7 +20,11 @@ fn wrong(library: &mut Library, given: Given) -> Option<String> {
         Err(wrong) => return Some(wrong),
     };
     if installed.answer != given.answer || Some(&installed.image) != given.image.as_ref() {
-        return Some(format!("{:?}, not what the linker lays", installed.answer));
+        return Some(format!("{:?}, not what is given", installed.answer));
+    }
+    if given.answer != (0, 0) {
+        let another = installed.journal != before.journal;
+        return another.then(|| "another ledger".into());
     }
     (after.image, after.journal) = (installed.image, installed.journal);
     let back = match library.compare(&after, Command::TakeBack) {

@@ -9,7 +9,7 @@ use crate::placement::{
 };
 use crate::plan::Plan;
 use crate::relocate::{
-    breaks_shape_rule, distance_is_odd_or_too_far, has_not_one_pair, instruction_form_is_wrong,
+    breaks_shape_rule, distance_is_wrong, has_not_one_pair, instruction_form_is_wrong,
     padding_misses_boundary, symbol_does_not_resolve, RelaEntry,
 };
 use crate::symbol::Symbols;
@@ -44,12 +44,12 @@ type RelocationCheck = (u32, fn(&RelaEntry) -> bool);
 
 /// The checks of one relocation.
 const RELOCATION_CHECKS: [RelocationCheck; 6] = [
-    (9, breaks_shape_rule),           // type, offset, overlap, addend rule
-    (10, symbol_does_not_resolve),    // (24, 25: or is not in the target row)
-    (11, instruction_form_is_wrong),  // instruction form
-    (12, has_not_one_pair),           // not exactly one partner
-    (13, distance_is_odd_or_too_far), // distance odd or too far
-    (14, padding_misses_boundary),    // padding not on its boundary
+    (9, breaks_shape_rule),          // type, offset, overlap, addend rule
+    (10, symbol_does_not_resolve),   // (24, 25: or is not in the target row)
+    (11, instruction_form_is_wrong), // instruction form
+    (12, has_not_one_pair),          // not exactly one partner
+    (13, distance_is_wrong),         // distance odd or too far; or no multiple of 4
+    (14, padding_misses_boundary),   // padding not on its boundary
 ];
 
 /// "Records go by RELA row, then file order, each through 9 to 14 before the

@@ -19,6 +19,7 @@ pub enum Class {
 pub struct Layout {
     pub header_size: usize,
     pub e_shoff: usize,
+    pub e_flags: usize,
     pub e_ehsize: usize,
     pub e_shentsize: usize,
     pub e_shnum: usize,
@@ -47,6 +48,7 @@ pub struct Layout {
 static ELF32: Layout = Layout {
     header_size: 52,
     e_shoff: 32,
+    e_flags: 36,
     e_ehsize: 40,
     e_shentsize: 46,
     e_shnum: 48,
@@ -74,6 +76,7 @@ static ELF32: Layout = Layout {
 static ELF64: Layout = Layout {
     header_size: 64,
     e_shoff: 40,
+    e_flags: 48,
     e_ehsize: 52,
     e_shentsize: 58,
     e_shnum: 60,

@@ -34,6 +34,11 @@ pub enum Form {
 }
 
 impl Form {
+    /// Whether it is a short instruction, of two bytes: "types 44 and 45".
+    pub fn is_compressed(self) -> bool {
+        matches!(self, Form::CompressedBranch | Form::CompressedJump)
+    }
+
     /// Whether the bytes, as many as the field has, are of this form.
     pub fn matches(self, bytes: &[u8], class: Class) -> bool {
         let is_64 = class == Class::Elf64;

@@ -1,18 +1,19 @@
-//! A second fitter, written from document 01 and Tickets 1, 3 and 7 of document
-//! 02 alone, and kept as close to their sentences as code can be. One body of code
-//! is for both classes of object: what differs between them is asked of the class.
+//! A second fitter, written from document 01 and Tickets 1, 3, 5 and 7 of
+//! document 02 alone, and kept as close to their sentences as code can be. One
+//! body of code is for both classes of object: what differs between them is asked
+//! of the class.
 //!
 //! | part of document 01 | module | checks |
 //! |---|---|---|
 //! | Ticket 1: the two classes | [`class`] | |
-//! | What the object may hold | [`object`] | 4, 5 |
+//! | What the object may hold; Ticket 5: e_flags | [`object`] | 4, 5 |
 //! | Order, window and ledger | [`order`], [`journal`] | 2, 3; 1, 15, 16 |
 //! | Placing | [`placement`] | 6, 7, 8 |
 //! | How a record is read: S | [`symbol`] | 10 |
 //! | How a record is read: the type table | [`relocation`] | |
 //! | How a record is read: halves and fields | [`fields`] | |
 //! | How a record is read: instruction forms | [`instruction`] | 11 |
-//! | How a record is read: rules and bytes; Ticket 3: distances | [`relocate`] | 9 to 14 |
+//! | How a record is read: rules and bytes; Tickets 3 and 5: distances | [`relocate`] | 9 to 14 |
 //! | The laid bytes and their span | [`plan`] | |
 //! | When the fitter says no | [`checks`] | all, in order |
 //! | The history behind demand 3 | [`history`] | |
@@ -20,7 +21,7 @@
 //!
 //! The words are the field's; the comment at each definition has document
 //! 01's term. Quoted sentences in comments are document 01's, or those of
-//! Tickets 1, 3 and 7.
+//! Tickets 1, 3, 5 and 7.
 
 #![forbid(unsafe_code)]
 

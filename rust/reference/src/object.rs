@@ -22,10 +22,15 @@ pub const REL: u32 = 9;
 /// "flag bit 2 (value 2)"
 const ALLOCATED: u64 = 2;
 
+/// "e_flags bit 0". The psABI: "This bit is set when the binary targets the C
+/// ABI, which allows instructions to be aligned to 16-bit boundaries".
+const RVC: u32 = 1;
+
 /// What later checks need of a header that passed check 4.
 #[derive(Clone, Copy, Debug)]
 pub struct Header {
     pub class: Class,
+    has_compressed: bool,
     section_table: FileOffset,
     section_entry_size: u16,
     section_count: u16,
@@ -50,6 +55,7 @@ impl Header {
         }
         Some(Header {
             class,
+            has_compressed: u32_at(file, layout.e_flags)? & RVC != 0,
             section_table: FileOffset(class.number_at(file, layout.e_shoff)?),
             section_entry_size: u16_at(file, layout.e_shentsize)?,
             section_count: u16_at(file, layout.e_shnum)?,
@@ -113,6 +119,7 @@ impl Section {
 #[derive(Debug)]
 pub struct Object<'a> {
     class: Class,
+    has_compressed: bool,
     file: &'a [u8],
     sections: Vec<Section>,
 }
@@ -134,6 +141,7 @@ impl<'a> Object<'a> {
         let class = header.class;
         let object = Object {
             class,
+            has_compressed: header.has_compressed,
             file,
             sections: table
                 .chunks_exact(class.layout().section_header_size)
@@ -149,6 +157,12 @@ impl<'a> Object<'a> {
 
     pub fn class(&self) -> Class {
         self.class
+    }
+
+    /// Whether the box has short instructions, as far as the object says:
+    /// e_flags bit 0 is set.
+    pub fn has_compressed(&self) -> bool {
+        self.has_compressed
     }
 
     pub fn sections(&self) -> &[Section] {

@@ -81,6 +81,15 @@ impl<'a> RelaEntry<'a> {
         Some(self.class().signed(self.t()? - self.place()))
     }
 
+    /// What a jump's distance is a multiple of: 2, as an instruction's address is,
+    /// and without short instructions 4.
+    fn jump_step(&self) -> Whole {
+        match self.symbols.object.has_compressed() {
+            true => 2,
+            false => 4,
+        }
+    }
+
     /// The other relocations of the same RELA section that come before.
     fn earlier(&self) -> impl DoubleEndedIterator<Item = RelaEntry<'a>> {
         let rela = *self;
@@ -114,10 +123,17 @@ impl<'a> RelaEntry<'a> {
 /// Check 9: "type, offset, overlap, addend rule".
 pub fn breaks_shape_rule(rela: &RelaEntry) -> bool {
     rela.effect() == Effect::Refused
+        || is_refused_short_type(rela)
         || offset_falls(rela)
         || leaves_section(rela)
         || overlaps(rela)
         || addend_is_wrong(rela)
+}
+
+/// "If e_flags bit 0 is clear, types 44 and 45 are refused with 9".
+fn is_refused_short_type(rela: &RelaEntry) -> bool {
+    let patch = rela.patch();
+    !rela.symbols.object.has_compressed() && patch.is_some_and(|patch| patch.form.is_compressed())
 }
 
 /// "Record offsets never fall."
@@ -197,20 +213,21 @@ pub fn has_not_one_pair(rela: &RelaEntry) -> bool {
 
 /// Check 13: "distance odd or too far". A high half, alone or in a CALL, reaches
 /// as far as both halves together: its distance, or the address of HI20. The
-/// distance of a CALL "is even".
-pub fn distance_is_odd_or_too_far(rela: &RelaEntry) -> bool {
+/// distance of a CALL "is even". If e_flags bit 0 is clear, "a distance for 16 to
+/// 19 that isn't a multiple of 4" is refused too.
+pub fn distance_is_wrong(rela: &RelaEntry) -> bool {
     use crate::fields::Field;
     let (Some(patch), Some(distance), Some(t)) = (rela.patch(), rela.distance(), rela.t()) else {
         return false;
     };
-    let odd = distance.rem_euclid(2) != 0;
+    let misses_step = distance.rem_euclid(rela.jump_step()) != 0;
     match (patch.field, patch.calculation) {
-        (Field::UThenI, _) => odd || !rela.class().halves_reach(distance),
+        (Field::UThenI, _) => misses_step || !rela.class().halves_reach(distance),
         (Field::U, Calculation::Target) => !rela.class().halves_reach(t),
         (Field::U, _) => !rela.class().halves_reach(distance),
         (field, _) => field
             .reach()
-            .is_some_and(|reach| odd || !reach.contains(&distance)),
+            .is_some_and(|reach| misses_step || !reach.contains(&distance)),
     }
 }
 

@@ -1,13 +1,14 @@
 //! Document 01's "Bench numbers" and "Errors we have met": each number through
 //! the field functions, and each that is about a fit through `install` too, in
 //! both classes. Then the numbers of Ticket 3, for jumps across the top of
-//! memory, and those of Ticket 1, for class 2.
+//! memory, and those of Ticket 1, for class 2. Bit 0 of e_flags is set, as Ticket
+//! 5 asks for, but where a test says that it is clear.
 
 use reference::fields::{high_half, insert, low_half, Field, B, CB, CJ, I, J, U};
 use reference::numbers::number_from;
 use reference::order::{Order, Placement};
 use reference::{install, numbers::Address, Answer};
-use testing::build::{journal, object, order, Class, Fit, Relocation, Section, Symbol};
+use testing::build::{journal, object, order, Class, Fit, Relocation, Section, Symbol, RVC};
 
 const HI20: u32 = 26;
 const LO12_I: u32 = 27;
@@ -70,8 +71,11 @@ fn call() {
     let before = 0x0000_80E7_0000_0097;
     let after = 0x8000_80E7_0000_2097;
     assert_eq!(Field::UThenI.put(before, 0x2800 - 0x1000), after);
-    let fit = one(CALL, &before.to_le_bytes(), 0x1000, 0x2800);
-    assert_eq!(laid_word(&fit), after);
+    let to = |target| one(CALL, &before.to_le_bytes(), 0x1000, target);
+    assert_eq!(laid_word(&to(0x2800)), after);
+    assert_eq!(laid_word(&to(0x2800).with_flags(0)), after, "bit 0 clear");
+    assert_eq!(to(0x2802).answer_of_both(), (0, 0));
+    assert_eq!(to(0x2802).with_flags(0).answer_of_both(), (13, 0));
 }
 
 #[test]
@@ -79,9 +83,17 @@ fn jal() {
     assert_eq!(insert(J, 0xEF, 8), 0x0080_00EF);
     let to = |distance: u64| one(JAL, &word(0xEF), 0x1000, 0x1000 + distance);
     assert_eq!(laid_word(&to(8)), 0x0080_00EF);
-    assert_eq!(to(1_048_574).answer_of_both(), (0, 0));
-    assert_eq!(laid_word(&to(1_048_574)), 0x7FFF_F0EF);
+    assert_eq!(laid_word(&to(8).with_flags(0)), 0x0080_00EF);
     assert_eq!(to(1_048_576).answer_of_both(), (13, 0));
+    assert_eq!(to(1_048_576).with_flags(0).answer_of_both(), (13, 0));
+}
+
+#[test]
+fn jal_1048574_with_bit_0_set() {
+    let fit = one(JAL, &word(0xEF), 0x1000, 0x1000 + 1_048_574);
+    assert_eq!(fit.clone().with_flags(RVC).answer_of_both(), (0, 0));
+    assert_eq!(laid_word(&fit.clone().with_flags(RVC)), 0x7FFF_F0EF);
+    assert_eq!(fit.with_flags(0).answer_of_both(), (13, 0), "clear");
 }
 
 #[test]
@@ -89,18 +101,29 @@ fn branch() {
     assert_eq!(insert(B, 0x63, -4), 0xFE00_0EE3);
     let to = |target| one(BRANCH, &word(0x63), 0x1000, target);
     assert_eq!(laid_word(&to(0x1000 - 4)), 0xFE00_0EE3);
-    assert_eq!(to(0x1000 + 4_094).answer_of_both(), (0, 0));
+    assert_eq!(laid_word(&to(0x1000 - 4).with_flags(0)), 0xFE00_0EE3);
     assert_eq!(to(0x1000 + 4_096).answer_of_both(), (13, 0));
+    assert_eq!(to(0x1000 + 4_096).with_flags(0).answer_of_both(), (13, 0));
 }
 
 #[test]
-fn compressed() {
+fn branch_4094_with_bit_0_set() {
+    let fit = one(BRANCH, &word(0x63), 0x1000, 0x1000 + 4_094);
+    assert_eq!(fit.clone().with_flags(RVC).answer_of_both(), (0, 0));
+    assert_eq!(laid_word(&fit.clone().with_flags(RVC)), 0x7E00_0FE3);
+    assert_eq!(fit.with_flags(0).answer_of_both(), (13, 0), "clear");
+}
+
+#[test]
+fn compressed_with_bit_0_set() {
     assert_eq!(insert(CJ, 0xA001, -2), 0xBFFD);
     assert_eq!(insert(CB, 0xC101, 8), 0xC501);
-    let fit = one(RVC_JUMP, &[0x01, 0xA0], 0x1000, 0x1000 - 2);
+    let fit = one(RVC_JUMP, &[0x01, 0xA0], 0x1000, 0x1000 - 2).with_flags(RVC);
     assert_eq!(laid_word(&fit), 0xBFFD);
-    let fit = one(RVC_BRANCH, &[0x01, 0xC1], 0x1000, 0x1000 + 8);
+    assert_eq!(fit.with_flags(0).answer_of_both(), (9, 0), "clear");
+    let fit = one(RVC_BRANCH, &[0x01, 0xC1], 0x1000, 0x1000 + 8).with_flags(RVC);
     assert_eq!(laid_word(&fit), 0xC501);
+    assert_eq!(fit.with_flags(0).answer_of_both(), (9, 0), "clear");
 }
 
 #[test]
@@ -225,10 +248,23 @@ fn error_stacked_from_the_objects_value() {
 /// Number, place and the bytes after a jump across the top of memory, in each
 /// class. Both places are so many bytes above 0 or below it.
 fn across(kind: u32, width: usize, before: u32, from: i64, to: i64) -> [(u32, u32, u64); 2] {
+    across_with(RVC, kind, width, before, from, to)
+}
+
+/// The same with these e_flags.
+fn across_with(
+    flags: u32,
+    kind: u32,
+    width: usize,
+    before: u32,
+    from: i64,
+    to: i64,
+) -> [(u32, u32, u64); 2] {
     Class::ALL.map(|class| {
         let [from, to] = [from, to].map(|place| i128::from(place).rem_euclid(class.address_end()));
         let bytes = &word(before)[..width];
-        let mut fit = one(kind, bytes, from as u64, to as u64).of(class);
+        let fit = one(kind, bytes, from as u64, to as u64).of(class);
+        let mut fit = fit.with_flags(flags);
         fit.image.truncate(64 + width);
         match fit.answer() {
             (0, 0) => (0, 0, number_from(&fit.laid())),
@@ -279,6 +315,24 @@ fn compressed_across_the_top() {
     assert_eq!(branch(-2, 256 - 2), [(13, 0, 0xC101); 2]);
     assert_eq!(branch(0, -256), [(0, 0, 0xD101); 2]);
     assert_eq!(branch(0, -258), [(13, 0, 0xC101); 2]);
+}
+
+/// With the bit clear: "T - P reduced" that is no multiple of 4 gives 13.
+#[test]
+fn across_the_top_with_bit_0_clear() {
+    let jal = |from, to| across_with(0, JAL, 4, 0xEF, from, to);
+    assert_eq!(jal(-0x10, 0x10), [(0, 0, 0x0200_00EF); 2]);
+    assert_eq!(jal(-0x10, 0x12), [(13, 0, 0xEF); 2]);
+    assert_eq!(jal(-0x10, 1_048_572 - 0x10), [(0, 0, 0x7FDF_F0EF); 2]);
+    assert_eq!(jal(-0x10, 1_048_574 - 0x10), [(13, 0, 0xEF); 2]);
+    assert_eq!(jal(4, 4 - 1_048_576), [(0, 0, 0x8000_00EF); 2]);
+    let branch = |from, to| across_with(0, BRANCH, 4, 0x63, from, to);
+    assert_eq!(branch(4, -4), [(0, 0, 0xFE00_0CE3); 2]);
+    assert_eq!(branch(4, -6), [(13, 0, 0x63); 2]);
+    assert_eq!(branch(-6, -2), [(0, 0, 0x0000_0263); 2]);
+    assert_eq!(branch(-4, 4_094 - 4), [(13, 0, 0x63); 2]);
+    let short = |from, to| across_with(0, RVC_JUMP, 2, 0xA001, from, to);
+    assert_eq!(short(-2, 2), [(9, 0, 0xA001); 2]);
 }
 
 /// A fit of class 2.
@@ -345,5 +399,6 @@ fn addiw() {
 fn compressed_jal() {
     let jal = one(RVC_JUMP, &[0x01, 0x20], 0x1000, 0x1000 - 2);
     assert_eq!(number_from(&jal.laid()), 0x3FFD);
-    assert_eq!(jal.of(Class::Elf64).answer(), (11, 0));
+    assert_eq!(jal.clone().of(Class::Elf64).answer(), (11, 0));
+    assert_eq!(jal.with_flags(0).answer_of_both(), (9, 0), "bit 0 clear");
 }

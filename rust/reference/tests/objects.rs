@@ -1,22 +1,14 @@
 //! Objects made by real assemblers and compilers, installed and compared with
-//! the bytes that a real linker lays. `objects/README.md` says how they are made.
+//! the bytes that a real linker lays. `objects/README.md` says how they are made,
+//! and which of them are refused.
 
 use std::collections::BTreeSet;
-use std::fs;
-use std::path::{Path, PathBuf};
 
 use reference::journal::Standing;
 use reference::object::{Header, Object};
 use reference::{install, rollback, Answer, Class};
-
-/// What the image holds before an install.
-const FILL: u8 = 0xA5;
-
-/// Document 01: a done call, `0 0`.
-const DONE: Answer = Answer {
-    number: 0,
-    place: 0,
-};
+use testing::answer;
+use testing::given::{objects, Given, FILL};
 
 /// The journal's length without old bytes. Document 01: 136.
 const JOURNAL_HEAD: usize = 136;
@@ -27,98 +19,67 @@ const TYPES: [u32; 30] = [
     52, 53, 54, 55, 56, 57,
 ];
 
-/// One case: the object, the order, and the image as the linker lays it.
-struct Case {
-    name: String,
-    object: Vec<u8>,
-    order: Vec<u8>,
-    laid: Vec<u8>,
-}
-
-fn objects_folder() -> PathBuf {
-    Path::new(env!("CARGO_MANIFEST_DIR")).join("../../objects")
-}
-
-fn cases() -> Vec<Case> {
-    let mut folders: Vec<PathBuf> = fs::read_dir(objects_folder())
-        .expect("objects")
-        .map(|entry| entry.expect("entry").path())
-        .filter(|path| path.is_dir())
-        .collect();
-    folders.sort();
-    folders.iter().map(|folder| read_case(folder)).collect()
-}
-
-fn read_case(folder: &Path) -> Case {
-    let name = folder
-        .file_name()
-        .expect("name")
-        .to_string_lossy()
-        .into_owned();
-    let read = |file: &str| {
-        fs::read(folder.join(file)).unwrap_or_else(|why| panic!("{name}/{file}: {why}"))
-    };
-    Case {
-        object: read(&format!("{name}.o")),
-        order: read("order"),
-        laid: read("image"),
-        name,
-    }
-}
-
 /// An empty sound journal with room for a span of the whole image. The room is
 /// zero, as a rollback leaves the bytes that it releases.
 fn empty_journal(room: usize) -> Vec<u8> {
     vec![0; JOURNAL_HEAD + room]
 }
 
-/// The class of an object, and the types of the relocations whose target
-/// section is allocated.
-fn relocation_types(object: &[u8]) -> (Class, BTreeSet<u32>) {
+/// What a test asks of an object.
+struct Kinds {
+    class: Class,
+    has_compressed: bool,
+    /// The types of the relocations whose target section is allocated.
+    types: BTreeSet<u32>,
+}
+
+fn kinds(object: &[u8]) -> Kinds {
     let header = Header::read(object).expect("check 4 has passed");
-    let class = header.class;
     let object = Object::read(object, header).expect("check 5 has passed");
     let lists = object.relocation_sections();
     let relocations = lists.iter().flat_map(|list| &list.relocations);
-    (
-        class,
-        relocations.map(|relocation| relocation.kind).collect(),
-    )
+    Kinds {
+        class: object.class(),
+        has_compressed: object.has_compressed(),
+        types: relocations.map(|relocation| relocation.kind).collect(),
+    }
 }
 
-/// The install is done and lays the linker's bytes; its rollback brings image
-/// and journal back. Otherwise, what is wrong.
-fn try_case(case: &Case) -> Result<(), String> {
-    let mut image = vec![FILL; case.laid.len()];
+/// The install gives the answer and the bytes; its rollback brings image and
+/// journal back, and after a refusal they are as before. Otherwise, what is wrong.
+fn try_case(case: &Given) -> Result<(), String> {
+    let mut image = vec![FILL; case.image_length];
     let mut journal = empty_journal(image.len());
     let before = (image.clone(), journal.clone());
 
-    let answer = install(&case.object, &case.order, &mut image, &mut journal);
-    if answer != DONE {
-        return Err(format!("install {} {}", answer.number, answer.place));
+    let given = install(&case.object, &case.order, &mut image, &mut journal);
+    if given != answer(case.answer.0, case.answer.1) {
+        return Err(format!("install {} {}", given.number, given.place));
     }
-    if let Some(at) = (0..image.len()).find(|&at| image[at] != case.laid[at]) {
-        let (ours, laid) = (image[at], case.laid[at]);
+    let laid = case.image.as_ref().expect("an image");
+    if let Some(at) = (0..image.len()).find(|&at| image[at] != laid[at]) {
+        let (ours, laid) = (image[at], laid[at]);
         return Err(format!("byte {at:#x} is {ours:02x}, laid {laid:02x}"));
     }
     let standing = Standing::read(&journal, image.len()).map(|standing| standing.spans.len());
-    if standing != Some(1) {
+    if standing != Some(usize::from(given == Answer::DONE)) {
         return Err(format!("the journal counts {standing:?}"));
     }
-
-    let answer = rollback(&mut image, &mut journal);
-    if answer != DONE {
-        return Err(format!("rollback {} {}", answer.number, answer.place));
+    if given == Answer::DONE {
+        let back = rollback(&mut image, &mut journal);
+        if back != Answer::DONE {
+            return Err(format!("rollback {} {}", back.number, back.place));
+        }
     }
     if (image, journal) != before {
-        return Err("the rollback left something".to_string());
+        return Err("image or journal are not as before".to_string());
     }
     Ok(())
 }
 
 #[test]
 fn installs_what_a_linker_lays() {
-    let cases = cases();
+    let cases = objects();
     assert!(cases.len() >= 25, "{} cases", cases.len());
     let faults: Vec<String> = cases
         .iter()
@@ -127,17 +88,35 @@ fn installs_what_a_linker_lays() {
     assert!(faults.is_empty(), "{}", faults.join("\n"));
 }
 
+/// The types of the done cases of a class, with these e_flags.
+fn types_of(class: Class, is_wanted: impl Fn(&Kinds) -> bool) -> BTreeSet<u32> {
+    let done = objects().into_iter().filter(|case| case.answer == (0, 0));
+    let kinds = done.map(|case| kinds(&case.object));
+    let wanted = kinds.filter(|kinds| kinds.class == class && is_wanted(kinds));
+    wanted.flat_map(|kinds| kinds.types).collect()
+}
+
 #[test]
 fn covers_every_relocation_type() {
-    let types: Vec<_> = cases()
-        .iter()
-        .map(|case| relocation_types(&case.object))
-        .collect();
     for (class, own) in [(Class::Elf32, None), (Class::Elf64, Some(2))] {
-        let of_class = types.iter().filter(|(other, _)| *other == class);
-        let seen: BTreeSet<u32> = of_class.flat_map(|(_, types)| types).copied().collect();
+        let seen = types_of(class, |_| true);
         let all = TYPES.into_iter().chain(own);
         let missing: Vec<u32> = all.filter(|kind| !seen.contains(kind)).collect();
         assert!(missing.is_empty(), "{class:?}, not seen: {missing:?}");
+    }
+}
+
+/// With bit 0 of e_flags clear, jumps, branches and both calls are laid, and no
+/// compressed instruction; both refusals occur.
+#[test]
+fn without_compressed_instructions() {
+    for class in Class::ALL {
+        let seen = types_of(class, |kinds| !kinds.has_compressed);
+        assert!([16, 17, 18, 19].iter().all(|kind| seen.contains(kind)));
+        assert!([44, 45].iter().all(|kind| !seen.contains(kind)));
+        let own = |case: &Given| Class::of(&case.object) == Some(class);
+        let cases = objects().into_iter().filter(own);
+        let numbers: BTreeSet<u32> = cases.map(|case| case.answer.0).collect();
+        assert_eq!(numbers, BTreeSet::from([0, 9, 13]), "{class:?}");
     }
 }

@@ -12,6 +12,10 @@ pub const NOBITS: u32 = 8;
 pub const REL: u32 = 9;
 pub const ALLOCATED: u64 = 2;
 
+/// e_flags bit 0: the code may have compressed instructions. Most real objects
+/// have it set, and so has every object here that does not say otherwise.
+pub const RVC: u32 = 1;
+
 pub const ABSOLUTE: u16 = 0xFFF1;
 pub const GLOBAL: u8 = 0x10;
 pub const WEAK: u8 = 0x20;
@@ -141,6 +145,14 @@ pub fn header_size(class: Class) -> usize {
     }
 }
 
+/// Where the header has e_flags.
+pub fn flags_at(class: Class) -> usize {
+    match class {
+        Class::Elf32 => 36,
+        Class::Elf64 => 48,
+    }
+}
+
 /// How long a section header is.
 pub fn section_size(class: Class) -> usize {
     match class {
@@ -238,6 +250,11 @@ impl Relocation {
 
 /// The object with these sections: header, section bytes, section headers.
 pub fn object(class: Class, sections: &[Section]) -> Vec<u8> {
+    object_with(class, RVC, sections)
+}
+
+/// The same with these e_flags.
+pub fn object_with(class: Class, flags: u32, sections: &[Section]) -> Vec<u8> {
     let mut file = vec![0; header_size(class)];
     let mut table = Vec::new();
     for section in sections {
@@ -245,13 +262,13 @@ pub fn object(class: Class, sections: &[Section]) -> Vec<u8> {
         table.extend(section.header(class, file.len() as u64, contents.len() as u64));
         file.extend(contents);
     }
-    let header = header(class, file.len() as u64, sections.len() as u16);
+    let header = header(class, flags, file.len() as u64, sections.len() as u16);
     file[..header.len()].copy_from_slice(&header);
     file.extend(table);
     file
 }
 
-fn header(class: Class, section_table: u64, section_count: u16) -> Vec<u8> {
+fn header(class: Class, flags: u32, section_table: u64, section_count: u16) -> Vec<u8> {
     let number = |number| number_of(class, number);
     let half = |half: u16| half.to_le_bytes().to_vec();
     let class_byte = match class {
@@ -268,7 +285,7 @@ fn header(class: Class, section_table: u64, section_count: u16) -> Vec<u8> {
         number(0),        // e_entry
         number(0),        // e_phoff
         number(section_table),
-        vec![0; 4], // e_flags
+        flags.to_le_bytes().to_vec(),
         half(header_size(class) as u16),
         half(0), // e_phentsize
         half(0), // e_phnum
@@ -307,6 +324,8 @@ pub fn journal(room: usize) -> Vec<u8> {
 #[derive(Clone, Debug)]
 pub struct Fit {
     pub class: Class,
+    /// e_flags.
+    pub flags: u32,
     pub sections: Vec<Section>,
     pub base: u64,
     pub placements: Vec<(u32, u64)>,
@@ -323,6 +342,7 @@ impl Fit {
         let all_symbols = [&[Symbol::default()], symbols].concat();
         Fit {
             class: Class::Elf32,
+            flags: RVC,
             sections: vec![
                 Section::default(),
                 Section::loaded(1, bytes),
@@ -346,6 +366,7 @@ impl Fit {
         all.extend(sections.iter().map(|(section, _)| section.clone()));
         Fit {
             class: Class::Elf32,
+            flags: RVC,
             sections: all,
             base,
             placements: placements.collect(),
@@ -360,8 +381,13 @@ impl Fit {
         Fit { class, ..self }
     }
 
+    /// The same with these e_flags.
+    pub fn with_flags(self, flags: u32) -> Fit {
+        Fit { flags, ..self }
+    }
+
     pub fn object(&self) -> Vec<u8> {
-        object(self.class, &self.sections)
+        object_with(self.class, self.flags, &self.sections)
     }
 
     pub fn order(&self) -> Vec<u8> {

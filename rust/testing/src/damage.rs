@@ -62,7 +62,7 @@ pub fn vector_inputs() -> Vec<Input> {
 /// A right input with up to three wounds, and now and then wholly random bytes.
 pub fn damage(random: &mut Random, input: &mut Input) {
     for _ in 0..random.below(4) {
-        match random.below(16) {
+        match random.below(17) {
             0..=3 => wound_table(random, &mut input.object),
             4..=6 => wound_relocation(random, &mut input.object),
             7..=8 => wound_bytes(random, &mut input.object),
@@ -70,6 +70,7 @@ pub fn damage(random: &mut Random, input: &mut Input) {
             11..=12 => wound_bytes(random, &mut input.journal),
             13 => wound_bytes(random, &mut input.image),
             14 => *part(random, input) = some_bytes(random),
+            15 => wound_flags(random, &mut input.object),
             _ => wound_header(random, &mut input.object),
         }
     }
@@ -171,6 +172,16 @@ fn wound_header(random: &mut Random, object: &mut [u8]) {
     ]);
     let value = boundary(random, object.len());
     put(object, at, value, 2);
+}
+
+/// Bit 0 of e_flags turned around, or any e_flags.
+fn wound_flags(random: &mut Random, object: &mut [u8]) {
+    let at = class_of(object).layout().e_flags;
+    let flags = match random.below(4) {
+        0 => u64::from(random.u32()),
+        _ => get(object, at, 4) as u64 ^ 1,
+    };
+    put(object, at, flags, 4);
 }
 
 /// What the object says of itself, or class 1 where it says neither.

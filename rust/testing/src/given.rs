@@ -4,7 +4,11 @@
 use std::fs;
 use std::path::Path;
 
+use crate::build::{flags_at, Class, RVC};
 use crate::vectors::{bytes, bytes_after, lines, number};
+
+/// What the image holds before a fit of a real object.
+pub const FILL: u8 = 0xA5;
 
 /// What a fit is asked with, besides the ledger, its number and place, and the
 /// image after it, where that is given.
@@ -54,8 +58,9 @@ pub fn histories() -> Vec<Given> {
     fits
 }
 
-/// The real objects with their orders, and the image as a linker lays it. All of
-/// these fits are done.
+/// The real objects with their orders, and the image as a linker lays it. Where a
+/// folder has an answer, the fit is refused, because bit 0 of e_flags is clear; the
+/// same object with the bit set follows, and is done as all others are.
 pub fn objects() -> Vec<Given> {
     let folder = Path::new(env!("CARGO_MANIFEST_DIR")).join("../../objects");
     let entries = fs::read_dir(&folder).expect("objects");
@@ -65,16 +70,31 @@ pub fn objects() -> Vec<Given> {
         .map(|entry| entry.file_name().into_string().expect("a name"))
         .collect();
     names.sort();
-    let read = |name: String| {
-        let file = |file: &str| fs::read(folder.join(&name).join(file)).expect("a file");
-        Given {
-            object: file(&format!("{name}.o")),
-            order: file("order"),
-            image_length: file("image").len(),
-            answer: (0, 0),
-            image: Some(file("image")),
-            name,
-        }
+    let read = |name: &String| read_object(&folder.join(name), name);
+    names.iter().flat_map(read).collect()
+}
+
+fn read_object(folder: &Path, name: &str) -> Vec<Given> {
+    let file = |file: &str| fs::read(folder.join(file)).expect("a file");
+    let mut done = Given {
+        name: name.into(),
+        object: file(&format!("{name}.o")),
+        order: file("order"),
+        image_length: file("image").len(),
+        answer: (0, 0),
+        image: Some(file("image")),
     };
-    names.into_iter().map(read).collect()
+    let Ok(answer) = fs::read_to_string(folder.join("answer")) else {
+        return vec![done];
+    };
+    let mut words = answer.split_whitespace().map(number);
+    let refused = Given {
+        answer: words.next().zip(words.next()).expect("number and place"),
+        image: Some(vec![FILL; done.image_length]),
+        ..done.clone()
+    };
+    let class = Class::of(&done.object).expect("a class");
+    done.object[flags_at(class)] |= RVC as u8;
+    done.name += ", bit 0 of e_flags set";
+    vec![refused, done]
 }

@@ -1,20 +1,18 @@
-//! Every limit of document 01 and of Tickets 1, 3 and 7, in both classes: at its
-//! value, and one past it.
+//! Every limit of document 01 and of Tickets 1, 3, 5 and 7, in both classes: at
+//! its value, and one past it.
+
+mod jumps;
 
 use crate::build::*;
 use crate::damage::Input;
 
 const WORD: u32 = 1;
 const WORD_64: u32 = 2;
-const BRANCH: u32 = 16;
 const JAL: u32 = 17;
-const CALL: u32 = 18;
-const CALL_PLT: u32 = 19;
 const PCREL_HI20: u32 = 23;
 const PCREL_LO12_I: u32 = 24;
 const HI20: u32 = 26;
 const LO12_I: u32 = 27;
-const RVC_BRANCH: u32 = 44;
 const RVC_JUMP: u32 = 45;
 const RELAX: u32 = 51;
 
@@ -54,6 +52,7 @@ pub fn limits() -> Vec<Limit> {
         limits.placing();
         limits.ledger_room();
         limits.jumps();
+        limits.jumps_without_compressed();
         match class {
             Class::Elf32 => limits.of_class_1(),
             Class::Elf64 => limits.of_class_2(),
@@ -409,68 +408,6 @@ impl Limits {
             for kind in [WORD, WORD_64, RELAX, JAL] {
                 let fit = code(&[], &[Relocation::new(offset, kind, 0, 0)]);
                 self.add(format!("type {kind} at {offset:#x}"), fit, (9, 0));
-            }
-        }
-    }
-
-    /// "T - P reduced to the signed range of the address width": jumps and branches
-    /// in the middle of memory and from each end of it across the top. Half of it
-    /// away is too far, both ways.
-    fn jumps(&mut self) {
-        let rows: [(u32, &[u8], u64); 4] = [
-            (BRANCH, &[0x63, 0, 0, 0], 4_096),
-            (JAL, &[0x6F, 0, 0, 0], 1_048_576),
-            (RVC_BRANCH, &[0x01, 0xC1], 256),
-            (RVC_JUMP, &[0x01, 0xA0], 2_048),
-        ];
-        let half = self.top / 2 + 1;
-        for (kind, bytes, reach) in rows {
-            for place in [0, half, self.top - 3] {
-                for (distance, answer) in [
-                    (0_u64.wrapping_sub(reach), DONE),
-                    (0_u64.wrapping_sub(reach + 2), (13, 0)),
-                    (reach - 2, DONE),
-                    (reach, (13, 0)),
-                    (half, (13, 0)),
-                ] {
-                    let target = place.wrapping_add(distance) & self.top;
-                    self.from(place, kind, bytes, target, answer);
-                }
-            }
-        }
-    }
-
-    /// One relocation at the start of a section that may end with the memory.
-    fn from(&mut self, place: u64, kind: u32, bytes: &[u8], target: u64, answer: (u32, u32)) {
-        let list = [Relocation::new(0, kind, 1, 0)];
-        let mut fit = Fit::code(place, bytes, &[Symbol::absolute(target)], &list);
-        fit.image.truncate(64 + bytes.len());
-        let name = format!("type {kind} from {place:#x} to {target:#x}");
-        self.add(name, fit, answer);
-    }
-
-    /// "-2,147,485,696..2,147,481,599", and one step past each end.
-    fn ends_of_halves(&mut self) {
-        let call = [0x97, 0, 0, 0, 0xE7, 0x80, 0, 0];
-        let rows: [(u32, &[u8], u64); 4] = [
-            (PCREL_HI20, &[0x17, 0x05, 0, 0], 1),
-            (HI20, &[0x37, 0x05, 0, 0], 1),
-            (CALL, &call, 2),
-            (CALL_PLT, &call, 2),
-        ];
-        for (kind, bytes, step) in rows {
-            for place in [0x1000, (1 << 63) + 0x1000, self.top - 7] {
-                let from = if kind == HI20 { 0 } else { place };
-                let lowest = from.wrapping_sub(2_147_485_696);
-                let highest = from.wrapping_add(2_147_481_600).wrapping_sub(step);
-                for (target, answer) in [
-                    (lowest, DONE),
-                    (highest, DONE),
-                    (lowest.wrapping_sub(step), (13, 0)),
-                    (highest.wrapping_add(step), (13, 0)),
-                ] {
-                    self.from(place, kind, bytes, target, answer);
-                }
             }
         }
     }

@@ -148,7 +148,7 @@ pub struct Given {
 /// repository, where they are there.
 pub fn histories() -> Vec<Given> {
     let mut given = read_histories("history", lines("histories.txt"));
-    if let Some(shared) = shared_lines("histories-after-1-3-7.txt") {
+    if let Some(shared) = shared_lines("histories-after-1-3-5-7.txt") {
         given.extend(read_histories("shared history", shared));
     }
     given

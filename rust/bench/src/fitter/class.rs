@@ -4,7 +4,7 @@
 
 use super::bytes::{u16_at, u32_at, u64_at};
 use super::forms::{MISSING_FORMS_32, MISSING_FORMS_64};
-use super::types::{Effect, Rules, EFFECTS_32, EFFECTS_64, RULES_32, RULES_64};
+use super::types::{Effect, Table, EFFECTS_32, EFFECTS_64, RULES_32, RULES_64};
 
 /// A number as long as an address of the class.
 pub trait Word: Copy + Ord + Default {
@@ -37,8 +37,13 @@ impl Word for u64 {
     }
 }
 
+/// Bit 0 of e_flags, in its first byte.
+const RVC: u8 = 1;
+
 /// What the header says that later checks need.
 pub struct Header {
+    /// e_flags bit 0.
+    pub has_compressed: bool,
     pub section_table: u64,
     pub section_entry_size: u16,
     pub section_count: u16,
@@ -74,7 +79,8 @@ pub trait Class: 'static {
     const ALIGNMENT: usize;
     const ENTRY_SIZE: usize;
 
-    const RULES: &'static [Rules; 256];
+    /// Without compressed instructions, and with them.
+    const RULES: &'static [Table; 2];
     const EFFECTS: &'static [Effect; 256];
     const MISSING_FORMS: &'static [u8; 2_048];
 
@@ -128,7 +134,7 @@ impl Class for Elf32 {
     const ALIGNMENT: usize = 32;
     const ENTRY_SIZE: usize = 36;
 
-    const RULES: &'static [Rules; 256] = &RULES_32;
+    const RULES: &'static [Table; 2] = &RULES_32;
     const EFFECTS: &'static [Effect; 256] = &EFFECTS_32;
     const MISSING_FORMS: &'static [u8; 2_048] = &MISSING_FORMS_32;
 
@@ -136,6 +142,7 @@ impl Class for Elf32 {
         let header: &[u8; 52] = file.first_chunk()?;
         // e_ehsize
         (u16_at(header, 40) == 52).then_some(Header {
+            has_compressed: header[36] & RVC != 0,
             section_table: u64::from(u32_at(header, 32)),
             section_entry_size: u16_at(header, 46),
             section_count: u16_at(header, 48),
@@ -232,7 +239,7 @@ impl Class for Elf64 {
     const ALIGNMENT: usize = 48;
     const ENTRY_SIZE: usize = 56;
 
-    const RULES: &'static [Rules; 256] = &RULES_64;
+    const RULES: &'static [Table; 2] = &RULES_64;
     const EFFECTS: &'static [Effect; 256] = &EFFECTS_64;
     const MISSING_FORMS: &'static [u8; 2_048] = &MISSING_FORMS_64;
 
@@ -240,6 +247,7 @@ impl Class for Elf64 {
         let header: &[u8; 64] = file.first_chunk()?;
         // e_ehsize
         (u16_at(header, 52) == 64).then_some(Header {
+            has_compressed: header[48] & RVC != 0,
             section_table: u64_at(header, 40),
             section_entry_size: u16_at(header, 58),
             section_count: u16_at(header, 60),

@@ -22,7 +22,7 @@ pub fn first_broken<C: Class, const N: usize>(
     entry: Entry,
     before: &Before,
 ) -> u32 {
-    let rules = entry.rules::<C>();
+    let rules = list.rules(entry);
     let offset = i64::from(entry.offset);
     match rules.way {
         Way::Refused => return 9,

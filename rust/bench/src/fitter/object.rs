@@ -3,6 +3,7 @@
 
 use super::bytes::{u16_at, u32_at};
 use super::class::{Class, Header};
+use super::types::Table;
 use super::MAX_BYTES;
 
 const NULL: u32 = 0;
@@ -85,6 +86,8 @@ impl<C: Class> Section<'_, C> {
 /// An object that passed checks 4 and 5.
 pub struct Object<'a, C: Class> {
     pub file: &'a [u8],
+    /// What the types of its relocations ask for.
+    pub rules: &'static Table,
     headers: &'a [C::Section],
     /// The sections that are allocated.
     pub allocated: Set,
@@ -101,6 +104,7 @@ impl<'a, C: Class> Object<'a, C> {
     pub fn read(file: &'a [u8], header: &Header) -> Result<Object<'a, C>, u32> {
         let mut object = Object {
             file,
+            rules: &C::RULES[usize::from(header.has_compressed)],
             headers: section_headers::<C>(file, header).ok_or(0_u32)?,
             allocated: 0,
             loaded: 0,

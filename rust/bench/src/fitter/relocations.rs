@@ -8,12 +8,13 @@ use super::object::{Object, MAX_RELOCATIONS};
 use super::pairs::{HighHalves, Room};
 use super::placing::Addresses;
 use super::symbols::Symbols;
-use super::types::{Rules, Way};
+use super::types::{Rules, Table, Way};
 use super::{refusal, Answer};
 
 /// One RELA section, and what it patches.
 pub struct List<'a, C: Class> {
     pub relocations: &'a [C::Relocation],
+    rules: &'static Table,
     /// The index of the section that is patched.
     pub target: usize,
     /// The file from the first byte of that section on.
@@ -28,6 +29,12 @@ impl<C: Class> List<'_, C> {
     #[inline(always)]
     pub fn place(&self, entry: Entry) -> u64 {
         self.address.wrapping_add(u64::from(entry.offset))
+    }
+
+    /// What a relocation's type asks for.
+    #[inline(always)]
+    pub fn rules(&self, entry: Entry) -> &'static Rules {
+        &self.rules[usize::from(entry.kind)]
     }
 }
 
@@ -53,16 +60,10 @@ impl Entry {
             addend: raw.addend,
         }
     }
-
-    /// What the type asks for.
-    #[inline(always)]
-    pub fn rules<C: Class>(&self) -> &'static Rules {
-        &C::RULES[usize::from(self.kind)]
-    }
 }
 
 /// The bits that are wrong in the distance from a place to S + A: none where it
-/// is in reach, and even if it must be.
+/// is in reach, and even or a multiple of 4 if it must be.
 #[inline(always)]
 pub fn wrong_distance<C: Class>(value: C::Word, entry: Entry, place: u64, rules: &Rules) -> i64 {
     let t = C::Word::cut(value.whole().wrapping_add_signed(entry.addend));
@@ -155,6 +156,7 @@ pub fn check<C: Class, const N: usize>(
         let section = object.section(target);
         let list = List {
             relocations,
+            rules: object.rules,
             target,
             bytes: object.bytes_from(section),
             size: section.size() as i64,
@@ -217,7 +219,7 @@ fn check_from<C: Class, const N: usize>(
         };
         let index = list.relocations.len() - rest.len();
         let entry = Entry::read::<C>(relocation);
-        let rules = entry.rules::<C>();
+        let rules = list.rules(entry);
         if rules.way == Way::Pair && high_halves.is_none() {
             return Ok(Reached::Pair(index, before));
         }
@@ -248,7 +250,7 @@ fn pass<'r, C: Class, const N: usize, const PAIRS: bool>(
     while let Some((relocation, behind)) = rest.split_first() {
         let entry = Entry::read::<C>(relocation);
         let offset = i64::from(entry.offset);
-        let rules = entry.rules::<C>();
+        let rules = list.rules(entry);
         let holds = match rules.way {
             Way::Plain => holds(list, symbols, entry, rules, &now),
             Way::Call => is_call_at(list, entry) && holds(list, symbols, entry, rules, &now),

@@ -1,6 +1,7 @@
-//! What each type number asks for, as two tables of 256 lines for each class:
-//! what the checks look at, and what is laid. Every line has the same shape, and
-//! a number that changes nothing where a type does not ask for something.
+//! What each type number asks for, as tables of 256 lines for each class: what
+//! the checks look at, with and without compressed instructions, and what is laid.
+//! Every line has the same shape, and a number that changes nothing where a type
+//! does not ask for something.
 
 use super::forms::form;
 
@@ -30,7 +31,8 @@ pub struct Rules {
     /// everything.
     pub reach: i64,
     /// The bits that are 0 in the sum of distance and reach: all that a sum in
-    /// reach does not have, and the lowest where the distance must be even.
+    /// reach does not have, and the lowest where the distance must be even, or
+    /// the lowest two where it must be a multiple of 4.
     pub outside: i64,
     /// How many bytes are touched.
     pub width: u8,
@@ -200,6 +202,19 @@ const fn rules_of(kind: u8) -> Rules {
     }
 }
 
+/// The line of a type in an object without compressed instructions: what stands
+/// at such a one is refused, and a distance that must be even is a multiple of 4.
+const fn without_compressed(rules: Rules) -> Rules {
+    const COMPRESSED: u8 = form::COMPRESSED_BRANCH | form::COMPRESSED_JUMP;
+    match rules.form & COMPRESSED {
+        0 => Rules {
+            outside: rules.outside | (rules.outside & 1) << 1,
+            ..rules
+        },
+        _ => REFUSED,
+    }
+}
+
 const NOTHING: Effect = Effect {
     straight: 0,
     up_20: 0,
@@ -358,17 +373,23 @@ const fn effect_of_64(kind: u8) -> Effect {
     }
 }
 
-const fn all_rules(is_64: bool) -> [Rules; 256] {
-    let mut lines = [REFUSED; 256];
+/// What the checks look at, for every type number.
+pub type Table = [Rules; 256];
+
+/// The table without compressed instructions, and the one with them.
+const fn all_rules(is_64: bool) -> [Table; 2] {
+    let mut tables = [[REFUSED; 256]; 2];
     let mut kind = 0;
     while kind < 256 {
-        lines[kind] = match is_64 {
+        let rules = match is_64 {
             true => rules_of_64(kind as u8),
             false => rules_of(kind as u8),
         };
+        tables[0][kind] = without_compressed(rules);
+        tables[1][kind] = rules;
         kind += 1;
     }
-    lines
+    tables
 }
 
 const fn all_effects(is_64: bool) -> [Effect; 256] {
@@ -384,7 +405,7 @@ const fn all_effects(is_64: bool) -> [Effect; 256] {
     lines
 }
 
-pub static RULES_32: [Rules; 256] = all_rules(false);
-pub static RULES_64: [Rules; 256] = all_rules(true);
+pub static RULES_32: [Table; 2] = all_rules(false);
+pub static RULES_64: [Table; 2] = all_rules(true);
 pub static EFFECTS_32: [Effect; 256] = all_effects(false);
 pub static EFFECTS_64: [Effect; 256] = all_effects(true);

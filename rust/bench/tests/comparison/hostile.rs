@@ -1,9 +1,9 @@
 //! What a fitter written for speed may get wrong: pairs where offsets fall or
-//! meet, places that are shared across markers, and fields in the last bytes of
-//! a section or of the file.
+//! meet, places that are shared across markers, jumps without compressed
+//! instructions, and fields in the last bytes of a section or of the file.
 
 use bench::inputs::Call;
-use testing::build::{object, Class, Fit, Relocation, Section, Symbol};
+use testing::build::{object_with, Class, Fit, Relocation, Section, Symbol, RVC};
 use testing::damage::Input;
 use testing::random::Random;
 
@@ -40,10 +40,11 @@ fn answer_of_both(fit: &Fit) -> (u32, u32) {
     first
 }
 
-/// Far halves and jumps: T and P anywhere, often just in reach or just out of it.
+/// Far halves and jumps: T and P anywhere, often just in reach or just out of it,
+/// with bit 0 of e_flags set and clear.
 fn distances(random: &mut Random) -> Fit {
     let place = match random.below(4) {
-        0 => random.pick(&[0, 0x1000]),
+        0 => random.pick(&[0, 2, 0x1000, 0x1002]),
         1 => random.u64() & !0xFFF,
         2 => 0_u64.wrapping_sub(random.pick(&[8, 0x1000])),
         _ => 1 << random.pick(&[31, 32, 63]),
@@ -74,13 +75,13 @@ fn distances(random: &mut Random) -> Fit {
     let list = [Relocation::new(0, kind, 1, addend)];
     let mut fit = Fit::code(place, &bytes, &symbols, &list);
     fit.image.truncate(64 + bytes.len());
-    fit
+    fit.with_flags(random.pick(&[RVC, u32::MAX, 0, !RVC]))
 }
 
 #[test]
 fn far_and_near() {
     let counts = compare_all(CASES, distances);
-    for number in [0, 13] {
+    for number in [0, 9, 13] {
         assert!(counts[number] >= 2_000, "answer {number} occurs");
     }
 }
@@ -236,7 +237,7 @@ fn shared_places() {
 }
 
 /// Every opcode with every funct3, compressed or not, at every type that asks
-/// for an instruction.
+/// for an instruction, with bit 0 of e_flags set and clear.
 #[test]
 fn instructions() {
     let mut counts = Counts::default();
@@ -251,11 +252,15 @@ fn instructions() {
                 [0x97, word | 0x8000],
             ];
             for words in words {
-                for class in Class::ALL {
-                    let input = Input::from(&at_instruction(kind, words).of(class));
-                    let outcome = compare(&input, Call::Fit);
-                    let outcome = outcome
-                        .unwrap_or_else(|wrong| panic!("{kind}, {words:x?}, {class:?}: {wrong}"));
+                for (class, flags) in Class::ALL
+                    .into_iter()
+                    .flat_map(|class| [(class, 0), (class, RVC)])
+                {
+                    let fit = at_instruction(kind, words).of(class).with_flags(flags);
+                    let outcome = compare(&Input::from(&fit), Call::Fit);
+                    let outcome = outcome.unwrap_or_else(|wrong| {
+                        panic!("{kind}, {words:x?}, {class:?}, {flags}: {wrong}")
+                    });
                     counts[outcome.answer.0 as usize] += 1;
                 }
             }
@@ -321,10 +326,14 @@ fn the_last_bytes_of_a_file() {
     ] {
         let list = [Relocation::new(0, kind, 1, 0)];
         let fit = Fit::code(0x1000, &bytes, &[Symbol::absolute(0x1010)], &list);
-        for fit in Class::ALL.map(|class| fit.clone().of(class)) {
-            let mut input = Input::from(&fit);
-            input.object = with_section_last(&fit, &bytes);
-            assert_eq!(answer(&input), (number, 0), "type {kind}, {bytes:x?}");
+        let is_short = kind == 44 || kind == 45;
+        for (flags, number) in [(RVC, number), (0, if is_short { 9 } else { number })] {
+            for class in Class::ALL {
+                let fit = fit.clone().of(class).with_flags(flags);
+                let mut input = Input::from(&fit);
+                input.object = with_section_last(&fit, &bytes);
+                assert_eq!(answer(&input), (number, 0), "type {kind}, {bytes:x?}");
+            }
         }
     }
 }
@@ -332,14 +341,15 @@ fn the_last_bytes_of_a_file() {
 /// The object of this install with the bytes of section 1 at its end.
 fn with_section_last(fit: &Fit, bytes: &[u8]) -> Vec<u8> {
     let mut sections = fit.sections.clone();
-    let at = object(fit.class, &sections).len() - bytes.len();
+    let whole = |sections: &[Section]| object_with(fit.class, fit.flags, sections);
+    let at = whole(&sections).len() - bytes.len();
     sections[1] = Section {
         offset: Some(at as u64),
         size: Some(bytes.len() as u64),
         bytes: Vec::new(),
         ..sections[1].clone()
     };
-    let mut file = object(fit.class, &sections);
+    let mut file = whole(&sections);
     assert_eq!(file.len(), at);
     file.extend(bytes);
     file

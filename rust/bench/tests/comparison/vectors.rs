@@ -3,7 +3,7 @@
 use bench::inputs::Call;
 use testing::build::{journal, Class};
 use testing::damage::Input;
-use testing::given::objects;
+use testing::given::{objects, FILL};
 use testing::lists::{histories, Listed};
 use testing::vectors::{bytes, bytes_after, lines, number};
 
@@ -74,7 +74,7 @@ fn lists_of_calls() {
     }
 }
 
-/// The bytes that a linker lays, and all as before after a rollback.
+/// The bytes that a linker lays, and all as before after a rollback or a refusal.
 #[test]
 fn real_objects() {
     let objects = objects();
@@ -89,12 +89,16 @@ fn real_objects() {
         let before = Input {
             object: given.object,
             order: given.order,
-            image: vec![0xA5; given.image_length],
+            image: vec![FILL; given.image_length],
             journal: journal(given.image_length),
         };
         let installed = compare(&before, Call::Fit).unwrap_or_else(fail);
         assert_eq!(installed.answer, given.answer, "{name}");
         assert_eq!(Some(&installed.image), given.image.as_ref(), "{name}");
+        if given.answer != (0, 0) {
+            assert_eq!(installed.journal, before.journal, "{name}");
+            continue;
+        }
         let mut after = before.clone();
         (after.image, after.journal) = (installed.image, installed.journal);
         let back = compare(&after, Call::TakeBack).unwrap_or_else(fail);

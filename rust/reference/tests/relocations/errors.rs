@@ -1,5 +1,6 @@
 //! Document 01's "Errors we have met" and its bench numbers, with those of Ticket
-//! 3, each stated by hand.
+//! 3, each stated by hand. Bit 0 of e_flags is set, as Ticket 5 asks for, but where a
+//! name says that it is clear.
 
 use crate::fits::*;
 use crate::{Case, DONE};
@@ -34,13 +35,43 @@ fn jumps() -> Vec<Case> {
     vec![
         Case::done("call", &call, &words(&[0x0000_2097, 0x8000_80E7])),
         word("jal 8", JAL, 0xEF, PLACE + 8, 0x0080_00EF),
-        to("jal 1,048,574", JAL, 0xEF, PLACE + 1_048_574, DONE),
+        to(
+            "jal 1,048,574, bit 0 set",
+            JAL,
+            0xEF,
+            PLACE + 1_048_574,
+            DONE,
+        ),
         to("jal 1,048,576", JAL, 0xEF, PLACE + 1_048_576, (13, 0)),
         word("branch -4", BRANCH, 0x63, PLACE - 4, 0xFE00_0EE3),
-        to("branch 4,094", BRANCH, 0x63, PLACE + 4_094, DONE),
+        to("branch 4,094, bit 0 set", BRANCH, 0x63, PLACE + 4_094, DONE),
         to("branch 4,096", BRANCH, 0x63, PLACE + 4_096, (13, 0)),
-        short("c.j -2", RVC_JUMP, 0xA001, PLACE - 2, 0xBFFD),
-        short("c.beqz 8", RVC_BRANCH, 0xC101, PLACE + 8, 0xC501),
+        short("c.j -2, bit 0 set", RVC_JUMP, 0xA001, PLACE - 2, 0xBFFD),
+        short("c.beqz 8, bit 0 set", RVC_BRANCH, 0xC101, PLACE + 8, 0xC501),
+    ]
+}
+
+/// Ticket 5: with bit 0 clear, 1,048,574 and 4,094 give 13, and the short ones 9. A
+/// call and the jumps over multiples of 4 are laid as with it set.
+fn jumps_without_compressed() -> Vec<Case> {
+    let clear = |kind, bytes: &[u8], target| one(kind, bytes, PLACE, target).with_flags(0);
+    let (jal, branch) = (words(&[0xEF]), words(&[0x63]));
+    let call = clear(CALL, &words(&[0x97, 0x80E7]), 0x2800);
+    let jal_8 = clear(JAL, &jal, PLACE + 8);
+    let branch_4 = clear(BRANCH, &branch, PLACE - 4);
+    let long_jal = clear(JAL, &jal, PLACE + 1_048_574);
+    let long_branch = clear(BRANCH, &branch, PLACE + 4_094);
+    let jump = clear(RVC_JUMP, &[0x01, 0xA0], PLACE - 2);
+    let short = clear(RVC_BRANCH, &[0x01, 0xC1], PLACE + 8);
+    let call_after = words(&[0x0000_2097, 0x8000_80E7]);
+    vec![
+        Case::done("call, bit 0 clear", &call, &call_after),
+        Case::done("jal 8, bit 0 clear", &jal_8, &words(&[0x0080_00EF])),
+        Case::done("branch -4, bit 0 clear", &branch_4, &words(&[0xFE00_0EE3])),
+        Case::new("jal 1,048,574, bit 0 clear", &long_jal, (13, 0)),
+        Case::new("branch 4,094, bit 0 clear", &long_branch, (13, 0)),
+        Case::new("c.j -2, bit 0 clear", &jump, (9, 0)),
+        Case::new("c.beqz 8, bit 0 clear", &short, (9, 0)),
     ]
 }
 
@@ -133,6 +164,7 @@ pub fn cases() -> Vec<Case> {
     cases.extend(strong_symbol_without_value());
     cases.extend(halves());
     cases.extend(jumps());
+    cases.extend(jumps_without_compressed());
     cases.extend(across_the_top());
     cases.extend(data_and_padding());
     cases

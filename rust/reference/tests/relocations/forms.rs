@@ -6,7 +6,7 @@ use testing::build::*;
 
 /// A relocation of this type with distance 0, at the start of a section; a pair
 /// for a PCREL_LO12 stands behind it.
-fn on(kind: u32, word: u64, width: usize, address: u64) -> Fit {
+pub fn on(kind: u32, word: u64, width: usize, address: u64) -> Fit {
     let behind = width.next_multiple_of(4);
     let mut code = low_bytes(word, width);
     code.resize(behind, 0);

@@ -8,6 +8,7 @@ mod distances;
 mod errors;
 mod first;
 mod fits;
+mod flags;
 mod forms;
 mod given;
 mod halves;
@@ -105,6 +106,7 @@ fn cases() -> Vec<Case> {
     cases.extend(pairs::cases());
     cases.extend(padding::cases());
     cases.extend(first::cases());
+    cases.extend(flags::cases());
     let in_class_2: Vec<Case> = cases.iter().filter_map(Case::in_class_2).collect();
     cases.extend(in_class_2);
     cases.extend(class_2::cases());

@@ -2,6 +2,7 @@
 //! broken.
 
 mod fields;
+mod flags;
 mod instruction;
 mod journal;
 mod object;

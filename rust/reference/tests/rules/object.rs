@@ -344,6 +344,7 @@ fn markers(first: usize, second: usize) -> Fit {
     let list = |count| vec![Relocation::new(0, 0, 0, 0); count];
     Fit {
         class: Class::Elf32,
+        flags: RVC,
         sections: vec![
             Section::default(),
             Section::loaded(1, &[]),
