@@ -75,7 +75,6 @@ fn check_site(
         × (length (now (highs .exit)) ≡ length (now (highs .entry))) ⌝ }
 {
     let class = elf_read::class_of(object);
-    let rvc = elf_read::has_rvc(object);
     let n = elf_read::relocation_entries(object, site.rela);
     let mut trail = no_trail();
     let mut last: u64 = 0;
@@ -83,7 +82,7 @@ fn check_site(
     let mut j: usize = 0;
     while j < n {
         let here = elf_read::read_relocation(object, site.rela, j);
-        let decision = decide(class, rvc, here.kind);
+        let decision = decide(class, site.rvc, here.kind);
         let step = check_one(
             object,
             symbols,

@@ -17,7 +17,6 @@ ghost use Rattle.relocations_check_one.specs.Outcomes.{storeNumber, dist
 ghost use Rattle.relocations_check_one.specs.Requires.{Storing, Listing, Lookups, Read};
 use elf_read::Relocation;
 use elf_read::class_of;
-use elf_read::has_rvc;
 use numbers_arithmetic::add64;
 use numbers_arithmetic::difference;
 use numbers_bytes::read_bytes;
@@ -284,10 +283,9 @@ fn check_resolved(
     );
     let found = found_bytes(object, site, rule, here, j);
     let class = class_of(object);
-    let rvc = has_rvc(object);
     let applied = apply_rule(
         class,
-        rvc,
+        site.rvc,
         calculation,
         field,
         form,

@@ -12,11 +12,11 @@ use Rattle.relocations_types.specs.declared.Decision.{Decision}
 use Rattle.relocations_types.specs.Types.{decision}
 use Rattle.relocations_rela.specs.declared.sites.Site.{Site}
 
--- the site of RELA section i: its header, and the header, number and address of "the record's own target row"
+-- the site of RELA section i: its header, and the header, number and address of "the record's own target row"; and the object's bit 0 of e_flags
 unfoldable pub siteAt : List ℕ → List ℕ → ℕ → Site
 siteAt object addresses i =
     let h = sectionAt object i in
-    record { rela = h; target = sectionAt object (h .info); index = h .info; address = record { 0 = getD addresses (h .info) 0 } }
+    record { rela = h; target = sectionAt object (h .info); index = h .info; address = record { 0 = getD addresses (h .info) 0 }; rvc = hasRvc object }
 
 -- how many relocations it has
 abbrev pub count : List ℕ → Site → ℕ

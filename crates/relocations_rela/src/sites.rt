@@ -10,12 +10,14 @@ ghost use Rattle.relocations_rela.specs.Sites.{siteAt};
 use elf_read::Section;
 use numbers_definitions::Address;
 
-// A RELA section, the section that it relocates (document 01: the target row), and the number and address of that section.
+// A RELA section, the section that it relocates (document 01: the target row), the number and address of that section, and whether bit 0
+// of the object's e_flags is set, so that nobody asks for it at each relocation.
 pub struct Site {
     pub rela: Section,
     pub target: Section,
     pub index: u32,
     pub address: Address,
+    pub rvc: bool,
 }
 
 // The site of RELA section i. The address array is lent: it would be copied for each site.
@@ -31,5 +33,6 @@ pub fn site_at(object: &[u8], addresses: &[u64], i: usize) -> Site
         target,
         index: rela.info,
         address: Address(addresses[index]),
+        rvc: elf_read::has_rvc(object),
     }
 }

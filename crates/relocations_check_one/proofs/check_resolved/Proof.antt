@@ -32,7 +32,7 @@ abbrev taken : tie.After-found-bytes → tie.After-take-partner
 taken c = c .before .before .before
 
 abbrev read : tie.After-apply-rule → tie.After-found-bytes
-read c = c .before .before .before .before .before .before
+read c = c .before .before .before .before .before
 
 -- ---- the needs
 
@@ -48,9 +48,6 @@ found-bytes-requires c κs =
 
 class-of-requires : tie.Need-class-of-requires
 class-of-requires c κs = let high : tie.After-take-partner = search in header-there _ (entered (arguments high) .pre .0 .sound .table .header)
-
-has-rvc-requires : tie.Need-has-rvc-requires
-has-rvc-requires c κs = let high : tie.After-take-partner = search in entered (arguments high) .pre .0 .sound .table .header
 
 apply-rule-requires : tie.Need-apply-rule-requires
 apply-rule-requires c κs =
@@ -73,10 +70,8 @@ returns c =
     let value = start .pre .3 in
     let classed : tie.After-class-of = search in
     let is = classed .class-of .ensures in
-    let flagged : tie.After-has-rvc = search in
-    let short = flagged .has-rvc .ensures in
     let place = placed .place-of .ensures in
-    let e = rw (is, short) at (applied .apply-rule .ensures) in
+    let e = rw (is, f .there .site .flagged) at (applied .apply-rule .ensures) in
     let partner = high .take-partner .ensures in
     let at = place-read s (a .site) (a .j) (a .here) _ (f .read) place (f .there .site) (shape-inside s (a .site) (a .j) (f .shape)) (ap isStore (f .decided)) ∙ sym (ap (λ (r : Relocation). a .site .address .0 + r .offset .0) (f .read)) in
     let forms =
@@ -104,7 +99,6 @@ check-resolved-spec =
     take-partner-requires
     found-bytes-requires
     class-of-requires
-    has-rvc-requires
     (λ c κs. search needs)
     (λ c κs. search needs)
     (λ c κs. search needs)

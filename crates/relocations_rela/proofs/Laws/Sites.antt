@@ -1,5 +1,5 @@
 -- Sites of a sound object.
-use mathlib.Core.Path.{_≡_}
+use mathlib.Core.Path.{_≡_, refl}
 use mathlib.Core.Bool.{true, not}
 use mathlib.Core.List.{List}
 use Prim.Native.Nat.{ℕ, _+_, _≤_, _<_}
@@ -50,6 +50,7 @@ module _ (object addresses : List ℕ) (f : SoundObject object) (i : ℕ) (h : i
       let inside = loaded-inside object f t (rela .target-there) (rela .target-loaded) in
       record {
         header = f .table .header;
+        flagged = refl;
         entries = f .sections i h .inside (λ z. omega arith) (λ z. omega arith);
         bytes = inside .inside;
         placed = p .ends t (rela .target-there) (loaded-allocated t (rela .target-loaded));

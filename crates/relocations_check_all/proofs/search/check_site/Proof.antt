@@ -22,7 +22,7 @@ use Rattle.relocations_check_all.proofs.search.check_site.Statement.{st
 use Rattle.relocations_check_all.proofs.search.check_site.Tie as tie
 
 abbrev Inv-loop : tie.InvT-loop
-Inv-loop object symbols site values states highs₀ words₀ sizes₀ base class rvc n trail₀ last₀ made₀ j₀ highs words sizes trail last made j =
+Inv-loop object symbols site values states highs₀ words₀ sizes₀ base class n trail₀ last₀ made₀ j₀ highs words sizes trail last made j =
     (j ≤ n)
     × (trail ≡ trailAt object site j)
     × Listing object site highs made
@@ -32,18 +32,15 @@ Inv-loop object symbols site values states highs₀ words₀ sizes₀ base class
     × ((o a : List ℕ) → Valued object o a values states → Searching object o a site base words₀ sizes₀ highs₀ words sizes highs trail last made j)
 
 abbrev μ-loop : tie.MeasureT-loop
-μ-loop object symbols site values states highs₀ words₀ sizes₀ base class rvc n trail₀ last₀ made₀ j₀ highs words sizes trail last made j = n - j
+μ-loop object symbols site values states highs₀ words₀ sizes₀ base class n trail₀ last₀ made₀ j₀ highs words sizes trail last made j = n - j
 
 -- ---- the places on the way: an inserted line moves one of them
 
 abbrev counted : tie.After-no-trail Inv-loop μ-loop → tie.After-relocation-entries Inv-loop μ-loop
 counted c = c .before
 
-abbrev flagged : tie.After-no-trail Inv-loop μ-loop → tie.After-has-rvc Inv-loop μ-loop
-flagged c = counted c .before
-
 abbrev classed : tie.After-no-trail Inv-loop μ-loop → tie.After-class-of Inv-loop μ-loop
-classed c = flagged c .before
+classed c = counted c .before
 
 abbrev entered : tie.After-no-trail Inv-loop μ-loop → tie.Start Inv-loop μ-loop
 entered c = classed c .before .before .before .before .before .before .before
@@ -70,8 +67,8 @@ kind : (c : tie.After-decide Inv-loop μ-loop)
 kind c =
     let from = start (head (turn (read c))) in
     c .decide .ensures
-    ∙ ap (λ k. decision k (flagged from .has-rvc .result) (read c .read-relocation .result .kind)) (classed from .class-of .ensures)
-    ∙ ap (λ v. decision (classOf (entered from .args .object .now)) v (read c .read-relocation .result .kind)) (flagged from .has-rvc .ensures)
+    ∙ ap (λ k. decision k (entered from .args .site .rvc) (read c .read-relocation .result .kind)) (classed from .class-of .ensures)
+    ∙ ap (λ v. decision (classOf (entered from .args .object .now)) v (read c .read-relocation .result .kind)) (entered from .pre .1 .flagged)
     ∙ ap (λ r. decision (classOf (entered from .args .object .now)) (hasRvc (entered from .args .object .now)) (r .kind)) (read c .read-relocation .ensures)
 
 -- a turn of the loop has a relocation
@@ -82,9 +79,6 @@ there c = omega (arith, c .loop-test .taken, counted (start (head c)) .relocatio
 
 class-of-requires : tie.Need-class-of-requires Inv-loop μ-loop
 class-of-requires c κs = let s : tie.Start Inv-loop μ-loop = search in header-there _ (s .pre .1 .header)
-
-has-rvc-requires : tie.Need-has-rvc-requires Inv-loop μ-loop
-has-rvc-requires c κs = let s : tie.Start Inv-loop μ-loop = search in s .pre .1 .header
 
 loop-holds : tie.Need-loop-holds Inv-loop μ-loop
 unfolding trailAt
@@ -180,7 +174,7 @@ cast-sizes : tie.Need-cast-sizes Inv-loop μ-loop
 cast-sizes c =
     let at : tie.Else1 Inv-loop μ-loop = search in
     let one = decided (passed at) in
-    omega (arith, onward at .size-is, ap touched (one .decide .ensures), touched-small (classed (start (head (turn (read one)))) .class-of .result) (flagged (start (head (turn (read one)))) .has-rvc .result) (read one .read-relocation .result .kind))
+    omega (arith, onward at .size-is, ap touched (one .decide .ensures), touched-small (classed (start (head (turn (read one)))) .class-of .result) (entered (start (head (turn (read one)))) .args .site .rvc) (read one .read-relocation .result .kind))
 
 slice-write-sizes : tie.Need-slice-write-sizes Inv-loop μ-loop
 slice-write-sizes c =
@@ -241,7 +235,6 @@ check-site-spec =
     Inv-loop
     μ-loop
     class-of-requires
-    has-rvc-requires
     (λ c κs. search needs)
     (λ c κs. search needs)
     loop-holds

@@ -35,7 +35,7 @@ unfolding siteAt
 returns c =
     let read : tie.After-read-section = search in
     let both : tie.After-read-section2 = search in
-    rw (both .read-section2 .ensures, read .read-section .ensures)
+    rw (both .read-section2 .ensures, read .read-section .ensures, c .has-rvc .ensures)
 
 pub site-at-spec : {M : Type 1} → statement M
 site-at-spec =
@@ -46,4 +46,5 @@ site-at-spec =
     read-section-requires-2
     (λ c. search needs)
     shared-slice-read-t9
+    (λ c κs. search needs)
     returns)
