@@ -5,6 +5,7 @@ ghost use Rattle.instructions_fields.specs.Layouts.{put, formatU, formatI, form
 ghost use Rattle.instructions_fields.specs.Fields.{layout, dataLayout};
 use instructions_fields::Field;
 use instructions_fields::Width;
+use instructions_table::cj_field;
 
 // imm[31:12]
 pub fn put_u(word: u64, value: u64) -> u64
@@ -67,20 +68,12 @@ pub fn put_cb(word: u64, value: u64) -> u64
         + word / 0x2000 % 8 * 0x2000
 }
 
-// imm[5], imm[3:1], imm[7], imm[6], imm[10], imm[9:8], imm[4], imm[11]
+// imm[5], imm[3:1], imm[7], imm[6], imm[10], imm[9:8], imm[4], imm[11], from the table. Bit 0 of a distance is not among them.
 pub fn put_cj(word: u64, value: u64) -> u64
     ensures { λ r. ⌜ r ≡ put formatCJ word value ⌝ }
 {
-    word % 4
-        + value / 0x20 % 2 * 4
-        + value / 2 % 8 * 8
-        + value / 0x80 % 2 * 0x40
-        + value / 0x40 % 2 * 0x80
-        + value / 0x400 % 2 * 0x100
-        + value / 0x100 % 4 * 0x200
-        + value / 0x10 % 2 * 0x800
-        + value / 0x800 % 2 * 0x1000
-        + word / 0x2000 % 8 * 0x2000
+    let half = value / 2 % 0x800;
+    word % 4 + cj_field(half as usize) as u64 + word / 0x2000 % 8 * 0x2000
 }
 
 // A data field: all of its bytes, or the low six bits of one.

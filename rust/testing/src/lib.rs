@@ -7,6 +7,7 @@ pub mod commands;
 pub mod compared;
 pub mod damage;
 pub mod given;
+pub mod jumps;
 pub mod limits;
 pub mod lists;
 pub mod random;
