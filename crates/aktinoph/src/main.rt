@@ -3,7 +3,7 @@
 //     aktinoph fit OBJECT ORDER IMAGE LEDGER
 //     aktinoph take-back IMAGE LEDGER
 //
-// Number and place go to standard output. If a file cannot be read, or the result cannot be kept, a message on standard
+// Number, place and reason go to standard output. If a file cannot be read, or the result cannot be kept, a message on standard
 // error names the file, nothing goes to standard output, and no file is changed. If a file is longer than 65,536 bytes,
 // `too long` goes to standard output. The exit status is always 0: Rattle has no other.
 ghost use mathlib.Core.Path.{_≡_};
@@ -13,6 +13,7 @@ use program_files::MAX_FILE;
 use program_files::ROOM;
 use program_files::replace_both;
 use program_text::Command;
+use program_text::LINE;
 
 fn main() {
     let mut word = [0u8; 9];
@@ -126,7 +127,7 @@ fn any_long(object: usize, order: usize, image: usize, ledger: usize) -> bool
 }
 
 fn print_answer(code: u64) {
-    let mut line = [0u8; 42];
+    let mut line = [0u8; LINE];
     let n = program_text::line_of(code, &mut line);
     print(&line[..n]);
 }

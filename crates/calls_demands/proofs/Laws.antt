@@ -3,6 +3,7 @@ pub mod Lists
 pub mod First
 pub mod Rules
 pub mod Relocations
+pub mod Symbols
 pub mod Told
 pub mod Images
 pub mod Laid
@@ -20,3 +21,4 @@ pub mod Codes
 pub mod Undone
 pub mod Witness
 pub mod Witness64
+pub mod Reasons

@@ -1,4 +1,4 @@
--- What an exported function gives back, and which numbers each call can give. What a caller reads out of a code is `Reads` of `plan_pieces`.
+-- What an exported function gives back, and which numbers and reasons each call can give. What a caller reads out of a code is `Reads` of `plan_pieces`.
 use mathlib.Core.Logic.{_⊎_}
 use mathlib.Core.Path.{_≡_}
 use Prim.Native.Nat.{ℕ, _≤_}
@@ -16,3 +16,8 @@ FitGives n = n ≤ 15
 
 abbrev pub TakeBackGives : ℕ → Type 0
 TakeBackGives n = (n ≡ 0) ⊎ ((n ≡ 1) ⊎ ((n ≡ 3) ⊎ (n ≡ 16)))
+
+-- Document 02, Ticket 9: "Answer 10 carries it as a second number, ..; all other answers carry 0 there"
+pub record CarriesReason (number reason : ℕ) : Type 0 where
+  pub ten : number ≡ 10 → (1 ≤ reason) × (reason ≤ 7)
+  pub others : (number ≡ 10 → ⊥) → reason ≡ 0

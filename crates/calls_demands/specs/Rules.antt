@@ -37,15 +37,14 @@ use Rattle.journal_format.specs.Journals.{maxEntries, oldAt, count as countOf, 
 use Rattle.plan_pieces.specs.declared.Span.{Span}
 use Rattle.journal_history.specs.Calls.{Files}
 use Rattle.placing_check.specs.Placing.{endOf, unit, hasBytes}
-use Rattle.placing_symbols.specs.declared.SymbolValue.{SymbolValue}
 use Rattle.relocations_rela.specs.declared.sites.Site.{Site}
 use Rattle.relocations_rela.specs.declared.shape.Previous.the-variants.{Entry}
 use Rattle.relocations_rela.specs.Sites.{siteAt, count, entry, decisionAt, offset, A, P, found}
 use Rattle.relocations_decisions.specs.Decisions.{isStore, isRefused, stackWidth, needsPair}
 use Rattle.relocations_rela.specs.Shape.{end, previous}
-use Rattle.relocations_values.specs.Values.{valueAt, targetAt}
+use Rattle.relocations_values.specs.Values.{targetAt}
 use Rattle.relocations_values.specs.Pairs.{isPair, howMany}
-use Rattle.relocations_rules.specs.Rules.{isResolved, symbol, isData}
+use Rattle.relocations_rules.specs.Rules.{symbol, isData}
 use Rattle.calls_demands.specs.Laid.{IsSpan}
 
 -- ---- 1 "ledger unsound": `Sound` of the journal
@@ -169,14 +168,52 @@ pub record ShapeWell (object : List ℕ) (x : Site) (j : ℕ) : Type 0 where
   pub padding : decisionAt object x j ≡ Align → PaddingWell object x j
   pub no-addend : needsPair (decisionAt object x j) ≡ true → natAbs (A object x j) ≡ 0
 
--- ---- 10 "symbol does not resolve (24, 25: or is not in the target row)", for S
+-- ---- 10 "symbol does not resolve (24, 25: or is not in the target row)". Document 02, Ticket 9, has a reason for each way in which that can
+-- be; each rule says that its reason does not apply.
 
-pub record SymbolWell (object : List ℕ) (x : Site) (j : ℕ) (value : SymbolValue) : Type 0 where
-  -- "Markers skip 10."
-  pub resolves : isStore (decisionAt object x j) ≡ true → isResolved value ≡ true
-  -- "A PCREL_LO12 symbol is above 0 and defined in the record's own target row"
-  pub above : needsPair (decisionAt object x j) ≡ true → 0 < entry object x j .symbol
-  pub in-target : needsPair (decisionAt object x j) ≡ true → symbol object x j .section ≡ x .index
+module _ (object : List ℕ) (x : Site) (j : ℕ) where
+  -- "Markers skip 10."; "Symbol 0 always has its value, so only 7 can apply to it."
+  abbrev pub LooksUp : Type 0
+  LooksUp = (isStore (decisionAt object x j) ≡ true) × (0 < entry object x j .symbol)
+
+  -- "past the table"
+  abbrev pub InTable : Type 0
+  InTable = LooksUp → entry object x j .symbol < symbolCount object
+
+  -- "row missing or not allocated (sections 1 to 0xFEFF)"
+  abbrev pub InAllocated : Type 0
+  InAllocated = LooksUp → 1 ≤ symbol object x j .section → symbol object x j .section ≤ 0xFEFF → isAllocated object (symbol object x j .section) ≡ true
+
+  -- "common (section 0xFFF2)"
+  abbrev pub NotCommon : Type 0
+  NotCommon = LooksUp → symbol object x j .section ≡ 0xFFF2 → ⊥
+
+  -- "reserved section (0xFF00 and up, but for 0xFFF1 and 0xFFF2)"
+  abbrev pub NotReserved : Type 0
+  NotReserved = LooksUp → 0xFF00 ≤ symbol object x j .section → (symbol object x j .section ≡ 0xFFF1) ⊎ (symbol object x j .section ≡ 0xFFF2)
+
+  -- "wrong type (TLS or IFUNC)"
+  abbrev pub RightType : Type 0
+  RightType = LooksUp → (symbol object x j .kind ≡ 6 → ⊥) × (symbol object x j .kind ≡ 10 → ⊥)
+
+  -- "not in the target row (24 and 25 only)": "A PCREL_LO12 symbol is above 0 and defined in the record's own target row"
+  abbrev pub InTarget : Type 0
+  InTarget = needsPair (decisionAt object x j) ≡ true → (0 < entry object x j .symbol) × (symbol object x j .section ≡ x .index)
+
+-- "undefined, not weak and without a value in the order"
+abbrev pub NotMissing : List ℕ → List ℕ → Site → ℕ → Type 0
+NotMissing object order x j =
+    LooksUp object x j → symbol object x j .section ≡ 0
+    → (symbol object x j .binding ≡ 2) ⊎ (isGiven (externalValue (classOf object) order (entry object x j .symbol)) ≡ true)
+
+pub record SymbolWell (object order : List ℕ) (x : Site) (j : ℕ) : Type 0 where
+  pub in-table : InTable object x j
+  pub in-allocated : InAllocated object x j
+  pub not-common : NotCommon object x j
+  pub not-reserved : NotReserved object x j
+  pub not-missing : NotMissing object order x j
+  pub right-type : RightType object x j
+  pub in-target : InTarget object x j
 
 -- ---- 11 "instruction form": "at an even address, as found in the object"; data may be anything anywhere
 
@@ -247,14 +284,15 @@ module _ (object order : List ℕ) where
   abbrev pub entryOf : ℕ → ℕ
   entryOf k = locationOf object k .entry
 
-  abbrev pub valueOf : ℕ → SymbolValue
-  valueOf k = valueAt object order (addressesFor object order) (site k) (entryOf k)
+  -- what is said of a relocation by its site and its number there
+  abbrev pub ofRelocation : (Site → ℕ → Type 0) → ℕ → Type 0
+  ofRelocation R k = R (site k) (entryOf k)
 
   abbrev pub Shape : ℕ → Type 0
   Shape k = ShapeWell object (site k) (entryOf k)
 
   abbrev pub SymbolResolves : ℕ → Type 0
-  SymbolResolves k = SymbolWell object (site k) (entryOf k) (valueOf k)
+  SymbolResolves k = SymbolWell object order (site k) (entryOf k)
 
   abbrev pub FormIs : ℕ → Type 0
   FormIs k = FormWell object (site k) (entryOf k)

@@ -9,9 +9,9 @@ ghost use Rattle.order_format.specs.Orders.{reading};
 ghost use Rattle.placing_symbols.specs.Requires.{SymbolsOf};
 ghost use Rattle.placing_symbols.specs.Arrays.{Blank};
 ghost use Rattle.placing_match.specs.Placements.{placementCheck};
-ghost use Rattle.relocations_rules.specs.Search.{number, isBroken};
+ghost use Rattle.relocations_rules.specs.Search.{number, reason, isBroken};
 ghost use Rattle.calls_judgement.specs.Requires.{Readable, Named, Placeable};
-ghost use Rattle.plan_pieces.specs.Answers.{says, packed};
+ghost use Rattle.plan_pieces.specs.Answers.{says, saysWhy, packed};
 ghost use Rattle.order_lookup.specs.Addresses.{noAddresses, addressesFor};
 ghost use Rattle.calls_judge.specs.Answers.{answerOf};
 ghost use Rattle.calls_judge.specs.Judged.{Lent, PlacedWell, JudgedWell};
@@ -22,14 +22,16 @@ use order_format::OrderHeader;
 use order_format::Reading;
 use order_lookup::Addresses;
 use placing_match::Fault;
+use placing_symbols::Reason;
 use placing_symbols::Symbols;
+use placing_symbols::reason_number;
 use placing_symbols::symbol_values;
 use relocations_check_all::search::check_relocations;
 use relocations_rules::Finding;
 use relocations_rules::RelocationCheck;
 
 // What a call answers. The number in an answer is that of a section, of a symbol, or of a relocation, counted from 0
-// over all relocations.
+// over all relocations; a symbol that does not resolve comes with the reason.
 pub enum Answer {
     Done,
     JournalUnsound,
@@ -41,7 +43,7 @@ pub enum Answer {
     WrongExternal(u32),
     Misplaced(u32),
     RelocationShape(u32),
-    SymbolUnresolved(u32),
+    SymbolUnresolved(u32, Reason),
     WrongInstruction(u32),
     NotOnePair(u32),
     OutOfReach(u32),
@@ -53,12 +55,12 @@ pub enum Answer {
 // The answer for a relocation that breaks a rule.
 fn refusal(finding: Finding, k: u32) -> Answer
     requires { ⌜ isBroken finding ≡ true ⌝ }
-    ensures { λ r. ⌜ answerOf r ≡ says (number finding) k ⌝ }
+    ensures { λ r. ⌜ answerOf r ≡ saysWhy (number finding) k (reason finding) ⌝ }
 {
     match finding {
         Finding::Kept => Answer::Done,
         Finding::BadShape => Answer::RelocationShape(k),
-        Finding::BadSymbol => Answer::SymbolUnresolved(k),
+        Finding::BadSymbol(why) => Answer::SymbolUnresolved(k, why),
         Finding::BadForm => Answer::WrongInstruction(k),
         Finding::NoPair => Answer::NotOnePair(k),
         Finding::OutOfReach => Answer::OutOfReach(k),
@@ -332,7 +334,7 @@ pub fn is_done(answer: Answer) -> bool
         Answer::WrongExternal(_) => false,
         Answer::Misplaced(_) => false,
         Answer::RelocationShape(_) => false,
-        Answer::SymbolUnresolved(_) => false,
+        Answer::SymbolUnresolved(_, _) => false,
         Answer::WrongInstruction(_) => false,
         Answer::NotOnePair(_) => false,
         Answer::OutOfReach(_) => false,
@@ -349,7 +351,14 @@ fn pack(number: u8, place: u32) -> u64
     number as u64 + 4294967296 * place as u64
 }
 
-// Document 01's number and place of an answer, as one number.
+// The same with a reason, which stands in the eight bits above the number.
+fn pack_reason(number: u8, place: u32, reason: u8) -> u64
+    ensures { λ r. ⌜ r ≡ packed (saysWhy number place reason) ⌝ }
+{
+    number as u64 + 256 * reason as u64 + 4294967296 * place as u64
+}
+
+// Number, place and reason of an answer, as one number.
 pub fn code_of(answer: Answer) -> u64
     ensures { λ r. ⌜ r ≡ packed (answerOf answer) ⌝ }
 {
@@ -364,7 +373,9 @@ pub fn code_of(answer: Answer) -> u64
         Answer::WrongExternal(symbol) => pack(7, symbol),
         Answer::Misplaced(section) => pack(8, section),
         Answer::RelocationShape(relocation) => pack(9, relocation),
-        Answer::SymbolUnresolved(relocation) => pack(10, relocation),
+        Answer::SymbolUnresolved(relocation, reason) => {
+            pack_reason(10, relocation, reason_number(reason))
+        }
         Answer::WrongInstruction(relocation) => pack(11, relocation),
         Answer::NotOnePair(relocation) => pack(12, relocation),
         Answer::OutOfReach(relocation) => pack(13, relocation),

@@ -11,7 +11,7 @@ use Rattle.elf_header.specs.Headers.{headerAllowed}
 use Rattle.elf_check.specs.declared.SectionCheck.{SectionCheck}
 use Rattle.elf_check.specs.declared.SectionCheck.the-variants.{Sound, Broken as BrokenAt}
 use Rattle.elf_check.specs.Rules.{sectionCheck}
-use Rattle.plan_pieces.specs.Answers.{says}
+use Rattle.plan_pieces.specs.Answers.{says, saysWhy}
 use Rattle.plan_pieces.specs.Plans.{Piece, Verdict, refused, plan, Judge}
 use Rattle.placing_match.specs.declared.Fault.{Fault}
 use Rattle.placing_match.specs.declared.Fault.the-variants.{Nowhere, At}
@@ -20,7 +20,7 @@ use Rattle.placing_match.specs.Externals.{externalCheck}
 use Rattle.placing_check.specs.Placing.{placingCheck}
 use Rattle.relocations_rules.specs.declared.RelocationCheck.{RelocationCheck}
 use Rattle.relocations_rules.specs.declared.RelocationCheck.the-variants.{Passed as AllKept, Broken}
-use Rattle.relocations_rules.specs.Search.{number, relocationCheck}
+use Rattle.relocations_rules.specs.Search.{number, reason, relocationCheck}
 use Rattle.relocations_bytes.specs.Sections.{relocated}
 use Rattle.placing_span.specs.Pieces.{pieces}
 
@@ -40,10 +40,10 @@ abbrev pub afterFault : ℕ → Fault → Verdict → Verdict
 afterFault n Nowhere next = next
 afterFault n (At place) next = refused (says n place)
 
--- 9 to 14
+-- 9 to 14; 10 carries its reason
 abbrev pub afterRelocations : RelocationCheck → Verdict → Verdict
 afterRelocations AllKept next = next
-afterRelocations (Broken finding k) next = refused (says (number finding) k)
+afterRelocations (Broken finding k) next = refused (saysWhy (number finding) k (reason finding))
 
 -- ---- the plan: the bytes of each loaded section after its relocations, "each at its address less that order's base"
 

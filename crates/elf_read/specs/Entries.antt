@@ -20,12 +20,19 @@ use Rattle.elf_read.specs.Sections.{sectionAt, symbolTable, relocationsB
 unfoldable pub bytesOf : List ℕ → Section → List ℕ
 bytesOf s h = part s (h .offset .0) (h .size)
 
--- the section numbers of undefined and of absolute symbols, the binding of weak symbols, and two symbol types
+-- the section numbers of undefined, of absolute and of common symbols, the first of those that are reserved, the binding of weak symbols,
+-- and two symbol types
 abbrev pub SHN_UNDEF : ℕ
 SHN_UNDEF = 0
 
+abbrev pub SHN_LORESERVE : ℕ
+SHN_LORESERVE = 0xFF00
+
 abbrev pub SHN_ABS : ℕ
 SHN_ABS = 0xFFF1
+
+abbrev pub SHN_COMMON : ℕ
+SHN_COMMON = 0xFFF2
 
 abbrev pub STB_WEAK : ℕ
 STB_WEAK = 2

@@ -26,10 +26,15 @@ pub const NOBITS: u32 = 8;
 
 pub const REL: u32 = 9;
 
-// The section numbers of undefined and of absolute symbols, the binding of weak symbols, and two symbol types.
+// The section numbers of undefined, of absolute and of common symbols, the first of those that are reserved, the binding of weak
+// symbols, and two symbol types.
 pub const SHN_UNDEF: u16 = 0;
 
+pub const SHN_LORESERVE: u16 = 0xff00;
+
 pub const SHN_ABS: u16 = 0xfff1;
+
+pub const SHN_COMMON: u16 = 0xfff2;
 
 pub const STB_WEAK: u8 = 2;
 

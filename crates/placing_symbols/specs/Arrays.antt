@@ -1,5 +1,6 @@
--- S of every symbol, worked out once: an array of values, and an array of states. A state is 1 for a symbol that resolves and 0 for any
--- other. Both arrays are of one length, with an entry for symbol 0 and for each symbol of the table.
+-- S of every symbol, worked out once: an array of values, and an array of states. A state is 1 for a symbol that resolves, and otherwise the
+-- number of the reason, but that "past the table" is 0, which is there before anything is stored. Both arrays are of one length, with an
+-- entry for symbol 0 and for each symbol of the table.
 use mathlib.Core.Path.{_≡_}
 use Prim.Native.Nat.{ℕ, _≤_, _<_}
 use mathlib.Core.Bool.{cond}
@@ -8,6 +9,8 @@ use lib.ListN.{length, getD, replicate}
 use lib.Dec.{ltb, eqb}
 use Rattle.numbers_definitions.specs.Places.{address}
 use Rattle.elf_read.specs.Entries.{symbolCount}
+use Rattle.placing_symbols.specs.declared.Reason.{Reason}
+use Rattle.placing_symbols.specs.declared.Reason.the-variants.{PastTable, NotAllocated, Common, Reserved, Undefined, WrongType, OutsideTarget}
 use Rattle.placing_symbols.specs.declared.SymbolValue.{SymbolValue}
 use Rattle.placing_symbols.specs.declared.SymbolValue.the-variants.{Resolved, Unresolved}
 use Rattle.placing_symbols.specs.Values.{symbolValue}
@@ -16,22 +19,41 @@ use Rattle.placing_symbols.specs.Values.{symbolValue}
 abbrev pub noValues : ℕ → List ℕ
 noValues n = replicate n 0
 
+-- the state that is stored for a reason, and the reason in a state
+abbrev pub stateOfReason : Reason → ℕ
+stateOfReason PastTable = 0
+stateOfReason NotAllocated = 2
+stateOfReason Common = 3
+stateOfReason Reserved = 4
+stateOfReason Undefined = 5
+stateOfReason WrongType = 6
+stateOfReason OutsideTarget = 7
+
+abbrev pub reasonIn : ℕ → Reason
+reasonIn state =
+    cond (eqb state 2) NotAllocated
+    (cond (eqb state 3) Common
+    (cond (eqb state 4) Reserved
+    (cond (eqb state 5) Undefined
+    (cond (eqb state 6) WrongType
+    (cond (eqb state 7) OutsideTarget PastTable)))))
+
 -- the state and the value that are stored for S
 abbrev pub stateOf : SymbolValue → ℕ
 stateOf (Resolved a) = 1
-stateOf Unresolved = 0
+stateOf (Unresolved reason) = stateOfReason reason
 
 abbrev pub numberOf : SymbolValue → ℕ
 numberOf (Resolved a) = a .0
-numberOf Unresolved = 0
+numberOf (Unresolved reason) = 0
 
 -- S, from a state and a value
 abbrev pub decoded : ℕ → ℕ → SymbolValue
-decoded state value = cond (eqb state 1) (Resolved (address value)) Unresolved
+decoded state value = cond (eqb state 1) (Resolved (address value)) (Unresolved (reasonIn state))
 
--- what two arrays say about symbol k; nothing past their end resolves
+-- what two arrays say about symbol k; past their end is past the table
 unfoldable pub listed : List ℕ → List ℕ → ℕ → SymbolValue
-listed values states k = cond (ltb k (length states)) (decoded (getD states k 0) (getD values k 0)) Unresolved
+listed values states k = cond (ltb k (length states)) (decoded (getD states k 0) (getD values k 0)) (Unresolved PastTable)
 
 -- arrays of one length
 pub record ValueArrays (values states : List ℕ) : Type 0 where

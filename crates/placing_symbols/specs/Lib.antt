@@ -1,3 +1,4 @@
+pub mod Reasons
 pub mod Values
 pub mod Arrays
 pub mod Requires

@@ -1,13 +1,18 @@
 // The values of symbols.
 ghost use mathlib.Core.Path.{_≡_};
+ghost use mathlib.Core.List.{List};
+ghost use Prim.Native.Nat.{ℕ};
 ghost use Rattle.elf_read.specs.Headers.{classOf};
 ghost use Rattle.elf_check.specs.Requires.{SoundObject};
 ghost use Rattle.order_format.specs.Orders.{reading};
-ghost use Rattle.placing_symbols.specs.Values.{ofUndefined, ofSection, ofEntry};
-ghost use Rattle.placing_symbols.specs.Arrays.{stateOf, numberOf, listed, ValueArrays, Blank, Valued};
+ghost use Rattle.placing_symbols.specs.Reasons.{reasonNumber, because};
+ghost use Rattle.placing_symbols.specs.Values.{isWrongType, ofEntry};
+ghost use Rattle.placing_symbols.specs.Arrays.{stateOfReason, reasonIn, stateOf, numberOf, listed, ValueArrays, Blank, Valued};
 ghost use Rattle.placing_symbols.specs.Requires.{SymbolsOf};
 use elf_read::MAX_SECTIONS;
 use elf_read::SHN_ABS;
+use elf_read::SHN_COMMON;
+use elf_read::SHN_LORESERVE;
 use elf_read::SHN_UNDEF;
 use elf_read::STB_WEAK;
 use elf_read::STT_GNU_IFUNC;
@@ -22,62 +27,88 @@ use order_lookup::Addresses;
 use order_lookup::Value;
 use order_lookup::take_external;
 
-// The value of a symbol, or that it does not resolve.
+// Why a symbol has no value, in the order in which the reasons are looked at. The last is one of relocations that take a pair.
+pub enum Reason {
+    PastTable,
+    NotAllocated,
+    Common,
+    Reserved,
+    Undefined,
+    WrongType,
+    OutsideTarget,
+}
+
+// The value of a symbol, or why it has none.
 pub enum SymbolValue {
     Resolved(Address),
-    Unresolved,
+    Unresolved(Reason),
+}
+
+// The number of a reason (Ticket 9).
+pub fn reason_number(reason: Reason) -> u8
+    ensures { λ r. ⌜ r ≡ reasonNumber reason ⌝ }
+{
+    match reason {
+        Reason::PastTable => 1,
+        Reason::NotAllocated => 2,
+        Reason::Common => 3,
+        Reason::Reserved => 4,
+        Reason::Undefined => 5,
+        Reason::WrongType => 6,
+        Reason::OutsideTarget => 7,
+    }
+}
+
+// A symbol's value, unless the symbol is of a type that has none.
+fn value_by_type(symbol: Symbol, value: Address) -> SymbolValue
+    ensures { λ r. ⌜ r ≡ because Reason.WrongType (isWrongType symbol) (SymbolValue.Resolved value) ⌝ }
+{
+    if (symbol.kind == STT_TLS) | (symbol.kind == STT_GNU_IFUNC) {
+        return SymbolValue::Unresolved(Reason::WrongType);
+    }
+    SymbolValue::Resolved(value)
 }
 
 // The value of an undefined symbol: the order's, else 0 if it is weak.
-fn undefined_value(symbol: Symbol, value: Value) -> SymbolValue
-    ensures { λ r. ⌜ r ≡ ofUndefined symbol value ⌝ }
+fn undefined_value(symbol: Symbol, given: Value) -> SymbolValue
+    ensures { λ r. ⌜ ((object : List ℕ) (start : ℕ) → symbol .section ≡ 0 → r ≡ ofEntry object given start symbol) ⌝ }
 {
-    match value {
-        Value::Given(v) => SymbolValue::Resolved(v),
+    match given {
+        Value::Given(v) => value_by_type(symbol, v),
         Value::NotGiven => {
-            if symbol.binding == STB_WEAK {
-                SymbolValue::Resolved(Address(0))
-            } else {
-                SymbolValue::Unresolved
+            if symbol.binding != STB_WEAK {
+                return SymbolValue::Unresolved(Reason::Undefined);
             }
+            value_by_type(symbol, Address(0))
         }
     }
 }
 
-// The value of a symbol of the table, by the section that it is defined in. `given` is what the order gives to the symbol, and
-// `start` is the address of that section.
-fn value_in_section(object: &[u8], given: Value, start: u64, symbol: Symbol) -> SymbolValue
-    requires { ⌜ SoundObject (now object) ⌝ }
-    ensures { λ r. ⌜ r ≡ ofSection (now (object .entry)) given start symbol ⌝ }
-{
-    let section = symbol.section;
-    if elf_read::is_allocated_section(object, section as u32) {
-        return SymbolValue::Resolved(Address(numbers_arithmetic::sum(
-            class_of(object),
-            start,
-            symbol.value.0,
-        )));
-    }
-    if section == SHN_ABS {
-        // An absolute symbol is in no section: its value is the address itself.
-        return SymbolValue::Resolved(Address(symbol.value.0));
-    }
-    if section != SHN_UNDEF {
-        return SymbolValue::Unresolved;
-    }
-    undefined_value(symbol, given)
-}
-
-// The value of a symbol of the table that is not symbol 0. `given` is what the order gives to the symbol, and `start` is the
-// address of the section that it is defined in.
+// The value of a symbol of the table that is not symbol 0, by the section that it is defined in. `given` is what the order gives to the
+// symbol, and `start` is the address of that section.
 fn entry_value(object: &[u8], given: Value, start: u64, symbol: Symbol) -> SymbolValue
     requires { ⌜ SoundObject (now object) ⌝ }
     ensures { λ r. ⌜ r ≡ ofEntry (now (object .entry)) given start symbol ⌝ }
 {
-    if (symbol.kind == STT_TLS) | (symbol.kind == STT_GNU_IFUNC) {
-        return SymbolValue::Unresolved;
+    let section = symbol.section;
+    if section == SHN_UNDEF {
+        return undefined_value(symbol, given);
     }
-    value_in_section(object, given, start, symbol)
+    if section < SHN_LORESERVE {
+        if !elf_read::is_allocated_section(object, section as u32) {
+            return SymbolValue::Unresolved(Reason::NotAllocated);
+        }
+        let sum = numbers_arithmetic::sum(class_of(object), start, symbol.value.0);
+        return value_by_type(symbol, Address(sum));
+    }
+    if section == SHN_ABS {
+        // An absolute symbol is in no section: its value is the address itself.
+        return value_by_type(symbol, Address(symbol.value.0));
+    }
+    if section == SHN_COMMON {
+        return SymbolValue::Unresolved(Reason::Common);
+    }
+    SymbolValue::Unresolved(Reason::Reserved)
 }
 
 // The symbol table: its header, and how many symbols it has. If it has none, nothing reads the header.
@@ -104,13 +135,43 @@ pub fn symbols_of(object: &[u8]) -> Symbols
     }
 }
 
-// The state that is stored for S: 1 if the symbol resolves, else 0.
+// The state that is stored for a reason: its number, but that "past the table" is 0, which is there before anything is stored.
+fn state_of_reason(reason: Reason) -> u8
+    ensures { λ r. ⌜ r ≡ stateOfReason reason ⌝ }
+{
+    match reason {
+        Reason::PastTable => 0,
+        Reason::NotAllocated => 2,
+        Reason::Common => 3,
+        Reason::Reserved => 4,
+        Reason::Undefined => 5,
+        Reason::WrongType => 6,
+        Reason::OutsideTarget => 7,
+    }
+}
+
+// The reason in a state.
+fn reason_in(state: u8) -> Reason
+    ensures { λ r. ⌜ r ≡ reasonIn state ⌝ }
+{
+    match state {
+        2 => Reason::NotAllocated,
+        3 => Reason::Common,
+        4 => Reason::Reserved,
+        5 => Reason::Undefined,
+        6 => Reason::WrongType,
+        7 => Reason::OutsideTarget,
+        _ => Reason::PastTable,
+    }
+}
+
+// The state that is stored for S: 1 if the symbol resolves, otherwise that of the reason.
 fn state_of(value: SymbolValue) -> u8
     ensures { λ r. ⌜ r ≡ stateOf value ⌝ }
 {
     match value {
         SymbolValue::Resolved(_) => 1,
-        SymbolValue::Unresolved => 0,
+        SymbolValue::Unresolved(reason) => state_of_reason(reason),
     }
 }
 
@@ -120,12 +181,12 @@ fn number_of(value: SymbolValue) -> u64
 {
     match value {
         SymbolValue::Resolved(s) => s.0,
-        SymbolValue::Unresolved => 0,
+        SymbolValue::Unresolved(_) => 0,
     }
 }
 
 // Works S out for every symbol, in one way through the table and through the order's external values. `addresses` is passed by
-// value and handed back. The entries past the table stay 0, which says that these symbols do not resolve.
+// value and handed back. The entries past the table stay 0, which says that they are past it.
 pub fn symbol_values(
     object: &[u8],
     order: &[u8],
@@ -172,10 +233,11 @@ pub fn value_at(values: &[u64], states: &[u8], k: u32) -> SymbolValue
 {
     let at = k as usize;
     if states.len() <= at {
-        return SymbolValue::Unresolved;
+        return SymbolValue::Unresolved(Reason::PastTable);
     }
-    if states[at] != 1 {
-        return SymbolValue::Unresolved;
+    let state = states[at];
+    if state != 1 {
+        return SymbolValue::Unresolved(reason_in(state));
     }
     SymbolValue::Resolved(Address(values[at]))
 }

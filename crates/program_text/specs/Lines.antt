@@ -17,9 +17,9 @@ decimalIn (suc most) n = cond (ltb n 10) (glyph n ∷ []) (decimalIn most (n / 1
 unfoldable pub decimal : ℕ → List ℕ
 decimal = decimalIn 20
 
--- "number and place in decimal, a space between, then a line end"
+-- "number and place in decimal, a space between, then a line end"; document 02, Ticket 9, of the reason: "the program writes it third"
 unfoldable pub line : Answer → List ℕ
-line a = decimal (a .number) ++ 32 ∷ [] ++ decimal (a .place) ++ 10 ∷ []
+line a = decimal (a .number) ++ 32 ∷ [] ++ decimal (a .place) ++ 32 ∷ [] ++ decimal (a .reason) ++ 10 ∷ []
 
 -- the bytes follow the first `at` bytes of what was there before, and end at r
 pub record Appended (before : List ℕ) (at : ℕ) (bytes : List ℕ) (r : ℕ) (after : List ℕ) : Type 0 where

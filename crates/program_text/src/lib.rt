@@ -4,7 +4,7 @@ ghost use mathlib.Core.List.{_++_};
 ghost use Prim.Native.Nat.{_+_, _≤_};
 ghost use lib.ListN.{length, take};
 ghost use Rattle.io.specs.Counts.{Counts};
-ghost use Rattle.plan_pieces.specs.Answers.{Answer, Reads};
+ghost use Rattle.plan_pieces.specs.Answers.{Answer, saysWhy, Reads};
 ghost use Rattle.program_text.specs.Commands.{Asks};
 ghost use Rattle.program_text.specs.Lines.{Appended, decimal, line};
 
@@ -55,23 +55,28 @@ pub fn append_decimal(out: &mut [u8], at: usize, n: u64) -> usize
     append(out, at, &digits[..k])
 }
 
-// "number and place in decimal, a space between, then a line end"
-pub fn answer_line(number: u64, place: u64, out: &mut [u8; 42]) -> usize
+// The bytes that a line has at most: three numbers of 20 digits, two spaces and the line end.
+pub const LINE: usize = 63;
+
+// "number and place in decimal, a space between, then a line end", with the reason as the third
+pub fn answer_line(number: u64, place: u64, reason: u64, out: &mut [u8; LINE]) -> usize
     ensures { λ r. ⌜ Counts r (now (out .exit)) ⌝ }
-    ensures { λ r. ⌜ take r (now (out .exit)) ≡ line (record { number = number; place = place }) ⌝ }
+    ensures { λ r. ⌜ take r (now (out .exit)) ≡ line (saysWhy number place reason) ⌝ }
 {
     let a = append_decimal(out, 0, number);
     let b = append(out, a, b" ");
     let c = append_decimal(out, b, place);
-    append(out, c, b"\n")
+    let d = append(out, c, b" ");
+    let e = append_decimal(out, d, reason);
+    append(out, e, b"\n")
 }
 
-// The line of the answer in a code. The number is in the low eight bits, the place in the upper 32.
-pub fn line_of(code: u64, out: &mut [u8; 42]) -> usize
+// The line of the answer in a code. The number is in the low eight bits, the reason in the next eight, the place in the upper 32.
+pub fn line_of(code: u64, out: &mut [u8; LINE]) -> usize
     ensures { λ r. ⌜ Counts r (now (out .exit)) ⌝ }
     ensures { λ r. ⌜ ((answer : Answer) → Reads code answer → take r (now (out .exit)) ≡ line answer) ⌝ }
 {
-    answer_line(code % 256, code / 4294967296, out)
+    answer_line(code % 256, code / 4294967296, code / 256 % 256, out)
 }
 
 // The name of a new file beside the one at `path`: the path, and then the tag.

@@ -8,6 +8,7 @@ use lib.Dec.{eqb}
 use Rattle.elf_read.specs.Headers.{sectionCount}
 use Rattle.elf_read.specs.Sections.{countingRela, relocationsBelow}
 use Rattle.elf_read.specs.Entries.{relocationCount}
+use Rattle.placing_symbols.specs.declared.Reason.{Reason}
 use Rattle.relocations_rela.specs.declared.sites.Site.{Site}
 use Rattle.relocations_rela.specs.Sites.{siteAt, count, decisionAt}
 use Rattle.relocations_decisions.specs.Decisions.{touched}
@@ -16,10 +17,10 @@ use Rattle.relocations_rules.specs.declared.Finding.the-variants.{Kept, BadShap
 use Rattle.relocations_rules.specs.Search.{number, finding}
 use Rattle.relocations_bytes.specs.Words.{wordAt}
 
--- the finding with a number
-abbrev pub findingOfNumber : ℕ → Finding
-findingOfNumber n =
-    cond (eqb n 9) BadShape (cond (eqb n 10) BadSymbol (cond (eqb n 11) BadForm (cond (eqb n 12) NoPair (cond (eqb n 13) OutOfReach (cond (eqb n 14) OffBoundary Kept)))))
+-- the finding with a number, and with a reason where that is 10
+abbrev pub findingOfNumber : ℕ → Reason → Finding
+findingOfNumber n reason =
+    cond (eqb n 9) BadShape (cond (eqb n 10) (BadSymbol reason) (cond (eqb n 11) BadForm (cond (eqb n 12) NoPair (cond (eqb n 13) OutOfReach (cond (eqb n 14) OffBoundary Kept)))))
 
 module _ (object order addresses : List ℕ) where
   -- the words and sizes of the first n relocations of a site, which begin at a place of the lists

@@ -7,14 +7,18 @@ ghost use lib.ListN.{length};
 ghost use Rattle.elf_read.specs.Headers.{sectionCount};
 ghost use Rattle.elf_check.specs.Requires.{SoundObject};
 ghost use Rattle.placing_symbols.specs.Requires.{SymbolsOf};
-ghost use Rattle.placing_symbols.specs.Arrays.{Valued};
-ghost use Rattle.relocations_rela.specs.Sites.{count};
-ghost use Rattle.relocations_rela.specs.Requires.{SoundSite, Placed};
+ghost use Rattle.placing_symbols.specs.Arrays.{listed, ValueArrays, Valued};
+ghost use Rattle.relocations_rela.specs.Sites.{count, entry};
+ghost use Rattle.relocations_rela.specs.Requires.{SoundSite, There, Placed};
+ghost use Rattle.relocations_rules.specs.Rules.{why};
 ghost use Rattle.relocations_rules.specs.Search.{relocationCheck};
 ghost use Rattle.relocations_check_one.specs.Requires.{Lookups};
 ghost use Rattle.relocations_check_all.specs.Sites.{findingOfNumber, WordedBelow, Roomy, SiteChecked};
 use order_lookup::Addresses;
+use placing_symbols::Reason;
+use placing_symbols::SymbolValue;
 use placing_symbols::Symbols;
+use placing_symbols::value_at;
 use relocations_check_one::check_one;
 use relocations_rela::shape::no_trail;
 use relocations_rela::sites::Site;
@@ -29,15 +33,28 @@ pub struct Halt {
     pub at: usize,
 }
 
-// The finding with a number.
-fn finding_of(number: u64) -> Finding
-    ensures { λ r. ⌜ r ≡ findingOfNumber number ⌝ }
+// Why the symbol of relocation j of a site has no value, or, if it has one, why that is no use to a relocation that takes a pair. It is
+// asked for only once a relocation has broken a rule.
+fn reason_at(object: &[u8], site: Site, values: &[u64], states: &[u8], j: usize) -> Reason
+    requires { ⌜ There (now object) site j × ValueArrays (now values) (now states) ⌝ }
+    ensures { λ r. ⌜ r ≡ why (listed (now (values .entry)) (now (states .entry)) (entry (now (object .entry)) site j .symbol)) ⌝ }
+{
+    let here = elf_read::read_relocation(object, site.rela, j);
+    match value_at(values, states, here.symbol) {
+        SymbolValue::Unresolved(reason) => reason,
+        SymbolValue::Resolved(_) => Reason::OutsideTarget,
+    }
+}
+
+// The finding with a number, and with a reason where that is 10.
+fn finding_of(number: u64, reason: Reason) -> Finding
+    ensures { λ r. ⌜ r ≡ findingOfNumber number reason ⌝ }
 {
     if number == 9 {
         return Finding::BadShape;
     }
     if number == 10 {
-        return Finding::BadSymbol;
+        return Finding::BadSymbol(reason);
     }
     if number == 11 {
         return Finding::BadForm;
@@ -155,7 +172,8 @@ pub fn check_relocations(
             number,
         );
         if halt.number != 0 {
-            let finding = finding_of(halt.number);
+            let reason = reason_at(object, site, values, states, halt.at);
+            let finding = finding_of(halt.number, reason);
             result = RelocationCheck::Broken(finding, (number + halt.at) as u32);
             break 'search;
         }

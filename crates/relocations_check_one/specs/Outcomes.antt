@@ -23,13 +23,13 @@ use Rattle.relocations_values.specs.Values.{S, T}
 use Rattle.relocations_values.specs.Pairs.{pairOf}
 use Rattle.relocations_rules.specs.declared.Finding.{Finding}
 use Rattle.relocations_rules.specs.declared.Finding.the-variants.{BadShape, BadSymbol, BadForm, NoPair, OutOfReach, OffBoundary}
-use Rattle.relocations_rules.specs.Rules.{symbol, symbolWell, formWell, pairWell, distanceWell, boundaryWell}
+use Rattle.relocations_rules.specs.Rules.{symbol, symbolWell, why, formWell, pairWell, distanceWell, boundaryWell}
 use Rattle.relocations_rules.specs.Search.{number, check, firstBroken}
 use Rattle.relocations_bytes.specs.Words.{word}
 
--- the number of the first of 10 to 13 that is broken, or 0
-abbrev pub storeNumber : Bool → Bool → Bool → Bool → ℕ
-storeNumber s f p r = number (firstBroken (check BadSymbol s ∷ check BadForm f ∷ check NoPair p ∷ check OutOfReach r ∷ []))
+-- the number of the first of 10 to 13 that is broken, or 0: of the symbol, the form, the pair and the distance, by whether each is kept
+unfoldable pub storeNumber : Bool → Bool → Bool → Bool → ℕ
+storeNumber symbols forms pairs reaches = cond symbols (cond forms (cond pairs (cond reaches 0 13) 12) 11) 10
 
 module _ (v : ℕ → SymbolValue) (object : List ℕ) (x : Site) where
   abbrev pub valueBy : ℕ → SymbolValue
@@ -43,7 +43,7 @@ module _ (v : ℕ → SymbolValue) (object : List ℕ) (x : Site) where
   findingBy j =
       firstBroken
       (check BadShape (shapeWell object x j)
-      ∷ check BadSymbol (symbolWell object x j (valueBy j))
+      ∷ check (BadSymbol (why (valueBy j))) (symbolWell object x j (valueBy j))
       ∷ check BadForm (formWell object x j)
       ∷ check NoPair (pairWell object x j)
       ∷ check OutOfReach (distanceWell (classOf object) (hasRvc object) (decisionAt object x j) (targetBy j) (P object x j))

@@ -352,7 +352,7 @@ fn check_store(
             made,
             j,
         ),
-        SymbolValue::Unresolved => refused(10, made),
+        SymbolValue::Unresolved(_) => refused(10, made),
     }
 }
 

@@ -225,6 +225,6 @@ pub fn symbol_sum(value: SymbolValue, addend: u64) -> u64
 {
     match value {
         SymbolValue::Resolved(s) => numbers_arithmetic::add64(s.0, addend),
-        SymbolValue::Unresolved => numbers_arithmetic::add64(0, addend),
+        SymbolValue::Unresolved(_) => numbers_arithmetic::add64(0, addend),
     }
 }

@@ -13,6 +13,8 @@ use Rattle.elf_read.specs.declared.Symbol.{Symbol}
 use Rattle.elf_read.specs.Headers.{classOf}
 use Rattle.elf_read.specs.Sections.{sectionAt, symbolTable}
 use Rattle.elf_read.specs.Entries.{symbolAt}
+use Rattle.placing_symbols.specs.declared.Reason.{Reason}
+use Rattle.placing_symbols.specs.declared.Reason.the-variants.{OutsideTarget}
 use Rattle.placing_symbols.specs.declared.SymbolValue.{SymbolValue}
 use Rattle.placing_symbols.specs.declared.SymbolValue.the-variants.{Resolved, Unresolved}
 use Rattle.instructions_fields.specs.declared.Field.{Field}
@@ -39,7 +41,7 @@ use Rattle.relocations_values.specs.Pairs.{pairOf}
 
 abbrev pub isResolved : SymbolValue → Bool
 isResolved (Resolved v) = true
-isResolved Unresolved = false
+isResolved (Unresolved reason) = false
 
 -- the symbol's entry in the table
 abbrev pub symbol : List ℕ → Site → ℕ → Symbol
@@ -54,6 +56,12 @@ unfoldable pub symbolWell : List ℕ → Site → ℕ → SymbolValue → Bool
 symbolWell object x j value =
     not (isStore (decisionAt object x j))
     || (isResolved value && (not (needsPair (decisionAt object x j)) || inTarget object x j))
+
+-- Why check 10 is broken: the reason for which the symbol has no value; of one that has a value, that it is "not in the target row (24 and
+-- 25 only)", which comes last. Document 02: "Symbol 0 always has its value, so only 7 can apply to it."
+abbrev pub why : SymbolValue → Reason
+why (Unresolved reason) = reason
+why (Resolved v) = OutsideTarget
 
 -- ---- check 11
 

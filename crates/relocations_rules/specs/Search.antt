@@ -12,19 +12,29 @@ use Rattle.relocations_rules.specs.declared.Finding.the-variants.{Kept, 
 use Rattle.relocations_rules.specs.declared.RelocationCheck.{RelocationCheck}
 use Rattle.relocations_rules.specs.declared.RelocationCheck.the-variants.{Passed, Broken}
 use Rattle.relocations_rela.specs.Sites.{siteAt, entry, decisionAt, A, P}
+use Rattle.placing_symbols.specs.Reasons.{reasonNumber}
 use Rattle.relocations_values.specs.Values.{valueAt, targetAt}
 use Rattle.relocations_rela.specs.Shape.{shapeWell}
-use Rattle.relocations_rules.specs.Rules.{symbolWell, formWell, pairWell, distanceWell, boundaryWell}
+use Rattle.relocations_rules.specs.Rules.{symbolWell, why, formWell, pairWell, distanceWell, boundaryWell}
 
--- document 01's number of a finding; 0 if all rules are kept
+-- document 01's number of a finding, and document 02's second number; 0 if all rules are kept
 abbrev pub number : Finding → ℕ
 number Kept = 0
 number BadShape = 9
-number BadSymbol = 10
+number (BadSymbol why) = 10
 number BadForm = 11
 number NoPair = 12
 number OutOfReach = 13
 number OffBoundary = 14
+
+abbrev pub reason : Finding → ℕ
+reason Kept = 0
+reason BadShape = 0
+reason (BadSymbol why) = reasonNumber why
+reason BadForm = 0
+reason NoPair = 0
+reason OutOfReach = 0
+reason OffBoundary = 0
 
 -- a check of one relocation: what is found where it is broken, and whether it is kept
 pub record Check : Type 0 where
@@ -45,7 +55,7 @@ module _ (object order addresses : List ℕ) (x : Site) (j : ℕ) where
   abbrev pub earlier : List Check
   earlier =
       check BadShape (shapeWell object x j)
-      ∷ check BadSymbol (symbolWell object x j (valueAt object order addresses x j))
+      ∷ check (BadSymbol (why (valueAt object order addresses x j))) (symbolWell object x j (valueAt object order addresses x j))
       ∷ check BadForm (formWell object x j)
       ∷ check NoPair (pairWell object x j)
       ∷ []
@@ -70,7 +80,7 @@ findingOf object order addresses k =
 abbrev pub isBroken : Finding → Bool
 isBroken Kept = false
 isBroken BadShape = true
-isBroken BadSymbol = true
+isBroken (BadSymbol why) = true
 isBroken BadForm = true
 isBroken NoPair = true
 isBroken OutOfReach = true

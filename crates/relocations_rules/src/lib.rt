@@ -1,11 +1,12 @@
 // The rules of relocations: checks 10 to 14 of one relocation, and the first broken rule over all relocations.
 // Definitions and theorems, no code; `relocations_check_one` and `relocations_check_all` do the checking.
+use placing_symbols::Reason;
 
-// Which of checks 9 to 14 a relocation breaks, if it breaks one.
+// Which of checks 9 to 14 a relocation breaks, if it breaks one; and why its symbol has no value, where that is 10.
 pub enum Finding {
     Kept,
     BadShape,
-    BadSymbol,
+    BadSymbol(Reason),
     BadForm,
     NoPair,
     OutOfReach,

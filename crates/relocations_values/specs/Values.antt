@@ -17,7 +17,7 @@ valueAt object order addresses x j = symbolValue object order addresses (entry o
 -- S. A symbol that does not resolve counts as 0 here; check 10 has refused it before the value is used.
 abbrev pub S : SymbolValue → ℕ
 S (Resolved v) = v .0
-S Unresolved = 0
+S (Unresolved reason) = 0
 
 -- "S + A is reduced modulo 2^32, then called T": modulo 2^w, where addresses have w bits
 abbrev pub T : ℕ → ℕ → ℤ → ℕ

@@ -18,7 +18,9 @@ use order_format::OrderHeader;
 use order_format::Reading;
 use order_lookup::Addresses;
 use placing_match::Fault;
+use placing_symbols::Reason;
 use placing_symbols::SymbolValue;
+use placing_symbols::reason_number;
 
 pub fn line(object: &[u8], order: &[u8], len: usize) {
     if elf_header::check_header(object) {
@@ -138,10 +140,14 @@ fn values(numbers: &[u64], states: &[u8], n: usize)
 fn print(value: SymbolValue) {
     match value {
         SymbolValue::Resolved(s) => then(s),
-        SymbolValue::Unresolved => {
-            io::write_all(1, b" -");
-        }
+        SymbolValue::Unresolved(reason) => unresolved(reason),
     }
+}
+
+// A minus, and the number of the reason.
+fn unresolved(reason: Reason) {
+    io::write_all(1, b" -");
+    io::print_decimal(1, reason_number(reason) as u64);
 }
 
 fn then(address: Address) {

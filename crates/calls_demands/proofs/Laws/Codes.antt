@@ -1,10 +1,13 @@
--- The answer of an exported function can be read: number and place stand where the header says, for all inputs.
-use mathlib.Core.Logic.{_⊎_, inl, inr}
-use mathlib.Core.Path.{_≡_, refl, ap}
+-- The answer of an exported function can be read: number, place and reason stand where the header says, for all inputs.
+use mathlib.Core.Logic.{_⊎_, inl, inr, ⊎-elim}
+use mathlib.Core.Path.{_≡_, refl, sym, ap, subst}
+use mathlib.Core.Bool.{Bool, true, false}
 use mathlib.Core.List.{List}
 use Prim.Native.Nat.{ℕ, _^_, _≤_, _<_}
 use native.Mathlib.Omega.{arith}
 use lib.ListN.{length}
+use lib.Dec.{eqb}
+use borrow.Author.Tests.{eqb-true, eqb-false}
 use Rattle.plan_pieces.proofs.Laws.Answers.{unpacked}
 use Rattle.plan_pieces.specs.Answers.{Answer, done, packed, Reads}
 use Rattle.elf_read.specs.Headers.{sectionCount}
@@ -17,11 +20,11 @@ use Rattle.calls_demands.specs.Rules.{HeaderWell, TableWell}
 use Rattle.calls_demands.specs.First.{rule, nil, Checks, HoldBelow, FirstBroken, table}
 use Rattle.calls_demands.specs.Demands.{rollbackTable}
 use Rattle.calls_demands.specs.Ours.{ourInstall, ourRollback}
-use Rattle.calls_demands.specs.Codes.{FitGives, TakeBackGives}
+use Rattle.calls_demands.specs.Codes.{FitGives, TakeBackGives, CarriesReason}
 use Rattle.calls_demands.proofs.Laws.First.{Told, PlacesBelow, named-number, named-place}
 use Rattle.calls_demands.proofs.Laws.Rules.{well-header}
 use Rattle.calls_demands.proofs.Laws.Told.{told}
-use Rattle.calls_demands.proofs.Laws.Demands.{OfInstall, OfRollback, numbers-are, rollback-numbers, rollback-told}
+use Rattle.calls_demands.proofs.Laws.Demands.{OfInstall, OfRollback, no-reason, numbers-are, rollback-numbers, rollback-told}
 
 -- ---- places are numbers of 32 bits
 
@@ -78,27 +81,51 @@ place-of : (c : Checks) (a : Answer) → PlacesBelow (2 ^ 32) c → Told c a →
 place-of c a b (inl t) = omega (arith, ap (λ x. x .place) (t .0))
 place-of c a b (inr w) = named-place (2 ^ 32) c a b w
 
+-- ---- reasons are small
+
+small-reason : {n r : ℕ} → CarriesReason n r → r < 256
+small-reason {n} {r} c = go (eqb n 10) refl
+  where
+    go : (b : Bool) → eqb n 10 ≡ b → r < 256
+    go true e = omega (arith, c .ten (eqb-true n 10 e) .1)
+    go false e = omega (arith, c .others (eqb-false n 10 e))
+
 -- ---- the two calls
 
 module _ (object order : List ℕ) (f : Files) where
-  pub fit-gives : FitGives (ourInstall object order f .answer .number)
-  fit-gives = go (told object order f)
+  -- what every rule of the table has, an answer that is done has too
+  fit-of : OfInstall (ourInstall object order f .answer .number) (ourInstall object order f .answer .reason) ⊎ (ourInstall object order f .answer ≡ done)
+  fit-of = go (told object order f)
     where
-      go : Told (table object order f) (ourInstall object order f .answer) → ourInstall object order f .answer .number ≤ 15
-      go (inl t) = omega (arith, ap (λ x. x .number) (t .0))
-      go (inr b) = named-number OfInstall (table object order f) _ (numbers-are object order f) b .1
+      go : Told (table object order f) (ourInstall object order f .answer)
+          → OfInstall (ourInstall object order f .answer .number) (ourInstall object order f .answer .reason) ⊎ (ourInstall object order f .answer ≡ done)
+      go (inl t) = inr (t .0)
+      go (inr b) = inl (named-number OfInstall (table object order f) _ (numbers-are object order f) b)
+
+  pub fit-gives : FitGives (ourInstall object order f .answer .number)
+  fit-gives = ⊎-elim (λ o. o .1) (λ d. omega (arith, ap (λ x. x .number) d)) fit-of
+
+  pub fit-carries : CarriesReason (ourInstall object order f .answer .number) (ourInstall object order f .answer .reason)
+  fit-carries = ⊎-elim (λ o. o .2) (λ d. subst (λ (x : Answer). CarriesReason (x .number) (x .reason)) (sym d) (no-reason 0 (λ e. omega arith))) fit-of
 
   pub fit-reads : Reads (packed (ourInstall object order f .answer)) (ourInstall object order f .answer)
   fit-reads =
-      unpacked (ourInstall object order f .answer) (omega (arith, fit-gives)) (place-of (table object order f) _ (places object order f) (told object order f))
+      unpacked (ourInstall object order f .answer) (omega (arith, fit-gives)) (small-reason fit-carries) (place-of (table object order f) _ (places object order f) (told object order f))
 
 module _ (f : Files) where
-  pub take-back-gives : TakeBackGives (ourRollback f .answer .number)
-  take-back-gives = go (rollback-told f)
+  rollback-of : OfRollback (ourRollback f .answer .number) (ourRollback f .answer .reason) ⊎ (ourRollback f .answer ≡ done)
+  rollback-of = go (rollback-told f)
     where
-      go : Told (rollbackTable f) (ourRollback f .answer) → TakeBackGives (ourRollback f .answer .number)
-      go (inl t) = inl (ap (λ x. x .number) (t .0))
-      go (inr b) = inr (named-number OfRollback (rollbackTable f) _ (rollback-numbers f) b)
+      go : Told (rollbackTable f) (ourRollback f .answer) → OfRollback (ourRollback f .answer .number) (ourRollback f .answer .reason) ⊎ (ourRollback f .answer ≡ done)
+      go (inl t) = inr (t .0)
+      go (inr b) = inl (named-number OfRollback (rollbackTable f) _ (rollback-numbers f) b)
+
+  pub take-back-gives : TakeBackGives (ourRollback f .answer .number)
+  take-back-gives = ⊎-elim (λ o. inr (o .0)) (λ d. inl (ap (λ x. x .number) d)) rollback-of
+
+  -- a taking-back looks up no symbol
+  pub take-back-carries : ourRollback f .answer .reason ≡ 0
+  take-back-carries = ⊎-elim (λ o. o .1) (λ d. ap (λ x. x .reason) d) rollback-of
 
   small : TakeBackGives (ourRollback f .answer .number) → ourRollback f .answer .number < 256
   small (inl e) = omega arith
@@ -107,4 +134,5 @@ module _ (f : Files) where
   small (inr (inr (inr e))) = omega arith
 
   pub take-back-reads : Reads (packed (ourRollback f .answer)) (ourRollback f .answer)
-  take-back-reads = unpacked (ourRollback f .answer) (small take-back-gives) (place-of (rollbackTable f) _ (rollback-places f) (rollback-told f))
+  take-back-reads =
+      unpacked (ourRollback f .answer) (small take-back-gives) (omega (arith, take-back-carries)) (place-of (rollbackTable f) _ (rollback-places f) (rollback-told f))

@@ -19,7 +19,7 @@ use Rattle.elf_check.specs.declared.SectionCheck.the-variants.{Sound as AllSoun
 use Rattle.elf_check.specs.Rules.{sectionCheck}
 use Rattle.journal_format.specs.Journals.{count, held, Sound, sound, noRoom}
 use Rattle.plan_pieces.specs.Plans.{Piece, Verdict, refused, plan, overwritten, spanOf}
-use Rattle.plan_pieces.specs.Answers.{Answer, says, done}
+use Rattle.plan_pieces.specs.Answers.{Answer, saysWhy, done}
 use Rattle.journal_history.specs.Calls.{journalUnsound, windowBroken, noneStands, journalFull, Files, refuse, succeed, installed, settle, install, rolledBack, rollback, Install, Rollback, calling}
 use Rattle.journal_format.proofs.Laws.Sound.{test-sound, sound-test}
 use Rattle.journal_history.specs.Histories.{Standing, begin, laid, historyOf, Kind}
@@ -37,7 +37,7 @@ use Rattle.placing_match.specs.Externals.{externalCheck}
 use Rattle.placing_check.specs.Placing.{placingCheck}
 use Rattle.relocations_rules.specs.declared.RelocationCheck.{RelocationCheck}
 use Rattle.relocations_rules.specs.declared.RelocationCheck.the-variants.{Passed as AllKept, Broken}
-use Rattle.relocations_rules.specs.Search.{number, relocationCheck}
+use Rattle.relocations_rules.specs.Search.{number, reason, relocationCheck}
 use Rattle.placing_match.proofs.Laws.Theorems.{nothing-to-place as «none-placed»}
 use Rattle.calls_judgement.specs.Requires.{Fitting}
 use Rattle.calls_judgement.specs.Judgement.{afterTest, afterSections, afterFault, afterRelocations, planOf, judgement}
@@ -48,14 +48,16 @@ use Rattle.calls_demands.specs.First.{nil, rule, Checks, none, one, Hold
 use Rattle.calls_demands.specs.Laid.{IsSpan, Laid}
 use Rattle.calls_demands.specs.Demands.{rollbackTable, Demand1, Demand2, Journalled, StandAsLaid, Demand3}
 use Rattle.calls_demands.specs.Ours.{ourInstall, ourRollback}
+use Rattle.calls_demands.specs.Codes.{CarriesReason}
 use Rattle.calls_demands.proofs.Laws.First.{none-broken, one-first, Numbers, named-number, Told, later, at-once, broken-once}
+use Rattle.calls_demands.proofs.Laws.Symbols.{laterRules, symbols-hold, symbols-held}
 use Rattle.calls_demands.proofs.Laws.Told.{told}
 use Rattle.calls_demands.proofs.Laws.Laid.{laid-well}
 use Rattle.calls_demands.proofs.Laws.Spans.{is-span}
 
 -- ---- every rule, from the table and back
 
-holds-once : {R : Type 0} (n : ℕ) → HoldBelow (rule n (λ _. R) nil) 1 → R
+holds-once : {R : Type 0} (n : ℕ) → HoldBelow (rule n 0 (λ _. R) nil) 1 → R
 holds-once n h = h 0 (omega arith) .0
 
 pub rules-hold : (object order : List ℕ) (f : Files) → AllHold (table object order f) → Rules object order f
@@ -82,11 +84,11 @@ rules-hold object order f h1 =
       externals-match = λ k l. h7 .0 k l .0;
       placed-well = λ i l. h8 .0 i l .0;
       shapes = λ k l. h9 .0 k l .0;
-      symbols-resolve = λ k l. h9 .0 k l .1 .0;
-      forms-are = λ k l. h9 .0 k l .1 .1 .0;
-      one-pair-each = λ k l. h9 .0 k l .1 .1 .1 .0;
-      all-reach = λ k l. h9 .0 k l .1 .1 .1 .1 .0;
-      on-boundaries = λ k l. h9 .0 k l .1 .1 .1 .1 .1 .0;
+      symbols-resolve = λ k l. symbols-held object order (laterRules object order) k (h9 .0 k l .1) .0;
+      forms-are = λ k l. symbols-held object order (laterRules object order) k (h9 .0 k l .1) .1 .0;
+      one-pair-each = λ k l. symbols-held object order (laterRules object order) k (h9 .0 k l .1) .1 .1 .0;
+      all-reach = λ k l. symbols-held object order (laterRules object order) k (h9 .0 k l .1) .1 .1 .1 .0;
+      on-boundaries = λ k l. symbols-held object order (laterRules object order) k (h9 .0 k l .1) .1 .1 .1 .1 .0;
       room = holds-once 15 (h15 .0);
     }
 
@@ -111,7 +113,7 @@ hold-rules object order f r = (
                 (
                   (λ i l. (r .placed-well i l, tt)),
                   (
-                    (λ k l. (r .shapes k l, (r .symbols-resolve k l, (r .forms-are k l, (r .one-pair-each k l, (r .all-reach k l, (r .on-boundaries k l, tt))))))),
+                    (λ k l. (r .shapes k l, symbols-hold object order (laterRules object order) k (r .symbols-resolve k l) (r .forms-are k l, (r .one-pair-each k l, (r .all-reach k l, (r .on-boundaries k l, tt)))))),
                     (at-once 15 (r .room), tt),
                   ),
                 ),
@@ -124,46 +126,74 @@ hold-rules object order f r = (
   ),
 )
 
--- ---- an answer by its number and place
+-- ---- an answer by its number and its reason
 
 -- the numbers of an install, and of a rollback
-abbrev pub OfInstall : ℕ → Type 0
-OfInstall n = (0 < n) × (n ≤ 15)
+abbrev pub OfInstall : ℕ → ℕ → Type 0
+OfInstall n r = (0 < n) × (n ≤ 15) × CarriesReason n r
 
-abbrev pub OfRollback : ℕ → Type 0
-OfRollback n = (n ≡ 1) ⊎ ((n ≡ 3) ⊎ (n ≡ 16))
+abbrev pub OfRollback : ℕ → ℕ → Type 0
+OfRollback n r = ((n ≡ 1) ⊎ ((n ≡ 3) ⊎ (n ≡ 16))) × (r ≡ 0)
+
+pub no-reason : (n : ℕ) → (n ≡ 10 → ⊥) → CarriesReason n 0
+no-reason n h = record { ten = λ e. absurd (h e); others = λ _. refl }
 
 pub numbers-are : (object order : List ℕ) (f : Files) → Numbers OfInstall (table object order f)
 unfolding table
 numbers-are object order f =
-    let up : (n : ℕ) → 0 < n → n ≤ 15 → OfInstall n = λ n l h. (l, h) in
-    let one : (n : ℕ) → 0 < n → n ≤ 15 → OfInstall n × Unit {0} = λ n l h. (up n l h, tt) in (
-      one 1 (omega arith) (omega arith),
+    let up : (n : ℕ) → 0 < n → n ≤ 15 → (n ≡ 10 → ⊥) → OfInstall n 0 = λ n l h t. (l, h, no-reason n t) in
+    let one : (n : ℕ) → 0 < n → n ≤ 15 → (n ≡ 10 → ⊥) → OfInstall n 0 × Unit {0} = λ n l h t. (up n l h t, tt) in
+    let ten : (r : ℕ) → 1 ≤ r → r ≤ 7 → OfInstall 10 r = λ r l h. (omega arith, omega arith, record { ten = λ _. (l, h); others = λ t. absurd (t refl) }) in (
+      one 1 (omega arith) (omega arith) (λ e. omega arith),
       (
-        one 4 (omega arith) (omega arith),
+        one 4 (omega arith) (omega arith) (λ e. omega arith),
         (
-          one 2 (omega arith) (omega arith),
+          one 2 (omega arith) (omega arith) (λ e. omega arith),
           (
-            one 3 (omega arith) (omega arith),
+            one 3 (omega arith) (omega arith) (λ e. omega arith),
             (
-              one 5 (omega arith) (omega arith),
+              one 5 (omega arith) (omega arith) (λ e. omega arith),
               (
-                one 5 (omega arith) (omega arith),
+                one 5 (omega arith) (omega arith) (λ e. omega arith),
                 (
-                  one 6 (omega arith) (omega arith),
+                  one 6 (omega arith) (omega arith) (λ e. omega arith),
                   (
-                    one 7 (omega arith) (omega arith),
+                    one 7 (omega arith) (omega arith) (λ e. omega arith),
                     (
-                      one 8 (omega arith) (omega arith),
+                      one 8 (omega arith) (omega arith) (λ e. omega arith),
                       (
                         (
-                          up 9 (omega arith) (omega arith),
+                          up 9 (omega arith) (omega arith) (λ e. omega arith),
                           (
-                            up 10 (omega arith) (omega arith),
-                            (up 11 (omega arith) (omega arith), (up 12 (omega arith) (omega arith), (up 13 (omega arith) (omega arith), one 14 (omega arith) (omega arith)))),
+                            ten 1 (omega arith) (omega arith),
+                            (
+                              ten 2 (omega arith) (omega arith),
+                              (
+                                ten 3 (omega arith) (omega arith),
+                                (
+                                  ten 4 (omega arith) (omega arith),
+                                  (
+                                    ten 5 (omega arith) (omega arith),
+                                    (
+                                      ten 6 (omega arith) (omega arith),
+                                      (
+                                        ten 7 (omega arith) (omega arith),
+                                        (
+                                          up 11 (omega arith) (omega arith) (λ e. omega arith),
+                                          (
+                                            up 12 (omega arith) (omega arith) (λ e. omega arith),
+                                            (up 13 (omega arith) (omega arith) (λ e. omega arith), one 14 (omega arith) (omega arith) (λ e. omega arith)),
+                                          ),
+                                        ),
+                                      ),
+                                    ),
+                                  ),
+                                ),
+                              ),
+                            ),
                           ),
                         ),
-                        (one 15 (omega arith) (omega arith), tt),
+                        (one 15 (omega arith) (omega arith) (λ e. omega arith), tt),
                       ),
                     ),
                   ),
@@ -180,12 +210,12 @@ above object order f a b = named-number OfInstall (table object order f) a (numb
 
 pub rollback-numbers : (f : Files) → Numbers OfRollback (rollbackTable f)
 unfolding rollbackTable
-rollback-numbers f = ((inl refl, tt), ((inr (inl refl), tt), ((inr (inr refl), tt), tt)))
+rollback-numbers f = (((inl refl, refl), tt), (((inr (inl refl), refl), tt), (((inr (inr refl), refl), tt), tt)))
 
 pub rollback-above : (f : Files) (a : Answer) → FirstBroken (rollbackTable f) a → 0 < a .number
-rollback-above f a b = go (named-number OfRollback (rollbackTable f) a (rollback-numbers f) b)
+rollback-above f a b = go (named-number OfRollback (rollbackTable f) a (rollback-numbers f) b .0)
   where
-    go : OfRollback (a .number) → 0 < a .number
+    go : (a .number ≡ 1) ⊎ ((a .number ≡ 3) ⊎ (a .number ≡ 16)) → 0 < a .number
     go (inl e) = omega arith
     go (inr (inl e)) = omega arith
     go (inr (inr e)) = omega arith
@@ -220,22 +250,22 @@ refused-above object order len answer h =
     go (headerAllowed object) (wellFormed (classOf object) order) (windowAllowed (addressWidth object) (baseFor object order) len) (sectionCheck object) (placementCheck object order)
     (externalCheck object order) (placingCheck object (addressesFor object order) (baseFor object order) len) (relocationCheck object order (addressesFor object order)) refl h
   where
-    by : (m q : ℕ) → 0 < m → refused (says m q) ≡ refused answer → 0 < answer .number
-    by m q l e = let same : says m q ≡ answer = cc in omega (arith, ap (λ x. x .number) same)
+    by : (m q r : ℕ) → 0 < m → refused (saysWhy m q r) ≡ refused answer → 0 < answer .number
+    by m q r l e = let same : saysWhy m q r ≡ answer = cc in omega (arith, ap (λ x. x .number) same)
 
     go : (t a b : Bool) (c : SectionCheck) (d e f : Fault) (g : RelocationCheck) → relocationCheck object order (addressesFor object order) ≡ g
         → afterTest 4 t (afterTest 2 a (afterTest 3 b (afterSections c (afterFault 6 d (afterFault 7 e (afterFault 8 f (afterRelocations g (plan (planOf object order))))))))) ≡ refused answer
         → 0 < answer .number
-    go false a b c d e f g q h = by 4 0 (omega arith) h
-    go true false b c d e f g q h = by 2 0 (omega arith) h
-    go true true false c d e f g q h = by 3 0 (omega arith) h
-    go true true true (BrokenSection i) d e f g q h = by 5 i (omega arith) h
-    go true true true AllSound (At i) e f g q h = by 6 i (omega arith) h
-    go true true true AllSound Nowhere (At i) f g q h = by 7 i (omega arith) h
-    go true true true AllSound Nowhere Nowhere (At i) g q h = by 8 i (omega arith) h
+    go false a b c d e f g q h = by 4 0 0 (omega arith) h
+    go true false b c d e f g q h = by 2 0 0 (omega arith) h
+    go true true false c d e f g q h = by 3 0 0 (omega arith) h
+    go true true true (BrokenSection i) d e f g q h = by 5 i 0 (omega arith) h
+    go true true true AllSound (At i) e f g q h = by 6 i 0 (omega arith) h
+    go true true true AllSound Nowhere (At i) f g q h = by 7 i 0 (omega arith) h
+    go true true true AllSound Nowhere Nowhere (At i) g q h = by 8 i 0 (omega arith) h
     go true true true AllSound Nowhere Nowhere Nowhere (Broken x k) q h =
         let some : number x ≡ 0 → ⊥ = eqb-false (number x) 0 (some-number x (broken-is object order (addressesFor object order) x k q)) in
-        by (number x) k (omega arith) h
+        by (number x) k (reason x) (omega arith) h
     go true true true AllSound Nowhere Nowhere Nowhere AllKept q h =
         let z : _≡_ {A = ℕ} 0 1 = cc in
         absurd (omega arith)
@@ -300,11 +330,11 @@ rollback-told f = go (sound (f .journal) len) refl (leb len maxImage) refl (eqb 
         (cond (not a) (refuse journalUnsound f) (cond (not b) (refuse windowBroken f) (cond c (refuse noneStands f) (succeed (rolledBack f)))) .answer)
     go false p b q c r = broken-once 1 rest (λ s. clash (sound (f .journal) len) p (sound-test (f .journal) len s))
     go true p false q c r =
-        later 1 (rule 1 (λ _. Sound (f .journal) len) nil) rest windowBroken (at-once 1 (test-sound (f .journal) len p))
+        later 1 (rule 1 0 (λ _. Sound (f .journal) len) nil) rest windowBroken (at-once 1 (test-sound (f .journal) len p))
         (broken-once 3 last (λ s. clash (leb len maxImage) q (le-leb len maxImage s)))
     go true p true q true r =
-        later 1 (rule 1 (λ _. Sound (f .journal) len) nil) rest noneStands (at-once 1 (test-sound (f .journal) len p))
-        (later 1 (rule 3 (λ _. len ≤ maxImage) nil) last noneStands (at-once 3 (leb-true len maxImage q))
+        later 1 (rule 1 0 (λ _. Sound (f .journal) len) nil) rest noneStands (at-once 1 (test-sound (f .journal) len p))
+        (later 1 (rule 3 0 (λ _. len ≤ maxImage) nil) last noneStands (at-once 3 (leb-true len maxImage q))
         (broken-once 16 none (λ s. absurd (omega (arith, eqb-true (count (f .journal)) 0 r)))))
     go true p true q false r =
         let some : count (f .journal) ≡ 0 → ⊥ = eqb-false (count (f .journal)) 0 r in

@@ -1,4 +1,4 @@
--- Each test of checks 9 to 14 is equivalent to the rule that it is named after.
+-- Each test of checks 9 and 11 to 14 is equivalent to the rule that it is named after. Check 10 is in `Symbols`.
 use mathlib.Core.Logic.{_⊎_, inl, inr, ⊎-elim}
 use mathlib.Core.Path.{_≡_, refl, sym, ap, _∙_, subst}
 use mathlib.Core.Bool.{Bool, true, false, not, cond, _&&_, _||_}
@@ -28,25 +28,17 @@ use Rattle.relocations_types.specs.declared.Part.the-variants.{Whole, Distance,
 use Rattle.relocations_types.specs.declared.Rule.{Rule}
 use Rattle.relocations_types.specs.declared.Decision.{Decision}
 use Rattle.relocations_types.specs.declared.Decision.the-variants.{Marker, Align, Store, Refused}
-use Rattle.placing_symbols.specs.declared.SymbolValue.{SymbolValue}
 use Rattle.elf_read.specs.Headers.{classOf, hasRvc}
 use Rattle.relocations_rela.specs.declared.sites.Site.{Site}
 use Rattle.relocations_rela.specs.declared.shape.Previous.{Previous}
 use Rattle.relocations_rela.specs.declared.shape.Previous.the-variants.{Nothing, Entry}
-use Rattle.relocations_rela.specs.Sites.{entry, decisionAt, offset, A, P, found}
+use Rattle.relocations_rela.specs.Sites.{decisionAt, offset, A, P, found}
 use Rattle.relocations_decisions.specs.Decisions.{isStore, isRefused, takesPair, needsPair}
 use Rattle.relocations_rela.specs.Shape.{neverFalls, end, staysInside, previous, sharesPlace, clears, noOverlap, addendWell, shapeWell}
 use Rattle.relocations_values.specs.Pairs.{pairOf}
 use Rattle.relocations_values.specs.declared.pairs.Pair.the-variants.{At, NotOne}
-use Rattle.relocations_rules.specs.Rules.{isResolved, symbol, inTarget, symbolWell, isData, standsWell, asksWell, formWell, isOne, pairWell, operandReaches, partReaches, reachesWell, distanceWell, boundaryWell}
-use Rattle.calls_demands.specs.Rules.{Within, Even, SharePlace, PaddingWell, ShapeWell, SymbolWell, FormWell, PairWell, KeepsAlignment, InHalvesReach, OperandReachable, PartReachable, Reachable, ReachWell, BoundaryWell}
-
--- 24 and 25 are not markers
-needs-store : (d : Decision) → needsPair d ≡ true → isStore d ≡ true
-needs-store (Store r) e = refl
-needs-store Marker e = never e
-needs-store Align e = never e
-needs-store Refused e = never e
+use Rattle.relocations_rules.specs.Rules.{symbol, isData, standsWell, asksWell, formWell, isOne, pairWell, operandReaches, partReaches, reachesWell, distanceWell, boundaryWell}
+use Rattle.calls_demands.specs.Rules.{Within, Even, SharePlace, PaddingWell, ShapeWell, FormWell, PairWell, KeepsAlignment, InHalvesReach, OperandReachable, PartReachable, Reachable, ReachWell, BoundaryWell}
 
 -- whole numbers
 
@@ -157,29 +149,6 @@ module _ (object : List ℕ) (x : Site) where
   well-shape j s =
       both _ _ (both _ _ (both _ _ (both _ _ (ap not (s .known)) (rises-back j (s .rising))) (le-leb _ _ (s .inside))) (clear-back j (s .clear)))
       (addend-back (decisionAt object x j) j (s .padding) (s .no-addend))
-
-  -- ---- 10
-
-  pub symbol-well : (j : ℕ) (value : SymbolValue) → symbolWell object x j value ≡ true → SymbolWell object x j value
-  unfolding symbolWell inTarget
-  symbol-well j value e =
-      let d : Decision = decisionAt object x j in
-      let rest : Bool = not (needsPair d) || inTarget object x j in
-      let all : isStore d ≡ true → (isResolved value && rest) ≡ true = given (isStore d) (isResolved value && rest) e in
-      let there : needsPair d ≡ true → inTarget object x j ≡ true = λ p. given (needsPair d) (inTarget object x j) (and-right (isResolved value) rest (all (needs-store d p))) p in
-      record {
-        resolves = λ s. and-left (isResolved value) rest (all s);
-        above = λ p. ltb-true _ _ (and-left (ltb 0 (entry object x j .symbol)) (eqb (symbol object x j .section) (x .index)) (there p));
-        in-target = λ p. eqb-true _ _ (and-right (ltb 0 (entry object x j .symbol)) (eqb (symbol object x j .section) (x .index)) (there p));
-      }
-
-  pub well-symbol : (j : ℕ) (value : SymbolValue) → SymbolWell object x j value → symbolWell object x j value ≡ true
-  unfolding symbolWell inTarget
-  well-symbol j value w =
-      implied (isStore (decisionAt object x j)) (isResolved value && (not (needsPair (decisionAt object x j)) || inTarget object x j))
-      (λ s.
-      both _ _ (w .resolves s)
-      (implied (needsPair (decisionAt object x j)) (inTarget object x j) (λ p. both _ _ (lt-ltb _ _ (w .above p)) (eq-eqb _ _ (w .in-target p)))))
 
   -- ---- 11
 

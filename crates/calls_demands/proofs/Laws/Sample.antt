@@ -31,11 +31,12 @@ use Rattle.relocations_types.specs.Types.{table, among, lookup, decision}
 use Rattle.relocations_rela.specs.Sites.{siteAt}
 use Rattle.relocations_rela.specs.Shape.{neverFalls, staysInside, previous, noOverlap, shapeWell}
 use Rattle.relocations_rules.specs.Rules.{symbolWell, standsWell, formWell, pairWell}
-use Rattle.calls_demands.specs.Rules.{Rules, OrderWell, WindowWell, HeaderWell, TableWell, PlacedAsAllocated, ValuedIfUndefined, PlacedIfAllocated, site, entryOf, valueOf, Shape, SymbolResolves, FormIs, OnePair, Reaches, OnBoundary, Room}
+use Rattle.calls_demands.specs.Rules.{Rules, OrderWell, WindowWell, HeaderWell, TableWell, PlacedAsAllocated, ValuedIfUndefined, PlacedIfAllocated, site, entryOf, Shape, SymbolResolves, FormIs, OnePair, Reaches, OnBoundary, Room}
 use Rattle.plan_pieces.specs.declared.Span.{Span}
 use Rattle.calls_demands.specs.Laid.{Covers, IsSpan}
 use Rattle.calls_demands.proofs.Laws.Rules.{order-well, window-well, header-well, table-well, placed-well}
-use Rattle.calls_demands.proofs.Laws.Relocations.{shape-well, symbol-well, form-well, pair-well, reach-well, boundary-well}
+use Rattle.calls_demands.proofs.Laws.Relocations.{shape-well, form-well, pair-well, reach-well, boundary-well}
+use Rattle.calls_demands.proofs.Laws.Symbols.{symbol-well}
 
 -- ---- an install that can be done: a section of four bytes with one relocation of type 1, whose T is 0x12345678
 
@@ -129,7 +130,7 @@ shape-is = shape-well object (site object order 0) (entryOf object order 0) refl
 
 symbol-is : SymbolResolves object order 0
 unfolding object order words bytes leAt le classOf sum relocationsIn locationOf countingRela isAllocated readSection sectionAt allocated siteAt readRelocation relocationAt decision hasRvc table lookup among symbolWell symbolValue first addresses tabulate placedAt valueIn entryAt
-symbol-is = symbol-well object (site object order 0) (entryOf object order 0) (valueOf object order 0) refl
+symbol-is = symbol-well object order (addressesFor object order) (site object order 0) (entryOf object order 0) refl
 
 form-is : FormIs object order 0
 unfolding object order words bytes leAt le classOf sum relocationsIn locationOf countingRela isAllocated readSection sectionAt allocated siteAt readRelocation relocationAt decision hasRvc table lookup among formWell standsWell first addresses tabulate placedAt valueIn entryAt

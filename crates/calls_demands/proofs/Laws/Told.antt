@@ -27,7 +27,7 @@ use Rattle.order_format.proofs.Laws.Sound.{orderHeaderOf, wellFormed-sound, sou
 use Rattle.order_lookup.specs.Addresses.{addressesFor, baseFor}
 use Rattle.journal_format.specs.Journals.{count, held, Sound, sound, noRoom}
 use Rattle.plan_pieces.specs.Plans.{Verdict, refused, plan, spanOf}
-use Rattle.plan_pieces.specs.Answers.{Answer, says}
+use Rattle.plan_pieces.specs.Answers.{Answer, says, saysWhy}
 use Rattle.journal_history.specs.Calls.{journalUnsound, journalFull, Files, refuse, succeed, installed, settle, install}
 use Rattle.journal_format.proofs.Laws.Sound.{test-sound, sound-test}
 use Rattle.placing_match.specs.declared.Fault.{Fault}
@@ -37,6 +37,7 @@ use Rattle.placing_match.specs.Externals.{isUndefined, externalCheck}
 use Rattle.placing_check.specs.Placing.{misplaced, placingCheck}
 use Rattle.placing_match.proofs.Laws.Theorems.{nowhere-holds}
 use Rattle.placing_symbols.specs.declared.SymbolValue.{SymbolValue}
+use Rattle.placing_symbols.specs.Reasons.{reasonNumber}
 use Rattle.relocations_types.specs.declared.Decision.{Decision}
 use Rattle.relocations_rela.specs.declared.sites.Site.{Site}
 use Rattle.relocations_rela.specs.Shape.{shapeWell}
@@ -45,35 +46,30 @@ use Rattle.relocations_rules.specs.declared.Finding.{Finding}
 use Rattle.relocations_rules.specs.declared.Finding.the-variants.{Kept, BadShape, BadSymbol, BadForm, NoPair, OutOfReach, OffBoundary}
 use Rattle.relocations_rules.specs.declared.RelocationCheck.the-variants.{Passed as AllKept, Broken}
 use Rattle.relocations_values.specs.Values.{valueAt, targetAt}
-use Rattle.relocations_rules.specs.Rules.{symbolWell, formWell, pairWell, distanceWell, boundaryWell}
-use Rattle.relocations_rules.specs.Search.{number, firstBroken, finding, findingOf, isBroken, relocationCheck}
+use Rattle.relocations_rules.specs.Rules.{symbolWell, why, formWell, pairWell, distanceWell, boundaryWell}
+use Rattle.relocations_rules.specs.Search.{number, reason, firstBroken, finding, findingOf, isBroken, relocationCheck}
 use Rattle.calls_judgement.specs.Requires.{Readable, Named, Placeable, Fitting}
 use Rattle.calls_judgement.specs.Judgement.{afterTest, afterSections, afterFault, afterRelocations, planOf, judgement}
-use Rattle.calls_demands.specs.Rules.{OrderWell, WindowWell, HeaderWell, TableWell, PlacedAsAllocated, ValuedIfUndefined, PlacedIfAllocated, site, entryOf, Shape, SymbolResolves, FormIs, OnePair, Reaches, OnBoundary, Room}
+use Rattle.calls_demands.specs.Rules.{OrderWell, WindowWell, HeaderWell, TableWell, PlacedAsAllocated, ValuedIfUndefined, PlacedIfAllocated, site, entryOf, Shape, Room}
 use Rattle.calls_demands.specs.Laid.{IsSpan}
 use Rattle.calls_demands.specs.First.{Line, nil, rule, Checks, none, check, HoldAt, BrokenAt, one, each, table}
 use Rattle.calls_demands.proofs.Laws.First.{Told, later, at-once, at-each, broken-once, broken-at}
 use Rattle.calls_demands.proofs.Laws.Spans.{is-span}
 use Rattle.calls_demands.proofs.Laws.Rules.{lowest-found, order-well, well-order, window-well, well-window, header-well, well-header, table-well, well-table, matches, no-match, valued, not-valued, placed-well, placed-wrong, has-room, room-left}
-use Rattle.calls_demands.proofs.Laws.Relocations.{shape-well, well-shape, symbol-well, well-symbol, form-well, well-form, pair-well, well-pair, boundary-well, reach-well, well-reach, well-boundary}
+use Rattle.calls_demands.proofs.Laws.Symbols.{symbolRules, laterRules, symbols-hold, symbols-pass, symbol-well, symbol-broken}
+use Rattle.calls_demands.proofs.Laws.Relocations.{shape-well, well-shape, form-well, well-form, pair-well, well-pair, boundary-well, reach-well, well-reach, well-boundary}
 
 -- ---- checks 9 to 14 of relocation k
 
 module _ (object order : List ℕ) where
   abbrev pub line : Line
-  line =
-      rule 9 (Shape object order)
-      (rule 10 (SymbolResolves object order)
-      (rule 11 (FormIs object order)
-      (rule 12 (OnePair object order)
-      (rule 13 (Reaches object order)
-      (rule 14 (OnBoundary object order) nil)))))
+  line = rule 9 0 (Shape object order) (symbolRules object order (laterRules object order))
 
   -- what a finding says about relocation k
   abbrev Means : ℕ → Finding → Type 0
   Means k Kept = HoldAt line k
   Means k BadShape = BrokenAt line (says 9 k)
-  Means k BadSymbol = BrokenAt line (says 10 k)
+  Means k (BadSymbol why) = BrokenAt line (saysWhy 10 k (reasonNumber why))
   Means k BadForm = BrokenAt line (says 11 k)
   Means k NoPair = BrokenAt line (says 12 k)
   Means k OutOfReach = BrokenAt line (says 13 k)
@@ -98,37 +94,43 @@ module _ (object order : List ℕ) where
       t : ℕ
       t = targetAt object order (addressesFor object order) x j
 
+      after : symbolWell object x j v ≡ true → (a : Answer) → a .place ≡ k → BrokenAt (laterRules object order) a → BrokenAt (symbolRules object order (laterRules object order)) a
+      after e a = symbols-pass object order (laterRules object order) k (symbol-well object order (addressesFor object order) x j e) a
+
       go : (a : Bool) → shapeWell object x j ≡ a → (b : Bool) → symbolWell object x j v ≡ b → (c : Bool) → formWell object x j ≡ c → (p : Bool) → pairWell object x j ≡ p
           → (q : Bool) → distanceWell (classOf object) (hasRvc object) d t (P object x j) ≡ q → (r : Bool) → boundaryWell d (P object x j) (A object x j) ≡ r
-          → Means k (cond a (cond b (cond c (cond p (cond q (cond r Kept OffBoundary) OutOfReach) NoPair) BadForm) BadSymbol) BadShape)
+          → Means k (cond a (cond b (cond c (cond p (cond q (cond r Kept OffBoundary) OutOfReach) NoPair) BadForm) (BadSymbol (why v))) BadShape)
       go false e₁ b e₂ c e₃ p e₄ q e₅ r e₆ = inl (refl, λ s. clash _ e₁ (well-shape object x j s))
-      go true e₁ false e₂ c e₃ p e₄ q e₅ r e₆ = inr (shape-well object x j e₁, inl (refl, λ s. clash _ e₂ (well-symbol object x j v s)))
-      go true e₁ true e₂ false e₃ p e₄ q e₅ r e₆ = inr (shape-well object x j e₁, inr (symbol-well object x j v e₂, inl (refl, λ s. clash _ e₃ (well-form object x j s))))
+      go true e₁ false e₂ c e₃ p e₄ q e₅ r e₆ = inr (shape-well object x j e₁, symbol-broken object order (laterRules object order) k e₂)
+      go true e₁ true e₂ false e₃ p e₄ q e₅ r e₆ = inr (shape-well object x j e₁, after e₂ _ refl (inl (refl, λ s. clash _ e₃ (well-form object x j s))))
       go true e₁ true e₂ true e₃ false e₄ q e₅ r e₆ =
-          inr (shape-well object x j e₁, inr (symbol-well object x j v e₂, inr (form-well object x j e₃, inl (refl, λ s. clash _ e₄ (well-pair object x j s)))))
+          inr (shape-well object x j e₁, after e₂ _ refl (inr (form-well object x j e₃, inl (refl, λ s. clash _ e₄ (well-pair object x j s)))))
       go true e₁ true e₂ true e₃ true e₄ false e₅ r e₆ =
-          inr (shape-well object x j e₁, inr (symbol-well object x j v e₂, inr (form-well object x j e₃, inr (pair-well object x j e₄, inl (refl, λ s. clash _ e₅ (well-reach object x j t s))))))
+          inr (shape-well object x j e₁, after e₂ _ refl (inr (form-well object x j e₃, inr (pair-well object x j e₄, inl (refl, λ s. clash _ e₅ (well-reach object x j t s))))))
       go true e₁ true e₂ true e₃ true e₄ true e₅ false e₆ =
           inr (
             shape-well object x j e₁,
-            inr (symbol-well object x j v e₂, inr (form-well object x j e₃, inr (pair-well object x j e₄, inr (reach-well object x j t e₅, inl (refl, λ s. clash _ e₆ (well-boundary object x j s)))))),
+            after e₂ _ refl (inr (form-well object x j e₃, inr (pair-well object x j e₄, inr (reach-well object x j t e₅, inl (refl, λ s. clash _ e₆ (well-boundary object x j s)))))),
           )
-      go true e₁ true e₂ true e₃ true e₄ true e₅ true e₆ =
-          (shape-well object x j e₁, (symbol-well object x j v e₂, (form-well object x j e₃, (pair-well object x j e₄, (reach-well object x j t e₅, (boundary-well object x j e₆, tt))))))
+      go true e₁ true e₂ true e₃ true e₄ true e₅ true e₆ = (
+        shape-well object x j e₁,
+        symbols-hold object order (laterRules object order) k (symbol-well object order (addressesFor object order) x j e₂)
+            (form-well object x j e₃, (pair-well object x j e₄, (reach-well object x j t e₅, (boundary-well object x j e₆, tt)))),
+      )
 
   kept-holds : (k : ℕ) (f : Finding) → isBroken f ≡ false → Means k f → HoldAt line k
   kept-holds k Kept e m = m
   kept-holds k BadShape e m = never (sym e)
-  kept-holds k BadSymbol e m = never (sym e)
+  kept-holds k (BadSymbol why) e m = never (sym e)
   kept-holds k BadForm e m = never (sym e)
   kept-holds k NoPair e m = never (sym e)
   kept-holds k OutOfReach e m = never (sym e)
   kept-holds k OffBoundary e m = never (sym e)
 
-  broken-breaks : (k : ℕ) (f : Finding) → isBroken f ≡ true → Means k f → BrokenAt line (says (number f) k)
+  broken-breaks : (k : ℕ) (f : Finding) → isBroken f ≡ true → Means k f → BrokenAt line (saysWhy (number f) k (reason f))
   broken-breaks k Kept e m = never e
   broken-breaks k BadShape e m = m
-  broken-breaks k BadSymbol e m = m
+  broken-breaks k (BadSymbol why) e m = m
   broken-breaks k BadForm e m = m
   broken-breaks k NoPair e m = m
   broken-breaks k OutOfReach e m = m
@@ -142,7 +144,8 @@ module _ (object order : List ℕ) where
   kept-at : (k : ℕ) → broken k ≡ false → HoldAt line k
   kept-at k e = kept-holds k (findingOf object order (addressesFor object order) k) e (means k)
 
-  broken-here : (k : ℕ) → broken k ≡ true → BrokenAt line (says (number (findingOf object order (addressesFor object order) k)) k)
+  broken-here : (k : ℕ) → broken k ≡ true
+      → BrokenAt line (saysWhy (number (findingOf object order (addressesFor object order) k)) k (reason (findingOf object order (addressesFor object order) k)))
   broken-here k e = broken-breaks k (findingOf object order (addressesFor object order) k) e (means k)
 
   relocations : (f : Files) (tail : Checks) (next : Verdict) → (relocationCheck object order (addressesFor object order) ≡ AllKept → Told tail (settle f next .answer))
@@ -167,7 +170,7 @@ module _ (f : Files) (tail : Checks) (next : Verdict) where
   alone : (n : ℕ) (R : Type 0) (b : Bool) → (b ≡ true → Told tail (settle f next .answer)) → (b ≡ true → R) → (b ≡ false → R → ⊥)
       → Told (one n R tail) (settle f (afterTest n b next) .answer)
   unfolding settle
-  alone n R true t holds breaks = later 1 (rule n (λ _. R) nil) tail (settle f next .answer) (at-once n (holds refl)) (t refl)
+  alone n R true t holds breaks = later 1 (rule n 0 (λ _. R) nil) tail (settle f next .answer) (at-once n (holds refl)) (t refl)
   alone n R false t holds breaks = broken-once n tail (breaks refl)
 
   -- a check that names the lowest place where it is broken
@@ -178,7 +181,7 @@ module _ (f : Files) (tail : Checks) (next : Verdict) where
   at-lowest m n R p t holds breaks = go (lowest p m) refl
     where
       go : (r : Fault) → lowest p m ≡ r → Told (each m n R tail) (settle f (afterFault n r next) .answer)
-      go Nowhere e = later m (rule n R nil) tail (settle f next .answer) (at-each m n (λ k l. holds k (nowhere-holds p m e k l))) (t e)
+      go Nowhere e = later m (rule n 0 R nil) tail (settle f next .answer) (at-each m n (λ k l. holds k (nowhere-holds p m e k l))) (t e)
       go (At k) e =
           let l = lowest-found p m k e in
           broken-at m n k tail (l .0) (λ q h. holds q (l .1 q h)) (breaks k (l .2))
@@ -203,7 +206,7 @@ module _ (object : List ℕ) where
     sectionTable = one 5 (TableWell object) sections
 
     past-table : (a : Answer) → tableAllowed object ≡ true → Told sections a → Told sectionTable a
-    past-table a e h = later 1 (rule 5 (λ _. TableWell object) nil) sections a (at-once 5 (table-well object e)) h
+    past-table a e h = later 1 (rule 5 0 (λ _. TableWell object) nil) sections a (at-once 5 (table-well object e)) h
 
     by : (r : SectionCheck) → sectionCheck object ≡ r → Told sectionTable (settle f (afterSections r next) .answer)
         → Told sectionTable (settle f (afterSections (sectionCheck object) next) .answer)
@@ -233,7 +236,7 @@ module _ (object : List ℕ) where
             let passed : sectionCheck object ≡ AllSound = check-sound object e₂ all in
             by AllSound passed
             (past-table (settle f next .answer) e₂
-            (later n (rule 5 (SoundSection object) nil) tail (settle f next .answer) (at-each n 5 (λ j l. fine j (all j l))) (t passed)))
+            (later n (rule 5 0 (SoundSection object) nil) tail (settle f next .answer) (at-each n 5 (λ j l. fine j (all j l))) (t passed)))
 
 -- ---- all of them
 
@@ -345,6 +348,6 @@ module _ (object order : List ℕ) (f : Files) where
     where
       go : (b : Bool) → sound (f .journal) len ≡ b → Told (one 1 (Sound (f .journal) len) checks4) (cond (not b) (refuse journalUnsound f) (settle f (judgement object order len)) .answer)
       go true e =
-          later 1 (rule 1 (λ _. Sound (f .journal) len) nil) checks4 (settle f (judgement object order len) .answer)
+          later 1 (rule 1 0 (λ _. Sound (f .journal) len) nil) checks4 (settle f (judgement object order len) .answer)
           (at-once 1 (test-sound (f .journal) len e)) told4
       go false e = broken-once 1 checks4 (λ s. clash (sound (f .journal) len) e (sound-test (f .journal) len s))

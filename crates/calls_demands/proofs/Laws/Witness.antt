@@ -52,7 +52,7 @@ use Rattle.journal_history.specs.Calls.{Files, succeed, Call, Install, Rollback
 use Rattle.journal_history.specs.Histories.{Standing, History, begin, spans, laid, stand, fall, told, historyOf, Start, AsTold}
 use Rattle.placing_match.specs.Externals.{isUndefined}
 use Rattle.placing_check.specs.Placing.{endOf, unit, aligned, endsInMemory, hasBytes, inWindow, share, apart, misplaced}
-use Rattle.placing_symbols.specs.Values.{ofSection, symbolValue}
+use Rattle.placing_symbols.specs.Values.{ofSection, ofEntry, symbolValue}
 use Rattle.relocations_rela.specs.Sites.{siteAt, decisionAt}
 use Rattle.relocations_rela.specs.Shape.{neverFalls, staysInside, previous, sharesPlace, noOverlap, shapeWell}
 use Rattle.relocations_values.specs.declared.pairs.Pair.{Pair}
@@ -67,12 +67,13 @@ use Rattle.relocations_bytes.specs.Sections.{sumAt, distanceAt, relaOf, relocat
 use Rattle.relocations_bytes.specs.Promises.{stackAt, ReadsBack, AddUp}
 use Rattle.placing_span.specs.Pieces.{pieces}
 use Rattle.calls_judgement.specs.Judgement.{planOf, judgement}
-use Rattle.calls_demands.specs.Rules.{Rules, WindowWell, HeaderWell, TableWell, PlacedAsAllocated, ValuedIfUndefined, PlacedIfAllocated, site, entryOf, valueOf}
+use Rattle.calls_demands.specs.Rules.{Rules, WindowWell, HeaderWell, TableWell, PlacedAsAllocated, ValuedIfUndefined, PlacedIfAllocated, site, entryOf}
 use Rattle.calls_demands.specs.Laid.{Covers, IsSpan, siteOf, IsRelocation, bytesAt, Laid}
 use Rattle.calls_demands.specs.Demands.{Promised}
 use Rattle.calls_demands.specs.Ours.{ourInstall, ourRollback}
 use Rattle.calls_demands.proofs.Laws.Rules.{order-well, window-well, header-well, table-well, valued, placed-well}
-use Rattle.calls_demands.proofs.Laws.Relocations.{shape-well, symbol-well, form-well, pair-well, reach-well, boundary-well}
+use Rattle.calls_demands.proofs.Laws.Relocations.{shape-well, form-well, pair-well, reach-well, boundary-well}
+use Rattle.calls_demands.proofs.Laws.Symbols.{symbol-well}
 use Rattle.calls_demands.proofs.Laws.Sample.{words}
 use Rattle.calls_demands.proofs.Laws.Demands.{Done, done-leaves, demand-2}
 use Rattle.calls_demands.proofs.Laws.Promised.{ours-keep}
@@ -176,7 +177,7 @@ record Fine (code from : ℕ) : Type 0 where
   only-laid : (t b : ℕ) → Covers object (orderWith code) t b → (from ≤ b) × (b < from + 28)
 
 fine₁ : Fine 0x20000000 0
-unfolding object orderWith words bytes leAt le classOf wellFormed ascending everywhere first entryAt windowAllowed lengthAllowed readSection sectionAt allocated placedAt valueIn externalValue symbolTable symbolCount readSymbol symbolAt isAllocated misplaced aligned unit endsInMemory endOf inWindow hasBytes loaded share apart addresses tabulate sum relocationsIn locationOf countingRela siteAt readRelocation relocationAt bytesOf part decision hasRvc table lookup among neverFalls staysInside previous sharesPlace noOverlap shapeWell ofSection symbolValue inTarget symbolWell hasForm standsWell formWell isPair howMany pairOf pairWell reaches keepsAlignment within even residue signed plus minus finding firstBroken findingOf relocationCheck
+unfolding object orderWith words bytes leAt le classOf wellFormed ascending everywhere first entryAt windowAllowed lengthAllowed readSection sectionAt allocated placedAt valueIn externalValue symbolTable symbolCount readSymbol symbolAt isAllocated misplaced aligned unit endsInMemory endOf inWindow hasBytes loaded share apart addresses tabulate sum relocationsIn locationOf countingRela siteAt readRelocation relocationAt bytesOf part decision hasRvc table lookup among neverFalls staysInside previous sharesPlace noOverlap shapeWell ofEntry ofSection symbolValue inTarget symbolWell hasForm standsWell formWell isPair howMany pairOf pairWell reaches keepsAlignment within even residue signed plus minus finding firstBroken findingOf relocationCheck
 fine₁ = record { order-is = refl; window-is = refl; placed-are = refl; relocations-are = refl; only-laid = laid }
   where
     laid : (t b : ℕ) → Covers object order₁ t b → (0 ≤ b) × (b < 28)
@@ -189,7 +190,7 @@ fine₁ = record { order-is = refl; window-is = refl; placed-are = refl; relocat
     laid (suc (suc (suc (suc (suc (suc t)))))) b c = absurd (omega (arith, c .there, count-is))
 
 fine₂ : Fine 0x20000020 24
-unfolding object orderWith words bytes leAt le classOf wellFormed ascending everywhere first entryAt windowAllowed lengthAllowed readSection sectionAt allocated placedAt valueIn externalValue symbolTable symbolCount readSymbol symbolAt isAllocated misplaced aligned unit endsInMemory endOf inWindow hasBytes loaded share apart addresses tabulate sum relocationsIn locationOf countingRela siteAt readRelocation relocationAt bytesOf part decision hasRvc table lookup among neverFalls staysInside previous sharesPlace noOverlap shapeWell ofSection symbolValue inTarget symbolWell hasForm standsWell formWell isPair howMany pairOf pairWell reaches keepsAlignment within even residue signed plus minus finding firstBroken findingOf relocationCheck
+unfolding object orderWith words bytes leAt le classOf wellFormed ascending everywhere first entryAt windowAllowed lengthAllowed readSection sectionAt allocated placedAt valueIn externalValue symbolTable symbolCount readSymbol symbolAt isAllocated misplaced aligned unit endsInMemory endOf inWindow hasBytes loaded share apart addresses tabulate sum relocationsIn locationOf countingRela siteAt readRelocation relocationAt bytesOf part decision hasRvc table lookup among neverFalls staysInside previous sharesPlace noOverlap shapeWell ofEntry ofSection symbolValue inTarget symbolWell hasForm standsWell formWell isPair howMany pairOf pairWell reaches keepsAlignment within even residue signed plus minus finding firstBroken findingOf relocationCheck
 fine₂ = record { order-is = refl; window-is = refl; placed-are = refl; relocations-are = refl; only-laid = laid }
   where
     laid : (t b : ℕ) → Covers object order₂ t b → (24 ≤ b) × (b < 24 + 28)
@@ -240,7 +241,7 @@ module _ (code from : ℕ) (fine : Fine code from) where
             (placed-well object (addressesFor object order) (baseFor object order) 52 i
             (not-true _ (everywhere-at (λ j. not (misplaced object (addressesFor object order) (baseFor object order) 52 j)) 6 (fine .placed-are) i (omega (arith, count-is)))));
         shapes = λ k h. shape-well object (site object order k) (entryOf object order k) (tested k h .shape);
-        symbols-resolve = λ k h. symbol-well object (site object order k) (entryOf object order k) (valueOf object order k) (tested k h .symbol);
+        symbols-resolve = λ k h. symbol-well object order (addressesFor object order) (site object order k) (entryOf object order k) (tested k h .symbol);
         forms-are = λ k h. form-well object (site object order k) (entryOf object order k) (tested k h .form);
         one-pair-each = λ k h. pair-well object (site object order k) (entryOf object order k) (tested k h .pair);
         all-reach = λ k h. reach-well object (site object order k) (entryOf object order k) _ (tested k h .distance);
@@ -288,11 +289,11 @@ left₂ = done-leaves object order₂ files (demand-2 .holds-done object order�
 
 -- each takes 28 bytes of the journal
 takes₁ : spanOf (planOf object order₁) .size ≡ 28
-unfolding object orderWith words bytes le leAt classOf part readSection sectionAt allocated loaded hasBytes addresses tabulate placedAt valueIn externalValue entryAt first sum pieces planOf spanOf end lowest relocated relaOf countingRela siteAt after applied sumAt distanceAt isPair howMany pairOf symbolTable symbolCount readSymbol symbolAt isAllocated ofSection readRelocation relocationAt decision hasRvc table lookup among bytesOf patched symbolValue residue signed plus minus high low read put
+unfolding object orderWith words bytes le leAt classOf part readSection sectionAt allocated loaded hasBytes addresses tabulate placedAt valueIn externalValue entryAt first sum pieces planOf spanOf end lowest relocated relaOf countingRela siteAt after applied sumAt distanceAt isPair howMany pairOf symbolTable symbolCount readSymbol symbolAt isAllocated ofEntry ofSection readRelocation relocationAt decision hasRvc table lookup among bytesOf patched symbolValue residue signed plus minus high low read put
 takes₁ = refl
 
 takes₂ : spanOf (planOf object order₂) .size ≡ 28
-unfolding object orderWith words bytes le leAt classOf part readSection sectionAt allocated loaded hasBytes addresses tabulate placedAt valueIn externalValue entryAt first sum pieces planOf spanOf end lowest relocated relaOf countingRela siteAt after applied sumAt distanceAt isPair howMany pairOf symbolTable symbolCount readSymbol symbolAt isAllocated ofSection readRelocation relocationAt decision hasRvc table lookup among bytesOf patched symbolValue residue signed plus minus high low read put
+unfolding object orderWith words bytes le leAt classOf part readSection sectionAt allocated loaded hasBytes addresses tabulate placedAt valueIn externalValue entryAt first sum pieces planOf spanOf end lowest relocated relaOf countingRela siteAt after applied sumAt distanceAt isPair howMany pairOf symbolTable symbolCount readSymbol symbolAt isAllocated ofEntry ofSection readRelocation relocationAt decision hasRvc table lookup among bytesOf patched symbolValue residue signed plus minus high low read put
 takes₂ = refl
 
 stood₁ : stand (begin files) object order₁ (judgement object order₁ (length (files .image))) ≡ succeed (only (stands₁ ∷ []))
@@ -329,11 +330,11 @@ image₂ =
     ++ words (0x12346517 ∷ 0xFD850513 ∷ 0x00002097 ∷ 0x7E0080E7 ∷ 0xFE0508E3 ∷ [])
 
 lays₁ : overwritten (files .image) (planOf object order₁) ≡ image₁
-unfolding files image₁ object orderWith words bytes le leAt classOf part readSection sectionAt allocated loaded hasBytes addresses tabulate placedAt valueIn externalValue entryAt first sum pieces planOf overwritten relocated relaOf countingRela siteAt after applied sumAt distanceAt isPair howMany pairOf symbolTable symbolCount readSymbol symbolAt isAllocated ofSection readRelocation relocationAt decision hasRvc table lookup among bytesOf patched symbolValue residue signed plus minus high low read put
+unfolding files image₁ object orderWith words bytes le leAt classOf part readSection sectionAt allocated loaded hasBytes addresses tabulate placedAt valueIn externalValue entryAt first sum pieces planOf overwritten relocated relaOf countingRela siteAt after applied sumAt distanceAt isPair howMany pairOf symbolTable symbolCount readSymbol symbolAt isAllocated ofEntry ofSection readRelocation relocationAt decision hasRvc table lookup among bytesOf patched symbolValue residue signed plus minus high low read put
 lays₁ = refl
 
 lays₂ : overwritten image₁ (planOf object order₂) ≡ image₂
-unfolding image₁ image₂ object orderWith words bytes le leAt classOf part readSection sectionAt allocated loaded hasBytes addresses tabulate placedAt valueIn externalValue entryAt first sum pieces planOf overwritten relocated relaOf countingRela siteAt after applied sumAt distanceAt isPair howMany pairOf symbolTable symbolCount readSymbol symbolAt isAllocated ofSection readRelocation relocationAt decision hasRvc table lookup among bytesOf patched symbolValue residue signed plus minus high low read put
+unfolding image₁ image₂ object orderWith words bytes le leAt classOf part readSection sectionAt allocated loaded hasBytes addresses tabulate placedAt valueIn externalValue entryAt first sum pieces planOf overwritten relocated relaOf countingRela siteAt after applied sumAt distanceAt isPair howMany pairOf symbolTable symbolCount readSymbol symbolAt isAllocated ofEntry ofSection readRelocation relocationAt decision hasRvc table lookup among bytesOf patched symbolValue residue signed plus minus high low read put
 lays₂ = refl
 
 -- ---- what is read by the manual's fields out of the code and the data of an install
@@ -367,7 +368,7 @@ low-half = record { calculation = Of Low Paired; field = I; form = LowI; size = 
 
 -- demand 2 says so of each of the two, over any image
 says₁ : (before after : List ℕ) → Laid object order₁ before after → Says (part after 0 20) (part after 24 4) 0x12345FF8 0x2800 0x118
-unfolding object orderWith words bytes le leAt classOf sum relocationsIn countingRela readSection sectionAt allocated isAllocated siteAt readRelocation relocationAt symbolTable symbolCount readSymbol symbolAt ofSection decision hasRvc table lookup among addresses tabulate placedAt valueIn externalValue entryAt first symbolValue bytesOf part residue signed plus minus isPair howMany pairOf distanceAt sumAt stackAt ReadsBack high low read
+unfolding object orderWith words bytes le leAt classOf sum relocationsIn countingRela readSection sectionAt allocated isAllocated siteAt readRelocation relocationAt symbolTable symbolCount readSymbol symbolAt ofEntry ofSection decision hasRvc table lookup among addresses tabulate placedAt valueIn externalValue entryAt first symbolValue bytesOf part residue signed plus minus isPair howMany pairOf distanceAt sumAt stackAt ReadsBack high low read
 says₁ before after l =
     record {
       pair = halves-add object order₁ before after l 4 1 0 (record { there = omega arith; counts = refl; entry = omega arith }) low-half refl refl refl;
@@ -377,7 +378,7 @@ says₁ before after l =
     }
 
 says₂ : (before after : List ℕ) → Laid object order₂ before after → Says (part after 32 20) (part after 24 4) 0x12345FD8 0x27E0 0xF8
-unfolding object orderWith words bytes le leAt classOf sum relocationsIn countingRela readSection sectionAt allocated isAllocated siteAt readRelocation relocationAt symbolTable symbolCount readSymbol symbolAt ofSection decision hasRvc table lookup among addresses tabulate placedAt valueIn externalValue entryAt first symbolValue bytesOf part residue signed plus minus isPair howMany pairOf distanceAt sumAt stackAt ReadsBack high low read
+unfolding object orderWith words bytes le leAt classOf sum relocationsIn countingRela readSection sectionAt allocated isAllocated siteAt readRelocation relocationAt symbolTable symbolCount readSymbol symbolAt ofEntry ofSection decision hasRvc table lookup among addresses tabulate placedAt valueIn externalValue entryAt first symbolValue bytesOf part residue signed plus minus isPair howMany pairOf distanceAt sumAt stackAt ReadsBack high low read
 says₂ before after l =
     record {
       pair = halves-add object order₂ before after l 4 1 0 (record { there = omega arith; counts = refl; entry = omega arith }) low-half refl refl refl;

@@ -41,7 +41,7 @@ use Rattle.placing_match.specs.Placements.{lowest, differs, placementCheck}
 use Rattle.placing_match.specs.Externals.{isUndefined, externalCheck}
 use Rattle.placing_match.proofs.Laws.Lowest.{lowest-nowhere}
 use Rattle.placing_check.specs.Placing.{endOf, unit, aligned, endsInMemory, hasBytes, inWindow, share, apart, misplaced, placingCheck}
-use Rattle.placing_symbols.specs.Values.{ofSection, symbolValue}
+use Rattle.placing_symbols.specs.Values.{ofSection, ofEntry, symbolValue}
 use Rattle.relocations_rela.specs.Sites.{siteAt}
 use Rattle.relocations_rela.specs.Shape.{neverFalls, staysInside, previous, sharesPlace, noOverlap, shapeWell}
 use Rattle.relocations_values.specs.Pairs.{isPair, howMany, pairOf}
@@ -125,12 +125,12 @@ externals-match = lowest-nowhere (λ k. isGiven (externalValue (classOf object) 
 
 -- so the judgement is the plan: the other checks are computed
 judged : judgement object order 40 ≡ plan (planOf object order)
-unfolding judgement object order words doubles bytes leAt le classOf headerAllowed tableAllowed sectionCheck sectionWell startsNull insideFile allocatedWell symbolTableWell noCountingRel relaKept relaWell relocationsKept relocationsWell oneBit countingRel wellFormed ascending everywhere first entryAt windowAllowed lengthAllowed readSection sectionAt allocated placedAt valueIn externalValue symbolTable symbolCount readSymbol symbolAt isAllocated placingCheck lowest misplaced aligned unit endsInMemory endOf inWindow hasBytes loaded share apart addresses tabulate sum relocationsIn locationOf countingRela siteAt readRelocation relocationAt bytesOf part decision hasRvc table lookup among neverFalls staysInside previous sharesPlace noOverlap shapeWell ofSection symbolValue inTarget symbolWell hasForm standsWell formWell isPair howMany pairOf pairWell reaches keepsAlignment within even residue signed plus minus finding firstBroken findingOf relocationCheck
+unfolding judgement object order words doubles bytes leAt le classOf headerAllowed tableAllowed sectionCheck sectionWell startsNull insideFile allocatedWell symbolTableWell noCountingRel relaKept relaWell relocationsKept relocationsWell oneBit countingRel wellFormed ascending everywhere first entryAt windowAllowed lengthAllowed readSection sectionAt allocated placedAt valueIn externalValue symbolTable symbolCount readSymbol symbolAt isAllocated placingCheck lowest misplaced aligned unit endsInMemory endOf inWindow hasBytes loaded share apart addresses tabulate sum relocationsIn locationOf countingRela siteAt readRelocation relocationAt bytesOf part decision hasRvc table lookup among neverFalls staysInside previous sharesPlace noOverlap shapeWell ofEntry ofSection symbolValue inTarget symbolWell hasForm standsWell formWell isPair howMany pairOf pairWell reaches keepsAlignment within even residue signed plus minus finding firstBroken findingOf relocationCheck
 judged = rw (placements-match, externals-match)
 
 -- the plan takes 24 bytes of the journal
 takes : spanOf (planOf object order) .size ≡ 24
-unfolding object order words doubles bytes le leAt classOf part readSection sectionAt allocated loaded hasBytes addresses tabulate placedAt valueIn externalValue entryAt first sum pieces planOf spanOf end lowestOf relocated relaOf countingRela siteAt after applied sumAt distanceAt isPair howMany pairOf symbolTable symbolCount readSymbol symbolAt isAllocated ofSection readRelocation relocationAt decision hasRvc table lookup among bytesOf patched symbolValue residue signed plus minus high low read put
+unfolding object order words doubles bytes le leAt classOf part readSection sectionAt allocated loaded hasBytes addresses tabulate placedAt valueIn externalValue entryAt first sum pieces planOf spanOf end lowestOf relocated relaOf countingRela siteAt after applied sumAt distanceAt isPair howMany pairOf symbolTable symbolCount readSymbol symbolAt isAllocated ofEntry ofSection readRelocation relocationAt decision hasRvc table lookup among bytesOf patched symbolValue residue signed plus minus high low read put
 takes = refl
 
 -- so our install is done, and demand 2 says that every rule then holds
@@ -161,7 +161,7 @@ image-64 =
     ++ replicate 8 0xA5
 
 lays : overwritten (files .image) (planOf object order) ≡ image-64
-unfolding files image-64 object order words doubles bytes le leAt classOf part readSection sectionAt allocated loaded hasBytes addresses tabulate placedAt valueIn externalValue entryAt first sum pieces planOf overwritten relocated relaOf countingRela siteAt after applied sumAt distanceAt isPair howMany pairOf symbolTable symbolCount readSymbol symbolAt isAllocated ofSection readRelocation relocationAt decision hasRvc table lookup among bytesOf patched symbolValue residue signed plus minus high low read put
+unfolding files image-64 object order words doubles bytes le leAt classOf part readSection sectionAt allocated loaded hasBytes addresses tabulate placedAt valueIn externalValue entryAt first sum pieces planOf overwritten relocated relaOf countingRela siteAt after applied sumAt distanceAt isPair howMany pairOf symbolTable symbolCount readSymbol symbolAt isAllocated ofEntry ofSection readRelocation relocationAt decision hasRvc table lookup among bytesOf patched symbolValue residue signed plus minus high low read put
 lays = refl
 
 -- ---- what is read by the manual's fields out of the code
@@ -177,7 +177,7 @@ pub record Says (code : List ℕ) : Type 0 where
 
 -- demand 2 says so, over any image
 says : (before after : List ℕ) → Laid object order before after → Says (part after 8 24)
-unfolding object order words doubles bytes le leAt classOf sum relocationsIn countingRela readSection sectionAt allocated isAllocated siteAt readRelocation relocationAt symbolTable symbolCount readSymbol symbolAt ofSection decision hasRvc table lookup among addresses tabulate placedAt valueIn externalValue entryAt first symbolValue bytesOf part residue signed plus minus isPair howMany pairOf distanceAt sumAt ReadsBack high low read
+unfolding object order words doubles bytes le leAt classOf sum relocationsIn countingRela readSection sectionAt allocated isAllocated siteAt readRelocation relocationAt symbolTable symbolCount readSymbol symbolAt ofEntry ofSection decision hasRvc table lookup among addresses tabulate placedAt valueIn externalValue entryAt first symbolValue bytesOf part residue signed plus minus isPair howMany pairOf distanceAt sumAt ReadsBack high low read
 says before after l =
     record {
       pair = halves-add object order before after l 3 1 0 (record { there = omega arith; counts = refl; entry = omega arith }) low-half refl refl refl;

@@ -1,29 +1,19 @@
 -- Laws of answers: the verdict that an answer stands for.
-use mathlib.Core.Path.{_≡_, sym, ap, _∙_}
-use mathlib.Core.Bool.{true, false, cond}
+use mathlib.Core.Path.{_≡_, sym, _∙_}
+use mathlib.Core.Bool.{true, false}
 use mathlib.Core.List.{List}
 use Prim.Native.Nat.{ℕ}
 use lib.Dec.{eqb}
 use Rattle.numbers_definitions.proofs.Laws.Tests.{never}
 use Rattle.order_format.specs.declared.OrderHeader.{OrderHeader}
 use Rattle.order_lookup.specs.Addresses.{addressesFor}
-use Rattle.plan_pieces.specs.Answers.{says}
 use Rattle.plan_pieces.specs.Plans.{refused, plan}
-use Rattle.relocations_rules.specs.declared.Finding.{Finding}
-use Rattle.relocations_rules.specs.Search.{number, isBroken}
 use Rattle.calls_judgement.specs.Judgement.{planOf, judgement}
 use Rattle.calls_judgement.specs.Requires.{Placeable}
-use Rattle.calls_judgement.proofs.Laws.Judgement.{some-number}
 use Rattle.calls_judge.specs.Answers.{answerOf, verdictOf}
 use Rattle.calls_judge.specs.Judged.{PlacedWell, JudgedWell}
 use Rattle.calls_judge.specs.declared.Answer.{Answer}
 use Rattle.calls_judge.specs.declared.Judged.{Judged}
-
--- the answer for a relocation stands for its refusal
-pub verdict-broken : (object order : List ℕ) (r : Answer) (f : Finding) (k : ℕ) → isBroken f ≡ true → answerOf r ≡ says (number f) k
-    → verdictOf object order r ≡ refused (says (number f) k)
-verdict-broken object order r f k b e =
-    ap (λ a. cond (eqb (a .number) 0) (plan (planOf object order)) (refused a)) e ∙ rw (some-number f b)
 
 pub verdict-refused : (object order : List ℕ) (r : Answer) → eqb (answerOf r .number) 0 ≡ false → verdictOf object order r ≡ refused (answerOf r)
 verdict-refused object order r e = rw e

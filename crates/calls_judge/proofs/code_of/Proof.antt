@@ -1,6 +1,6 @@
 -- `calls_judge::code_of` meets its contract.
 use mathlib.Core.Path.{sym, ap, _∙_}
-use Rattle.plan_pieces.specs.Answers.{packed}
+use Rattle.plan_pieces.specs.Answers.{saysWhy, packed}
 use Rattle.calls_judge.specs.Answers.{answerOf}
 use borrow.Author.Needs.{needs}
 use Rattle.calls_judge.proofs.code_of.Statement.{statement}
@@ -37,25 +37,28 @@ returns-10 : tie.Need-returns-10
 returns-10 c = c .pack10 .ensures ∙ sym (ap (λ a. packed (answerOf a)) (c .before .before .answer5 .given .1))
 
 returns-11 : tie.Need-returns-11
-returns-11 c = c .pack11 .ensures ∙ sym (ap (λ a. packed (answerOf a)) (c .before .before .answer6 .given .1))
+returns-11 c =
+    let told : tie.After-answer6 = search in
+    let relocation = told .answer6 .given .0 .0 in
+    c .pack-reason .ensures ∙ ap (λ r. packed (saysWhy 10 relocation r)) (c .before .reason-number .ensures) ∙ sym (ap (λ a. packed (answerOf a)) (told .answer6 .given .1))
 
 returns-12 : tie.Need-returns-12
-returns-12 c = c .pack12 .ensures ∙ sym (ap (λ a. packed (answerOf a)) (c .before .before .answer7 .given .1))
+returns-12 c = c .pack11 .ensures ∙ sym (ap (λ a. packed (answerOf a)) (c .before .before .answer7 .given .1))
 
 returns-13 : tie.Need-returns-13
-returns-13 c = c .pack13 .ensures ∙ sym (ap (λ a. packed (answerOf a)) (c .before .before .answer8 .given .1))
+returns-13 c = c .pack12 .ensures ∙ sym (ap (λ a. packed (answerOf a)) (c .before .before .answer8 .given .1))
 
 returns-14 : tie.Need-returns-14
-returns-14 c = c .pack14 .ensures ∙ sym (ap (λ a. packed (answerOf a)) (c .before .before .answer9 .given .1))
+returns-14 c = c .pack13 .ensures ∙ sym (ap (λ a. packed (answerOf a)) (c .before .before .answer9 .given .1))
 
 returns-15 : tie.Need-returns-15
-returns-15 c = c .pack15 .ensures ∙ sym (ap (λ a. packed (answerOf a)) (c .before .before .answer10 .given .1))
+returns-15 c = c .pack14 .ensures ∙ sym (ap (λ a. packed (answerOf a)) (c .before .before .answer10 .given .1))
 
 returns-16 : tie.Need-returns-16
-returns-16 c = c .pack16 .ensures ∙ sym (ap (λ a. packed (answerOf a)) (c .before .enum-told6 .given .1))
+returns-16 c = c .pack15 .ensures ∙ sym (ap (λ a. packed (answerOf a)) (c .before .enum-told6 .given .1))
 
 returns-17 : tie.Need-returns-17
-returns-17 c = c .pack17 .ensures ∙ sym (ap (λ a. packed (answerOf a)) (c .before .enum-told7 .given .1))
+returns-17 c = c .pack16 .ensures ∙ sym (ap (λ a. packed (answerOf a)) (c .before .enum-told7 .given .1))
 
 pub code-of-spec : {M : Type 1} → statement M
 code-of-spec =
@@ -82,6 +85,7 @@ code-of-spec =
     (λ c. search needs)
     (λ c κs. search needs)
     (λ c. search needs)
+    (λ c κs. search needs)
     (λ c κs. search needs)
     (λ c. search needs)
     (λ c κs. search needs)

@@ -22,7 +22,7 @@ use Rattle.elf_check.specs.declared.SectionCheck.the-variants.{Sound as AllSoun
 use Rattle.elf_check.specs.Rules.{sectionCheck}
 use Rattle.elf_read.specs.Headers.{classOf, addressWidth}
 use Rattle.elf_read.specs.Entries.{relocationCount}
-use Rattle.plan_pieces.specs.Answers.{Answer, says}
+use Rattle.plan_pieces.specs.Answers.{Answer, says, saysWhy}
 use Rattle.plan_pieces.specs.Plans.{Piece, Verdict, refused, plan}
 use Rattle.placing_match.specs.declared.Fault.{Fault}
 use Rattle.placing_match.specs.declared.Fault.the-variants.{Nowhere, At}
@@ -33,7 +33,7 @@ use Rattle.relocations_rules.specs.declared.Finding.{Finding}
 use Rattle.relocations_rules.specs.declared.Finding.the-variants.{Kept, BadShape, BadSymbol, BadForm, NoPair, OutOfReach, OffBoundary}
 use Rattle.relocations_rules.specs.declared.RelocationCheck.{RelocationCheck}
 use Rattle.relocations_rules.specs.declared.RelocationCheck.the-variants.{Passed as AllKept, Broken}
-use Rattle.relocations_rules.specs.Search.{number, findingOf, isBroken, relocationCheck}
+use Rattle.relocations_rules.specs.Search.{number, reason, findingOf, isBroken, relocationCheck}
 use Rattle.calls_judgement.specs.Judgement.{afterTest, afterSections, afterFault, afterRelocations, planOf, judgement}
 use Rattle.calls_judgement.specs.Requires.{Readable, Named, Placeable, Fitting}
 
@@ -77,7 +77,7 @@ broken-is object order a f k e = go (ltb (first p (relocationCount object)) (rel
 pub some-number : (f : Finding) → isBroken f ≡ true → eqb (number f) 0 ≡ false
 some-number Kept e = never e
 some-number BadShape e = refl
-some-number BadSymbol e = refl
+some-number (BadSymbol why) e = refl
 some-number BadForm e = refl
 some-number NoPair e = refl
 some-number OutOfReach e = refl
@@ -128,7 +128,7 @@ module _ (object order : List ℕ) (len : ℕ) where
     gives-8 i n p = named-well n ∙ rw p
 
     pub gives-9-to-14 : (f : Finding) (k : ℕ) → Placeable object order counts len → relocationCheck object order (addressesFor object order) ≡ Broken f k
-        → judgement object order len ≡ refused (says (number f) k)
+        → judgement object order len ≡ refused (saysWhy (number f) k (reason f))
     gives-9-to-14 f k p e = named-well (p .named) ∙ rw (p .placing, e)
 
     pub gives-plan : Fitting object order counts len → judgement object order len ≡ plan (planOf object order)
@@ -167,7 +167,7 @@ plan-fits object order len ps h =
     go true p₀ true p₁ true p₂ AllSound p₃ (At i) p₄ e p₅ f p₆ g p₇ h = wrong (says 6 i) ps h
     go true p₀ true p₁ true p₂ AllSound p₃ Nowhere p₄ (At i) p₅ f p₆ g p₇ h = wrong (says 7 i) ps h
     go true p₀ true p₁ true p₂ AllSound p₃ Nowhere p₄ Nowhere p₅ (At i) p₆ g p₇ h = wrong (says 8 i) ps h
-    go true p₀ true p₁ true p₂ AllSound p₃ Nowhere p₄ Nowhere p₅ Nowhere p₆ (Broken x k) p₇ h = wrong (says (number x) k) ps h
+    go true p₀ true p₁ true p₂ AllSound p₃ Nowhere p₄ Nowhere p₅ Nowhere p₆ (Broken x k) p₇ h = wrong (saysWhy (number x) k (reason x)) ps h
     go true p₀ true p₁ true p₂ AllSound p₃ Nowhere p₄ Nowhere p₅ Nowhere p₆ AllKept p₇ h =
         let s = wellFormed-sound c order p₁ in
         record {

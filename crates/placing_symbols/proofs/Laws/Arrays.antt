@@ -11,16 +11,27 @@ use borrow.Author.Tests.{ltb-true, ltb-false}
 use borrow.Author.Count.{below-more}
 use Rattle.numbers_definitions.proofs.Laws.Lists.{zeros-length, zeros-at}
 use Rattle.elf_read.specs.Entries.{symbolCount}
+use Rattle.placing_symbols.specs.declared.Reason.{Reason}
+use Rattle.placing_symbols.specs.declared.Reason.the-variants.{PastTable, NotAllocated, Common, Reserved, Undefined, WrongType, OutsideTarget}
 use Rattle.placing_symbols.specs.declared.SymbolValue.{SymbolValue}
 use Rattle.placing_symbols.specs.declared.SymbolValue.the-variants.{Resolved, Unresolved}
 use Rattle.placing_symbols.specs.Values.{symbolValue}
-use Rattle.placing_symbols.specs.Arrays.{noValues, stateOf, numberOf, decoded, listed, ValueArrays, Long, Blank, Valued}
+use Rattle.placing_symbols.specs.Arrays.{noValues, stateOfReason, stateOf, numberOf, decoded, listed, ValueArrays, Long, Blank, Valued}
 use Rattle.placing_symbols.proofs.Laws.Values.{value-past}
 
 -- what is stored for S is read as S
 decoded-stored : (v : SymbolValue) → decoded (stateOf v) (numberOf v) ≡ v
 decoded-stored (Resolved a) = refl
-decoded-stored Unresolved = refl
+decoded-stored (Unresolved reason) = go reason
+  where
+    go : (reason : Reason) → decoded (stateOfReason reason) 0 ≡ Unresolved reason
+    go PastTable = refl
+    go NotAllocated = refl
+    go Common = refl
+    go Reserved = refl
+    go Undefined = refl
+    go WrongType = refl
+    go OutsideTarget = refl
 
 zero-at : (l : List ℕ) → l ≡ noValues (length l) → (k : ℕ) → getD l k 0 ≡ 0
 zero-at l e k = ap (λ s. getD s k 0) e ∙ zeros-at (length l) k
@@ -97,7 +108,7 @@ pub listed-is : {object order addresses values states : List ℕ} → Valued obj
 unfolding listed
 listed-is {object} {order} {addresses} {values} {states} v k = go (ltb k (length states)) refl
   where
-    go : (b : Bool) → ltb k (length states) ≡ b → cond b (decoded (getD states k 0) (getD values k 0)) Unresolved ≡ symbolValue object order addresses k
+    go : (b : Bool) → ltb k (length states) ≡ b → cond b (decoded (getD states k 0) (getD values k 0)) (Unresolved PastTable) ≡ symbolValue object order addresses k
     go true e = v .is k (ltb-true k (length states) e)
     go false e =
         let past : length states ≤ k = ltb-false k (length states) e in

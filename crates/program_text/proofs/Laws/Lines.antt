@@ -14,6 +14,7 @@ use Rattle.io.specs.Counts.{Counts}
 use Rattle.io.specs.Digits.{glyph, digits, Fewest}
 use Rattle.numbers_definitions.specs.Bytes.{part}
 use Rattle.numbers_definitions.proofs.Laws.Lists.{part-whole}
+use Rattle.plan_pieces.specs.Answers.{Answer}
 use Rattle.program_text.specs.Lines.{Appended, decimalIn, decimal, line}
 
 -- ---- appended bytes
@@ -73,10 +74,11 @@ fewest-most n k h f = go (leb k 20) refl
 
 -- ---- the line of an answer
 
--- four pieces, each after the one before
-pub line-of : (number place : ℕ) {s₀ s₁ s₂ s₃ s₄ : List ℕ} {r₁ r₂ r₃ r₄ : ℕ}
-    → Appended s₀ 0 (decimal number) r₁ s₁ → Appended s₁ r₁ (32 ∷ []) r₂ s₂
-    → Appended s₂ r₂ (decimal place) r₃ s₃ → Appended s₃ r₃ (10 ∷ []) r₄ s₄
-    → take r₄ s₄ ≡ line (record { number = number; place = place })
+-- six pieces, each after the one before
+pub line-of : (a : Answer) {s₀ s₁ s₂ s₃ s₄ s₅ s₆ : List ℕ} {r₁ r₂ r₃ r₄ r₅ r₆ : ℕ}
+    → Appended s₀ 0 (decimal (a .number)) r₁ s₁ → Appended s₁ r₁ (32 ∷ []) r₂ s₂
+    → Appended s₂ r₂ (decimal (a .place)) r₃ s₃ → Appended s₃ r₃ (32 ∷ []) r₄ s₄
+    → Appended s₄ r₄ (decimal (a .reason)) r₅ s₅ → Appended s₅ r₅ (10 ∷ []) r₆ s₆
+    → take r₆ s₆ ≡ line a
 unfolding line
-line-of number place p q r t = rw (t .text, r .text, q .text, p .text)
+line-of a p q r t u v = rw (v .text, u .text, t .text, r .text, q .text, p .text)

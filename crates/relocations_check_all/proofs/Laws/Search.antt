@@ -12,6 +12,8 @@ use Rattle.elf_read.specs.Headers.{sectionCount}
 use Rattle.elf_read.specs.Sections.{countingRela, relocationsIn, relocationsBelow}
 use Rattle.elf_read.specs.Entries.{relocationCount}
 use Rattle.elf_check.specs.Requires.{SoundObject}
+use Rattle.placing_symbols.specs.declared.Reason.{Reason}
+use Rattle.relocations_values.specs.Values.{valueAt}
 use Rattle.relocations_rela.specs.declared.sites.Site.{Site}
 use Rattle.relocations_rela.specs.Sites.{siteAt, count}
 use Rattle.relocations_rela.proofs.Laws.Sites.{count-is}
@@ -20,14 +22,15 @@ use Rattle.relocations_rules.specs.declared.Finding.the-variants.{Kept, BadShap
 use Rattle.relocations_rules.specs.declared.RelocationCheck.{RelocationCheck}
 use Rattle.relocations_rules.specs.declared.RelocationCheck.the-variants.{Passed, Broken}
 use Rattle.relocations_rules.specs.Search.{number, finding, findingOf, isBroken, relocationCheck}
-use Rattle.relocations_rules.proofs.Laws.Search.{counted, finding-entry, check-broken, check-passed}
+use Rattle.relocations_rules.specs.Rules.{why}
+use Rattle.relocations_rules.proofs.Laws.Search.{counted, finding-entry, check-broken, check-passed, symbol-finding}
 use Rattle.relocations_check_all.specs.Sites.{findingOfNumber, Worded, WordedBelow, SiteChecked}
 use Rattle.relocations_check_all.proofs.Laws.Sites.{number-kept, finding-number}
 
 some-broken : (f : Finding) → (number f ≡ 0 → ⊥) → isBroken f ≡ true
 some-broken Kept n = absurd (n refl)
 some-broken BadShape n = refl
-some-broken BadSymbol n = refl
+some-broken (BadSymbol why) n = refl
 some-broken BadForm n = refl
 some-broken NoPair n = refl
 some-broken OutOfReach n = refl
@@ -132,14 +135,17 @@ module _ (object order addresses : List ℕ) where
           let b = site .broken some in
           omega (arith, below .number-is, counted object i at h (omega (arith, many, b .there)))
 
-      pub below-broken : relocationCheck object order addresses ≡ Broken (findingOfNumber m) (n + at)
-      below-broken =
+      pub below-broken : (reason : Reason) → reason ≡ why (valueAt object order addresses x at) → relocationCheck object order addresses ≡ Broken (findingOfNumber m reason) (n + at)
+      below-broken reason because =
           let b = site .broken some in
+          let f : Finding = finding object order addresses (siteAt object addresses i) at in
+          let ten : number f ≡ 10 → f ≡ BadSymbol reason =
+          λ e. symbol-finding object order addresses (siteAt object addresses i) at e ∙ sym (ap BadSymbol (because ∙ ap (λ x. why (valueAt object order addresses x at)) is)) in
           let what : findingOf object order addresses (n + at) ≡ finding object order addresses (siteAt object addresses i) at = place at (b .there) in
           let breaks : isBroken (findingOf object order addresses (n + at)) ≡ true =
           ap isBroken what ∙ some-broken (finding object order addresses (siteAt object addresses i) at) (λ z. b .some (b .number-is ∙ z)) in
-          let same : findingOf object order addresses (n + at) ≡ findingOfNumber m =
-          what ∙ sym (finding-number (finding object order addresses (siteAt object addresses i) at)) ∙ ap findingOfNumber (sym (b .number-is)) in
+          let same : findingOf object order addresses (n + at) ≡ findingOfNumber m reason =
+          what ∙ sym (finding-number f reason ten) ∙ ap (λ m. findingOfNumber m reason) (sym (b .number-is)) in
           check-broken object order addresses (n + at) broken-there (kept-up-to at (omega (arith, b .there)) (b .below)) breaks ∙ ap (λ f. Broken f (n + at)) same
 
   -- all relocations of a site have room

@@ -10,6 +10,7 @@ use lib.Seq.{getD-set-same, getD-set-other}
 use Rattle.numbers_definitions.specs.Bytes.{leAt}
 use Rattle.elf_read.specs.declared.Relocation.{Relocation}
 use Rattle.elf_check.specs.Requires.{SoundObject}
+use Rattle.placing_symbols.specs.declared.Reason.{Reason}
 use Rattle.placing_symbols.specs.declared.SymbolValue.{SymbolValue}
 use Rattle.placing_symbols.specs.Values.{symbolValue}
 use Rattle.placing_symbols.specs.Arrays.{listed, Valued}
@@ -40,20 +41,20 @@ use Rattle.relocations_check_all.specs.Sites.{findingOfNumber, Worded, K
 pub number-kept : (f : Finding) → number f ≡ 0 → f ≡ Kept
 number-kept Kept e = refl
 number-kept BadShape e = absurd (omega arith)
-number-kept BadSymbol e = absurd (omega arith)
+number-kept (BadSymbol why) e = absurd (omega arith)
 number-kept BadForm e = absurd (omega arith)
 number-kept NoPair e = absurd (omega arith)
 number-kept OutOfReach e = absurd (omega arith)
 number-kept OffBoundary e = absurd (omega arith)
 
-pub finding-number : (f : Finding) → findingOfNumber (number f) ≡ f
-finding-number Kept = refl
-finding-number BadShape = refl
-finding-number BadSymbol = refl
-finding-number BadForm = refl
-finding-number NoPair = refl
-finding-number OutOfReach = refl
-finding-number OffBoundary = refl
+pub finding-number : (f : Finding) (reason : Reason) → (number f ≡ 10 → f ≡ BadSymbol reason) → findingOfNumber (number f) reason ≡ f
+finding-number Kept reason ten = refl
+finding-number BadShape reason ten = refl
+finding-number (BadSymbol why) reason ten = sym (ten refl)
+finding-number BadForm reason ten = refl
+finding-number NoPair reason ten = refl
+finding-number OutOfReach reason ten = refl
+finding-number OffBoundary reason ten = refl
 
 module _ (object order addresses : List ℕ) (x : Site) where
   -- a relocation that breaks no rule keeps check 9

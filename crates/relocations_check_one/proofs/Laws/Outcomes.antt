@@ -40,8 +40,8 @@ use Rattle.relocations_rela.proofs.Laws.Trails.{shape-by}
 use Rattle.relocations_values.specs.Values.{S, T}
 use Rattle.relocations_values.specs.declared.pairs.Pair.{Pair}
 use Rattle.relocations_values.specs.Pairs.{pairOf}
-use Rattle.relocations_rules.specs.Rules.{isResolved, inTarget, symbol, symbolWell, formWell, isOne, pairWell, reachesWell, distanceWell, boundaryWell}
-use Rattle.relocations_rules.specs.declared.Finding.the-variants.{Kept, OffBoundary}
+use Rattle.relocations_rules.specs.Rules.{isResolved, inTarget, symbol, symbolWell, why, formWell, isOne, pairWell, reachesWell, distanceWell, boundaryWell}
+use Rattle.relocations_rules.specs.declared.Finding.the-variants.{Kept, BadSymbol, BadForm, NoPair, OutOfReach, OffBoundary}
 use Rattle.relocations_rules.specs.Search.{number, firstBroken, finding}
 use Rattle.relocations_bytes.specs.Sections.{sumAt, distanceAt}
 use Rattle.relocations_bytes.specs.Patches.{patched}
@@ -75,8 +75,17 @@ module _ (v : ℕ → SymbolValue) (object : List ℕ) (x : Site) (j : ℕ) wher
     pub store-number : shapeWell object x j ≡ true
         → number (findingBy v object x j)
         ≡ storeNumber (symbolWell object x j (valueBy v object x j)) (formWell object x j) (pairWell object x j) (reachesWell (classOf object) (hasRvc object) (r .calculation) (r .field) (targetBy v object x j) (P object x j))
-    unfolding findingBy firstBroken
-    store-number s = rw (s, e)
+    unfolding findingBy firstBroken storeNumber
+    store-number s =
+        rw (s, e)
+        (go (symbolWell object x j (valueBy v object x j)) (formWell object x j) (pairWell object x j) (reachesWell (classOf object) (hasRvc object) (r .calculation) (r .field) (targetBy v object x j) (P object x j)))
+      where
+        go : (a b c d : Bool) → number (cond a (cond b (cond c (cond d Kept OutOfReach) NoPair) BadForm) (BadSymbol (why (valueBy v object x j)))) ≡ storeNumber a b c d
+        go false b c d = refl
+        go true false c d = refl
+        go true true false d = refl
+        go true true true false = refl
+        go true true true true = refl
 
     -- of any type but PCREL_LO12
     module _ (plain : takesPair (r .calculation) ≡ false) where
@@ -147,12 +156,12 @@ marker-bytes Refused e = refl
 
 -- where 10 is broken, nobody looks at 12
 any-pair : (symbols forms p q reaches : Bool) → (symbols ≡ true → p ≡ q) → storeNumber symbols forms p reaches ≡ storeNumber symbols forms q reaches
-unfolding firstBroken
+unfolding storeNumber
 any-pair true forms p q reaches e = ap (λ p. storeNumber true forms p reaches) (e refl)
 any-pair false forms p q reaches e = refl
 
 pub first-symbol : (symbols forms pairs reaches : Bool) → storeNumber symbols forms pairs reaches ≡ 0 → symbols ≡ true
-unfolding firstBroken
+unfolding storeNumber
 first-symbol true forms pairs reaches e = refl
 first-symbol false forms pairs reaches e = absurd (omega arith)
 
@@ -259,7 +268,7 @@ module _ (v : ℕ → SymbolValue) (object : List ℕ) (x : Site) (j : ℕ) (rul
   same = ap (λ r. v (r .symbol)) (f .read)
 
   pub unresolved-comes : (b : ℕ) → isResolved (v (here .symbol)) ≡ false → Comes v object x j b 10 0
-  unfolding firstBroken symbolWell
+  unfolding storeNumber symbolWell
   unresolved-comes b e =
       let out : symbolWell object x j (valueBy v object x j) ≡ false = rw (f .decided, ← same, e) in
       let ten : number (findingBy v object x j) ≡ 10 = store-number v object x j rule (f .decided) (f .shape) ∙ rw out in

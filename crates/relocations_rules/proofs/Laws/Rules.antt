@@ -5,8 +5,8 @@ use mathlib.Core.List.{List}
 use Prim.Native.Nat.{ℕ, _+_, _*_, _%_, _^_, _≤_, _<_}
 use native.Mathlib.Nat.{mod-eq-of-lt}
 use native.Mathlib.Omega.{arith}
-use lib.Dec.{ltb, eqb}
-use borrow.Author.Tests.{ne-eqb, ltb-true}
+use lib.Dec.{leb, ltb, eqb}
+use borrow.Author.Tests.{ne-eqb, ltb-true, leb-false}
 use Rattle.numbers_definitions.specs.Bytes.{leAt}
 use Rattle.numbers_definitions.specs.Whole.{signed, plus}
 use Rattle.numbers_definitions.specs.Powers.{ceilPower}
@@ -15,7 +15,8 @@ use Rattle.elf_read.specs.declared.Relocation.{Relocation}
 use Rattle.elf_read.specs.Headers.{classOf, hasRvc, addressWidth}
 use Rattle.elf_read.specs.Entries.{symbolCount}
 use Rattle.placing_symbols.specs.declared.SymbolValue.{SymbolValue}
-use Rattle.placing_symbols.specs.declared.SymbolValue.the-variants.{Unresolved}
+use Rattle.placing_symbols.specs.declared.Reason.the-variants.{PastTable}
+use Rattle.placing_symbols.specs.Reasons.{because}
 use Rattle.placing_symbols.specs.Values.{symbolValue}
 use Rattle.relocations_types.specs.declared.Rule.{Rule}
 use Rattle.relocations_types.specs.declared.Decision.{Decision}
@@ -38,11 +39,11 @@ pub resolved-there : (object order addresses : List ℕ) (k : ℕ) → isResolve
 unfolding symbolValue
 resolved-there object order addresses k e h =
     let some : eqb k 0 ≡ false = ne-eqb k 0 (λ z. omega arith) in
-    go (ltb k (symbolCount object)) _ refl (rw some at e)
+    go (leb (symbolCount object) k) _ refl (rw some at e)
   where
-    go : (b : Bool) (v : SymbolValue) → ltb k (symbolCount object) ≡ b → isResolved (cond b v Unresolved) ≡ true → k < symbolCount object
-    go true v q r = ltb-true _ _ q
-    go false v q r = never r
+    go : (b : Bool) (v : SymbolValue) → leb (symbolCount object) k ≡ b → isResolved (because PastTable b v) ≡ true → k < symbolCount object
+    go true v q r = never r
+    go false v q r = leb-false _ _ q
 
 -- a PCREL_LO12 that keeps check 10 has a symbol above 0, which resolves
 pub pair-symbol : (object : List ℕ) (x : Site) (j : ℕ) (v : SymbolValue) → symbolWell object x j v ≡ true → needsPair (decisionAt object x j) ≡ true

@@ -25,8 +25,8 @@ use Rattle.relocations_rules.specs.declared.RelocationCheck.the-variants
 use Rattle.relocations_rela.specs.Sites.{siteAt, decisionAt, A, P}
 use Rattle.relocations_values.specs.Values.{valueAt, targetAt}
 use Rattle.relocations_rela.specs.Shape.{shapeWell}
-use Rattle.relocations_rules.specs.Rules.{symbolWell, formWell, pairWell, distanceWell, boundaryWell}
-use Rattle.relocations_rules.specs.Search.{firstBroken, finding, findingOf, isBroken, relocationCheck}
+use Rattle.relocations_rules.specs.Rules.{symbolWell, why, formWell, pairWell, distanceWell, boundaryWell}
+use Rattle.relocations_rules.specs.Search.{number, firstBroken, finding, findingOf, isBroken, relocationCheck}
 
 -- ---- the number of an entry
 
@@ -88,7 +88,7 @@ module _ (object order addresses : List ℕ) where
       kept : (f : Finding) → isBroken f ≡ false → f ≡ Kept
       kept Kept q = refl
       kept BadShape q = never (sym q)
-      kept BadSymbol q = never (sym q)
+      kept (BadSymbol why) q = never (sym q)
       kept BadForm q = never (sym q)
       kept NoPair q = never (sym q)
       kept OutOfReach q = never (sym q)
@@ -125,11 +125,36 @@ kept-rules object order addresses x j e =
 
     go : (a : Bool) → shapeWell object x j ≡ a → (b : Bool) → symbolWell object x j v ≡ b → (c : Bool) → formWell object x j ≡ c → (p : Bool) → pairWell object x j ≡ p
         → (q : Bool) → distanceWell (classOf object) (hasRvc object) d t (P object x j) ≡ q → (r : Bool) → boundaryWell d (P object x j) (A object x j) ≡ r
-        → cond a (cond b (cond c (cond p (cond q (cond r Kept OffBoundary) OutOfReach) NoPair) BadForm) BadSymbol) BadShape ≡ Kept → Rules object order addresses x j
+        → cond a (cond b (cond c (cond p (cond q (cond r Kept OffBoundary) OutOfReach) NoPair) BadForm) (BadSymbol (why v))) BadShape ≡ Kept → Rules object order addresses x j
     go false e₁ b e₂ c e₃ p e₄ q e₅ r e₆ k = other BadShape refl k
-    go true e₁ false e₂ c e₃ p e₄ q e₅ r e₆ k = other BadSymbol refl k
+    go true e₁ false e₂ c e₃ p e₄ q e₅ r e₆ k = other (BadSymbol (why v)) refl k
     go true e₁ true e₂ false e₃ p e₄ q e₅ r e₆ k = other BadForm refl k
     go true e₁ true e₂ true e₃ false e₄ q e₅ r e₆ k = other NoPair refl k
     go true e₁ true e₂ true e₃ true e₄ false e₅ r e₆ k = other OutOfReach refl k
     go true e₁ true e₂ true e₃ true e₄ true e₅ false e₆ k = other OffBoundary refl k
     go true e₁ true e₂ true e₃ true e₄ true e₅ true e₆ k = record { shape = e₁; symbol = e₂; form = e₃; pair = e₄; distance = e₅; boundary = e₆ }
+
+-- a relocation that breaks check 10 breaks it for the reason of its symbol
+pub symbol-finding : (object order addresses : List ℕ) (x : Site) (j : ℕ) → number (finding object order addresses x j) ≡ 10
+    → finding object order addresses x j ≡ BadSymbol (why (valueAt object order addresses x j))
+unfolding finding firstBroken
+symbol-finding object order addresses x j e =
+    go (shapeWell object x j) (symbolWell object x j v) (formWell object x j) (pairWell object x j) (distanceWell (classOf object) (hasRvc object) d t (P object x j)) (boundaryWell d (P object x j) (A object x j)) e
+  where
+    v : SymbolValue
+    v = valueAt object order addresses x j
+
+    d : Decision
+    d = decisionAt object x j
+
+    t : ℕ
+    t = targetAt object order addresses x j
+
+    go : (a b c p q r : Bool) → let f = cond a (cond b (cond c (cond p (cond q (cond r Kept OffBoundary) OutOfReach) NoPair) BadForm) (BadSymbol (why v))) BadShape in number f ≡ 10 → f ≡ BadSymbol (why v)
+    go false b c p q r e = absurd (omega arith)
+    go true false c p q r e = refl
+    go true true false p q r e = absurd (omega arith)
+    go true true true false q r e = absurd (omega arith)
+    go true true true true false r e = absurd (omega arith)
+    go true true true true true false e = absurd (omega arith)
+    go true true true true true true e = absurd (omega arith)

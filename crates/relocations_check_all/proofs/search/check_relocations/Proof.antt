@@ -13,11 +13,11 @@ use Rattle.elf_check.specs.Rules.{maxRelocations}
 use Rattle.elf_check.proofs.Laws.Bounds.{relocations-few}
 use Rattle.placing_symbols.proofs.Laws.Arrays.{listed-is}
 use Rattle.relocations_rela.specs.declared.sites.Site.{Site}
-use Rattle.relocations_rela.specs.Sites.{siteAt, count}
+use Rattle.relocations_rela.specs.Sites.{siteAt, count, entry}
 use Rattle.relocations_rela.specs.Requires.{SoundSite}
 use Rattle.relocations_rela.proofs.Laws.Sites.{sound-site}
 use Rattle.relocations_rules.specs.declared.RelocationCheck.the-variants.{Passed, Broken}
-use Rattle.relocations_rules.specs.Rules.{isResolved}
+use Rattle.relocations_rules.specs.Rules.{isResolved, why}
 use Rattle.relocations_rules.proofs.Laws.Rules.{resolved-there}
 use Rattle.relocations_check_all.proofs.Laws.Search.{Below, below-start, below-skip, site-room, below-site, broken-there, below-broken, below-all, broken-passed}
 use borrow.Author.Needs.{needs}
@@ -86,6 +86,14 @@ site-at-requires c κs =
     let long : sectionCount (start .args .object .now) ≤ length (start .args .t4) = omega (arith, f .0 .table .few, start .good .1 .1 .1 .0) in
     (f .0, here at, sym (at .is-counting-rela .ensures) ∙ not-false _ (left .if1 .left), long)
 
+site-sound : (c : tie.After-site-at Inv-search μ-search) → SoundSite (entered (begun (head (counted-at c))) .args .object .now) (c .site-at .result)
+site-sound c =
+    let now = head (counted-at c) in
+    let start = entered (begun now) in
+    let a = start .args in
+    let f = start .pre in
+    subst (SoundSite (a .object .now)) (sym (site-is c)) (sound-site (a .object .now) (a .t4) (f .0) (now .search .i) (here (counted-at c)) (counts c) (f .2))
+
 abbrev sited : tie.After-check-site-arg3 Inv-search μ-search → tie.After-site-at Inv-search μ-search
 sited c = c .before .before .before
 
@@ -110,7 +118,7 @@ check-site-requires c κs =
         arrays = f .3 .long .arrays;
         tabled = λ k r some. resolved-there (a .object .now) (a .order .now) (a .t4) k (ap isResolved (sym (listed-is (f .3) k)) ∙ r) some;
       },
-      subst (SoundSite (a .object .now)) (sym (site-is at)) (sound-site (a .object .now) (a .t4) (f .0) (now .search .i) (here (counted-at at)) (counts at) (f .2)),
+      site-sound at,
       omega (arith, room at, inv .2, f .4 .room),
       omega (arith, inv .2, f .4 .short),
       omega (arith, room at, inv .3, f .5 .room),
@@ -140,11 +148,19 @@ place c =
           (one .check-site .ensures .0 (a .order .now) (a .t4) (f .3)) (c .if2 .taken),
     )
 
-add-t28 : tie.Need-add-t28 Inv-search μ-search
-add-t28 c = let at : tie.Then2 Inv-search μ-search = search in omega (arith, place at)
+reason-at-requires : tie.Need-reason-at-requires Inv-search μ-search
+reason-at-requires c κs =
+    let one = halted c in
+    let at = site-checked one in
+    let start = entered (begun (head (counted-at at))) in
+    let a = start .args in
+    (record { site = site-sound at; there = one .check-site .ensures .0 (a .order .now) (a .t4) (start .pre .3) .broken (c .if2 .taken) .there }, start .pre .3 .long .arrays)
 
-cast-t29 : tie.Need-cast-t29 Inv-search μ-search
-cast-t29 c = let at : tie.Then2 Inv-search μ-search = search in omega (arith, place at)
+add-t29 : tie.Need-add-t29 Inv-search μ-search
+add-t29 c = let at : tie.Then2 Inv-search μ-search = search in omega (arith, place at)
+
+cast-t30 : tie.Need-cast-t30 Inv-search μ-search
+cast-t30 c = let at : tie.Then2 Inv-search μ-search = search in omega (arith, place at)
 
 abbrev went-on : tie.Else2 Inv-search μ-search → tie.After-check-site Inv-search μ-search
 went-on c = c .before .before .before .before .before .before .before .before
@@ -199,9 +215,11 @@ returns-2 c =
     let f = start .pre in
     let inv = now .search .inv in
     let e = one .check-site .ensures in
+    let reasoned : tie.After-reason-at Inv-search μ-search = search in
+    let because = reasoned .reason-at .ensures ∙ ap why (listed-is (f .3) (entry (a .object .now) (at .site-at .result) (one .check-site .result .at) .symbol)) in
     let is =
     below-broken (a .object .now) (a .order .now) (a .t4) (f .0) (now .search .i) (here (counted-at at)) (counts at) _ _ _ _ _ (inv .1) _ _ _ (site-is at)
-    (e .0 (a .order .now) (a .t4) (f .3)) (on .if2 .taken) in
+    (e .0 (a .order .now) (a .t4) (f .3)) (on .if2 .taken) _ because in
     (ap (λ g. Broken g (now .search .number + one .check-site .result .at)) (c .before .finding-of .ensures) ∙ sym is, (λ z. broken-passed _ _ z), e .3 ∙ inv .2, e .1 ∙ inv .3, e .2 ∙ inv .4)
 
 pub check-relocations-spec : {M : Type 1} → statement M
@@ -219,9 +237,10 @@ check-relocations-spec =
     (λ c. search needs)
     site-at-requires
     check-site-requires
+    reason-at-requires
     (λ c κs. search needs)
-    add-t28
-    cast-t29
+    add-t29
+    cast-t30
     relocation-entries-requires
     add-number
     (λ c. search needs)
@@ -231,7 +250,7 @@ check-relocations-spec =
     (λ c. search needs)
     (λ c. search needs)
     returns
-    (λ c. search needs)
-    (λ c. search needs)
-    (λ c. search needs)
+    (λ c. let on : tie.Then2 Inv-search μ-search = search in halted on .check-site .ensures .3 ∙ head (counted-at (site-checked (halted on))) .search .inv .2)
+    (λ c. let on : tie.Then2 Inv-search μ-search = search in halted on .check-site .ensures .1 ∙ head (counted-at (site-checked (halted on))) .search .inv .3)
+    (λ c. let on : tie.Then2 Inv-search μ-search = search in halted on .check-site .ensures .2 ∙ head (counted-at (site-checked (halted on))) .search .inv .4)
     returns-2)
