@@ -10,5 +10,3 @@ mod order;
 mod placement;
 mod relocation;
 mod symbol;
-
-const DONE: (u32, u32) = (0, 0);
