@@ -175,11 +175,10 @@ fn every_type() -> Vec<Case> {
     cases
 }
 
-/// "A PCREL_LO12 symbol is above 0 and defined in the record's own target row".
-/// The pair is at 0, and all labels have value 0. "not in the target row (24 and 25
-/// only)" is the last reason.
-fn labels() -> Vec<Case> {
-    let rows: [(&str, Symbol, Answer); 22] = [
+/// What a PCREL_LO12 names, and the answer: "not in the target row (24 and 25 only)"
+/// is the last reason.
+fn label_rows() -> [(&'static str, Symbol, Answer); 22] {
+    [
         ("its own section", Symbol::new(0, 1, 0), DONE),
         ("a section symbol", Symbol::new(3, 1, 0), DONE),
         ("a weak label", Symbol::new(WEAK, 1, 0), DONE),
@@ -206,11 +205,16 @@ fn labels() -> Vec<Case> {
         ("the symbol table, TLS", Symbol::new(TLS, 2, 0), (10, 1, 2)),
         ("common, TLS", Symbol::new(TLS, COMMON, 0), (10, 1, 3)),
         ("0xFFFF, IFUNC", Symbol::new(IFUNC, 0xFFFF, 0), (10, 1, 4)),
-    ];
+    ]
+}
+
+/// "A PCREL_LO12 symbol is above 0 and defined in the record's own target row".
+/// The pair is at 0, and all labels have value 0.
+fn labels() -> Vec<Case> {
     let mut cases = Vec::new();
     for kind in [PCREL_LO12_I, PCREL_LO12_S] {
         let name = |what: &str| format!("type {kind}, label in {what}");
-        for (what, label, answer) in rows {
+        for (what, label, answer) in label_rows() {
             cases.push(Case::new(name(what), &label_fit(kind, label, 2), answer));
         }
         let label = Symbol::new(0, 1, 0);

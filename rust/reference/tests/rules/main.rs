@@ -7,6 +7,7 @@ mod instruction;
 mod journal;
 mod object;
 mod order;
+mod pair;
 mod placement;
 mod relocation;
 mod symbol;
