@@ -67,13 +67,27 @@ enum aktinoph_answer {
     AKTINOPH_WRONG_EXTERNAL = 7,         /* a value for a symbol that is not undefined; place: lowest such symbol */
     AKTINOPH_MISPLACED = 8,              /* misaligned, outside the window, or overlapping; place: section */
     AKTINOPH_RELOCATION_SHAPE = 9,       /* type, offset, overlap or addend is not allowed; place: relocation */
-    AKTINOPH_SYMBOL_UNRESOLVED = 10,     /* the symbol does not resolve; place: relocation */
+    AKTINOPH_SYMBOL_UNRESOLVED = 10,     /* the symbol does not resolve; place: relocation; its reason is below */
     AKTINOPH_WRONG_INSTRUCTION = 11,     /* not an instruction that the type is for; place: relocation */
     AKTINOPH_NOT_ONE_PAIR = 12,          /* a PCREL_LO12 without exactly one PCREL_HI20; place: relocation */
     AKTINOPH_OUT_OF_REACH = 13,          /* distance odd, too far, no multiple of 4, (ELF64) HI20 too far; place: relocation */
     AKTINOPH_PADDING_OFF_BOUNDARY = 14,  /* ALIGN's padding does not end on its boundary; place: relocation */
     AKTINOPH_LEDGER_FULL = 15,           /* the ledger has 16 fits, or no room for the old bytes */
     AKTINOPH_NOTHING_STANDS = 16         /* no fit stands (take-back only) */
+};
+
+/*
+ * The reasons of AKTINOPH_SYMBOL_UNRESOLVED: the first that applies. Every other answer has 0 there. The symbol's section is
+ * looked at before its type. Symbol 0 always has its value, so that only the last can apply to it.
+ */
+enum aktinoph_reasons {
+    AKTINOPH_SYMBOL_PAST_TABLE = 1,      /* the symbol table has no symbol with this number */
+    AKTINOPH_SYMBOL_NOT_ALLOCATED = 2,   /* its section, 1 to 0xFEFF, is missing or not allocated */
+    AKTINOPH_SYMBOL_COMMON = 3,          /* it is common (section 0xFFF2) */
+    AKTINOPH_SYMBOL_RESERVED = 4,        /* its section is 0xFF00 or above, and neither 0xFFF1 nor 0xFFF2 */
+    AKTINOPH_SYMBOL_UNDEFINED = 5,       /* it is undefined and not weak, and the order has no value for it */
+    AKTINOPH_SYMBOL_WRONG_TYPE = 6,      /* it is of type TLS or IFUNC */
+    AKTINOPH_SYMBOL_NOT_IN_TARGET = 7    /* a PCREL_LO12: it is not in the section that the relocation patches */
 };
 
 /*
@@ -105,6 +119,9 @@ uint64_t aktinoph_replay(const uint8_t *calls, size_t calls_len, uint8_t *image,
 
 /* The number of an answer: its low eight bits. */
 static inline unsigned aktinoph_number(uint64_t answer) { return (unsigned)(answer & 0xFF); }
+
+/* The reason of an answer: the eight bits above the number. Bits 16 to 31 are 0. */
+static inline unsigned aktinoph_reason(uint64_t answer) { return (unsigned)(answer >> 8 & 0xFF); }
 
 /* The place of an answer: its upper 32 bits. */
 static inline uint32_t aktinoph_place(uint64_t answer) { return (uint32_t)(answer >> 32); }

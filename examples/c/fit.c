@@ -1,6 +1,6 @@
 /*
  * fit OBJECT ORDER IMAGE LEDGER: one fit over files. fit IMAGE LEDGER: takes the newest fit back.
- * Writes number and place; a done call replaces image and ledger.
+ * Writes number, place and reason; a done call replaces image and ledger.
  */
 #include <stdbool.h>
 
@@ -24,7 +24,7 @@ int main(int count, char **names) {
     } else {
         answer = aktinoph_take_back(image, image_len, ledger, ledger_len);
     }
-    printf("%u %lu\n", aktinoph_number(answer), (unsigned long)aktinoph_place(answer));
+    printf("%u %lu %u\n", aktinoph_number(answer), (unsigned long)aktinoph_place(answer), aktinoph_reason(answer));
     if (aktinoph_number(answer) != AKTINOPH_DONE)
         return 0;
     /* While the image is written, the ledger's file has the old bytes: it comes first after a fit, else last. */

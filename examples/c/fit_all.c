@@ -1,6 +1,6 @@
 /*
  * fit_all IMAGE LEDGER OBJECT ORDER [OBJECT ORDER]..: fits several objects over files, as one list of calls.
- * Writes number and place of each; image and ledger are replaced where all are done.
+ * Writes number, place and reason of each; image and ledger are replaced where all are done.
  */
 #include "aktinoph.h"
 #include "files.h"
@@ -49,7 +49,8 @@ int main(int count, char **names) {
     }
     int done = 0;
     for (int fit = 0; fit < fits; fit++) {
-        printf("%u %lu\n", aktinoph_number(answers[fit]), (unsigned long)aktinoph_place(answers[fit]));
+        printf("%u %lu %u\n", aktinoph_number(answers[fit]), (unsigned long)aktinoph_place(answers[fit]),
+               aktinoph_reason(answers[fit]));
         done += aktinoph_number(answers[fit]) == AKTINOPH_DONE;
     }
     if (done != fits)

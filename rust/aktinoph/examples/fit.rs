@@ -1,6 +1,6 @@
 //! fit OBJECT ORDER IMAGE LEDGER: one fit over files. fit IMAGE LEDGER: takes
-//! the newest fit back. Writes number and place; a done call replaces image and
-//! ledger.
+//! the newest fit back. Writes number, place and reason; a done call replaces
+//! image and ledger.
 
 use std::env;
 use std::error::Error;
@@ -40,10 +40,11 @@ fn take_back(image: &str, ledger: &str) -> Result<(), Box<dyn Error>> {
     Ok(())
 }
 
-/// Writes number and place, and in words why a call was refused. Gives whether
-/// it was done.
+/// Writes number, place and reason, and in words why a call was refused. Gives
+/// whether it was done.
 fn report(answer: Answer) -> bool {
-    println!("{} {}", answer.number(), answer.place());
+    let (number, place, reason) = answer.numbers();
+    println!("{number} {place} {reason}");
     if let Err(refusal) = answer.check() {
         eprintln!("{refusal}");
     }

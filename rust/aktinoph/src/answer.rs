@@ -3,6 +3,8 @@
 use std::error::Error;
 use std::fmt::{self, Display, Formatter};
 
+use crate::reason::Reason;
+
 /// The answer of a call: the first check that fails. The checks run in the order
 /// of the cases, but that 4 comes before 2, since the object's header says how
 /// the order is to be read.
@@ -35,8 +37,8 @@ pub enum Answer {
     /// 9: this relocation's type, offset, overlap or addend is not allowed; the
     /// types RVC_BRANCH and RVC_JUMP neither, where bit 0 of e_flags is clear.
     RelocationShape(u32),
-    /// 10: this relocation's symbol does not resolve.
-    SymbolUnresolved(u32),
+    /// 10: this relocation's symbol does not resolve, and why.
+    SymbolUnresolved(u32, Reason),
     /// 11: this relocation stands at an instruction that its type is not for.
     WrongInstruction(u32),
     /// 12: this PCREL_LO12 relocation has not exactly one PCREL_HI20.
@@ -56,7 +58,7 @@ pub enum Answer {
 impl Answer {
     /// The answer behind a code, as the exported functions return it and as
     /// [`replay_bytes`](crate::replay_bytes) stores it: the number in the low
-    /// eight bits, the place in the upper 32.
+    /// eight bits, the reason in the next eight, the place in the upper 32.
     ///
     /// # Panics
     ///
@@ -64,7 +66,9 @@ impl Answer {
     /// out, so that such a code is not from this library.
     pub fn from_code(code: u64) -> Answer {
         let place = (code >> 32) as u32;
-        let answer = match code as u32 {
+        // All bits between number and place.
+        let reason = code as u32 >> 8;
+        let answer = match code as u8 {
             0 => Answer::Done,
             1 => Answer::LedgerUnsound,
             2 => Answer::OrderMalformed,
@@ -75,7 +79,10 @@ impl Answer {
             7 => Answer::WrongExternal(place),
             8 => Answer::Misplaced(place),
             9 => Answer::RelocationShape(place),
-            10 => Answer::SymbolUnresolved(place),
+            10 => match Reason::from_number(reason) {
+                Some(reason) => Answer::SymbolUnresolved(place, reason),
+                None => panic!("{code:#x} has a number that is no reason"),
+            },
             11 => Answer::WrongInstruction(place),
             12 => Answer::NotOnePair(place),
             13 => Answer::OutOfReach(place),
@@ -84,7 +91,9 @@ impl Answer {
             16 => Answer::NothingStands,
             _ => panic!("{code:#x} is the code of no answer"),
         };
-        assert_eq!(answer.place(), place, "{answer:?} has no place");
+        let (_, own_place, own_reason) = answer.numbers();
+        assert_eq!(own_place, place, "{answer:?} has no place");
+        assert_eq!(own_reason, reason, "{code:#x} is the code of no answer");
         answer
     }
 
@@ -101,7 +110,7 @@ impl Answer {
             Answer::WrongExternal(_) => 7,
             Answer::Misplaced(_) => 8,
             Answer::RelocationShape(_) => 9,
-            Answer::SymbolUnresolved(_) => 10,
+            Answer::SymbolUnresolved(..) => 10,
             Answer::WrongInstruction(_) => 11,
             Answer::NotOnePair(_) => 12,
             Answer::OutOfReach(_) => 13,
@@ -120,13 +129,29 @@ impl Answer {
             | Answer::WrongExternal(place)
             | Answer::Misplaced(place)
             | Answer::RelocationShape(place)
-            | Answer::SymbolUnresolved(place)
+            | Answer::SymbolUnresolved(place, _)
             | Answer::WrongInstruction(place)
             | Answer::NotOnePair(place)
             | Answer::OutOfReach(place)
             | Answer::PaddingOffBoundary(place) => place,
             _ => 0,
         }
+    }
+
+    /// Why a symbol does not resolve; only [`Answer::SymbolUnresolved`] has a
+    /// reason.
+    pub fn reason(self) -> Option<Reason> {
+        match self {
+            Answer::SymbolUnresolved(_, reason) => Some(reason),
+            _ => None,
+        }
+    }
+
+    /// Number, place and reason, as the program writes them: an answer without a
+    /// reason has 0 there.
+    pub fn numbers(self) -> (u32, u32, u32) {
+        let reason = self.reason().map_or(0, Reason::number);
+        (self.number(), self.place(), reason)
     }
 
     /// Whether the call was done.
@@ -158,7 +183,7 @@ impl Answer {
             Answer::WrongExternal(_) => "a value for a symbol that is not undefined",
             Answer::Misplaced(_) => "misaligned, outside the window, or overlapping",
             Answer::RelocationShape(_) => "type, offset, overlap or addend is not allowed",
-            Answer::SymbolUnresolved(_) => "the symbol does not resolve",
+            Answer::SymbolUnresolved(_, reason) => reason.words(),
             Answer::WrongInstruction(_) => "not an instruction that the type is for",
             Answer::NotOnePair(_) => "not exactly one PCREL_HI20 for this PCREL_LO12",
             Answer::OutOfReach(_) => {
@@ -212,9 +237,10 @@ mod tests {
 
     const RELOCATION_7: u64 = 7 << 32;
 
-    /// Numbers 5 to 14 have a place; all others have 0.
+    /// Numbers 5 to 14 have a place, and 10 a reason; all others have 0.
     fn code(number: u64) -> u64 {
         match number {
+            10 => RELOCATION_7 + 0x300 + number,
             5..=14 => RELOCATION_7 + number,
             _ => number,
         }
@@ -226,6 +252,40 @@ mod tests {
             let answer = Answer::from_code(code(number));
             assert_eq!(u64::from(answer.number()), number);
             assert_eq!(u64::from(answer.place()), code(number) >> 32);
+            assert_eq!(answer.reason().is_some(), number == 10);
+        }
+    }
+
+    #[test]
+    fn every_reason() {
+        for (number, reason) in (1..).zip(Reason::ALL) {
+            let answer = Answer::from_code(RELOCATION_7 + (number << 8) + 10);
+            assert_eq!(answer, Answer::SymbolUnresolved(7, reason));
+            assert_eq!(u64::from(reason.number()), number);
+        }
+    }
+
+    /// Whether this is the code of no answer.
+    fn panics(code: u64) -> bool {
+        std::panic::catch_unwind(|| Answer::from_code(code)).is_err()
+    }
+
+    /// 10 without a reason and with one above 7; a reason with each other number;
+    /// and each bit between reason and place.
+    #[test]
+    fn reasons_where_there_are_none() {
+        for reason in (8..=255).chain([0]) {
+            assert!(panics(RELOCATION_7 + (reason << 8) + 10), "{reason}");
+        }
+        for number in (0..=16).filter(|number| *number != 10) {
+            for reason in [1, 2, 7, 8, 128, 255] {
+                assert!(panics(code(number) + (reason << 8)), "{number}, {reason}");
+            }
+        }
+        for number in 0..=16 {
+            for bit in 16..32 {
+                assert!(panics(code(number) | 1 << bit), "{number}, bit {bit}");
+            }
         }
     }
 

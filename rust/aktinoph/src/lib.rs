@@ -41,9 +41,11 @@ mod answer;
 mod calls;
 #[allow(unsafe_code)]
 mod ffi;
+mod reason;
 
 pub use answer::{Answer, Refusal};
 pub use calls::Calls;
+pub use reason::Reason;
 
 /// The ledger's bytes before the old bytes. A ledger of this many zero bytes
 /// and room for old bytes is one in which no fit stands.

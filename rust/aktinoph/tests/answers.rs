@@ -1,7 +1,7 @@
 //! Document 01's answers: their numbers and places, what the C header calls
-//! them, and in which words they are written.
+//! them, and in which words they are written; and the same of Ticket 9's reasons.
 
-use aktinoph::{Answer, Calls, LEDGER_HEAD, STACK};
+use aktinoph::{Answer, Calls, Reason, LEDGER_HEAD, STACK};
 
 /// The header's name, the answer, its number and place, and its words.
 type Row = (&'static str, Answer, u32, u32, &'static str);
@@ -27,8 +27,8 @@ const ANSWERS: [Row; 17] = [
      "section 3: misaligned, outside the window, or overlapping"),
     ("AKTINOPH_RELOCATION_SHAPE", Answer::RelocationShape(0), 9, 0,
      "relocation 0: type, offset, overlap or addend is not allowed"),
-    ("AKTINOPH_SYMBOL_UNRESOLVED", Answer::SymbolUnresolved(32_767), 10, 32_767,
-     "relocation 32767: the symbol does not resolve"),
+    ("AKTINOPH_SYMBOL_UNRESOLVED", Answer::SymbolUnresolved(32_767, Reason::Common), 10, 32_767,
+     "relocation 32767: its symbol is common, and lies in no section"),
     ("AKTINOPH_WRONG_INSTRUCTION", Answer::WrongInstruction(1), 11, 1,
      "relocation 1: not an instruction that the type is for"),
     ("AKTINOPH_NOT_ONE_PAIR", Answer::NotOnePair(2), 12, 2,
@@ -42,6 +42,47 @@ const ANSWERS: [Row; 17] = [
     ("AKTINOPH_NOTHING_STANDS", Answer::NothingStands, 16, 0,
      "no fit stands"),
 ];
+
+/// The header's name, the reason, its number, and the words of 10 at 7.
+#[rustfmt::skip]
+const REASONS: [(&str, Reason, u32, &str); 7] = [
+    ("AKTINOPH_SYMBOL_PAST_TABLE", Reason::PastTable, 1,
+     "relocation 7: its symbol is past the end of the symbol table"),
+    ("AKTINOPH_SYMBOL_NOT_ALLOCATED", Reason::NotAllocated, 2,
+     "relocation 7: its symbol's section is missing or not allocated"),
+    ("AKTINOPH_SYMBOL_COMMON", Reason::Common, 3,
+     "relocation 7: its symbol is common, and lies in no section"),
+    ("AKTINOPH_SYMBOL_RESERVED", Reason::Reserved, 4,
+     "relocation 7: its symbol's section is a reserved number"),
+    ("AKTINOPH_SYMBOL_UNDEFINED", Reason::Undefined, 5,
+     "relocation 7: its symbol is undefined, not weak, and the order gives it no value"),
+    ("AKTINOPH_SYMBOL_WRONG_TYPE", Reason::WrongType, 6,
+     "relocation 7: its symbol is of type TLS or IFUNC"),
+    ("AKTINOPH_SYMBOL_NOT_IN_TARGET", Reason::NotInTarget, 7,
+     "relocation 7: its symbol is not in the section that it patches"),
+];
+
+#[test]
+fn reasons() {
+    for (_, reason, number, words) in REASONS {
+        let answer = Answer::SymbolUnresolved(7, reason);
+        assert_eq!(answer.numbers(), (10, 7, number));
+        assert_eq!(answer.reason(), Some(reason));
+        assert_eq!(reason.number(), number);
+        assert_eq!(answer.to_string(), words);
+    }
+    assert_eq!(REASONS.map(|row| row.1), Reason::ALL);
+}
+
+/// "all other answers carry 0 there"
+#[test]
+fn other_answers_have_no_reason() {
+    for (_, answer, number, place, _) in ANSWERS {
+        let reason = if number == 10 { 3 } else { 0 };
+        assert_eq!(answer.numbers(), (number, place, reason));
+        assert_eq!(answer.reason().is_some(), number == 10, "{answer:?}");
+    }
+}
 
 #[test]
 fn numbers_places_and_words() {
@@ -92,7 +133,9 @@ fn enumerators() -> Vec<(&'static str, u32, &'static str)> {
 #[test]
 fn header_names_and_numbers() {
     let given: Vec<_> = enumerators().iter().map(|line| (line.0, line.1)).collect();
-    assert_eq!(given, ANSWERS.map(|row| (row.0, row.2)));
+    let (answers, reasons) = given.split_at(ANSWERS.len());
+    assert_eq!(answers, ANSWERS.map(|row| (row.0, row.2)));
+    assert_eq!(reasons, REASONS.map(|row| (row.0, row.2)));
     for (name, _, comment) in enumerators() {
         assert!(!comment.is_empty(), "{name}");
     }

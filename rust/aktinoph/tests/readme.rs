@@ -15,7 +15,8 @@ fn as_shown(object: Vec<u8>, order: Vec<u8>, laid: &[u8]) -> Result<(), Refusal>
     let mut image = vec![0xA5; 1024];
     let mut ledger = vec![0; aktinoph::LEDGER_HEAD + image.len()];
 
-    aktinoph::fit(&object, &order, &mut image, &mut ledger).check()?;      // Err: "relocation 7: the symbol does not resolve"
+    // Err, for example: "relocation 7: its symbol is undefined, not weak, and the order gives it no value"
+    aktinoph::fit(&object, &order, &mut image, &mut ledger).check()?;
     assert_eq!(image, laid);
     aktinoph::take_back(&mut image, &mut ledger).check()?;
     assert_eq!(image, vec![0xA5; 1024]);

@@ -1,5 +1,5 @@
-//! The comparison fitter: document 01 and Tickets 1, 3, 5 and 7 written for speed,
-//! in safe Rust, without a heap. The library's time is measured against it.
+//! The comparison fitter: document 01 and Tickets 1, 3, 5, 7 and 9 written for
+//! speed, in safe Rust, without a heap. The library's time is measured against it.
 //!
 //! It has two phases. The first makes every check in its order and writes
 //! nothing. The second saves and lays, and cannot fail. Each phase reads a
@@ -38,20 +38,31 @@ use symbols::Symbols;
 /// The longest object or image.
 const MAX_BYTES: usize = 1_048_576;
 
-/// Document 01: number and place.
+/// Document 01: number and place. Ticket 9: why a symbol does not resolve.
 #[derive(Clone, Copy, PartialEq, Eq, Debug)]
 pub struct Answer {
     pub number: u32,
     pub place: u32,
+    /// 0 for every number but 10.
+    pub reason: u32,
 }
 
 impl Answer {
     /// "done", place 0.
     pub const DONE: Answer = refusal(0, 0);
+
+    /// Number, place and reason.
+    pub fn numbers(self) -> (u32, u32, u32) {
+        (self.number, self.place, self.reason)
+    }
 }
 
 const fn refusal(number: u32, place: u32) -> Answer {
-    Answer { number, place }
+    Answer {
+        number,
+        place,
+        reason: 0,
+    }
 }
 
 /// Document 01: a fit. It is never inlined, so that a profiler finds it by its

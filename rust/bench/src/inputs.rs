@@ -22,6 +22,7 @@ use mixed::Arrangement;
 
 use testing::build::Class;
 use testing::damage::Input;
+use testing::{Numbers, DONE};
 
 /// The length of the image, but for the real objects.
 pub const IMAGE: usize = 65_536;
@@ -59,8 +60,7 @@ pub struct Row {
     pub relocations: usize,
     pub call: Call,
     pub input: Input,
-    /// Number and place.
-    pub answer: (u32, u32),
+    pub answer: Numbers,
 }
 
 /// An install that is done, and has this many relocations.
@@ -70,7 +70,7 @@ fn done(name: &str, relocations: usize, input: Input) -> Row {
         relocations,
         call: Call::Fit,
         input,
-        answer: (0, 0),
+        answer: DONE,
     }
 }
 
@@ -102,7 +102,7 @@ fn rows_of(class: Class) -> Vec<Row> {
     }
     rows.push(sized("crowded", most, pairs::crowded(class, most)));
     rows.push(Row {
-        answer: (9, most as u32 - 1),
+        answer: (9, most as u32 - 1, 0),
         ..sized("falling", most, pairs::falling(class, most))
     });
     let many_symbols = others::many_symbols(class, 1_023, 64);
@@ -111,7 +111,7 @@ fn rows_of(class: Class) -> Vec<Row> {
     rows.extend(["many-relocations", "gcc-relaxed"].map(|name| others::real(class, name)));
     rows.push(done("no-relocations", 0, others::no_relocations(class)));
     rows.push(Row {
-        answer: (13, most as u32 - 1),
+        answer: (13, most as u32 - 1, 0),
         ..sized("refused-last", most, mixed::too_far_at_last(class, most))
     });
     if class == Class::Elf64 {
@@ -155,7 +155,7 @@ pub fn growth() -> Vec<Row> {
     let turned = |class| pairs::turned(262_144, class, 32_768);
     for row in both("32768-turned".into(), &turned) {
         rows.push(Row {
-            answer: (9, 3),
+            answer: (9, 3, 0),
             ..row
         });
     }

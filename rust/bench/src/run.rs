@@ -1,8 +1,9 @@
 //! One call by either fitter, on buffers that begin at a fixed alignment.
 
 use testing::damage::Input;
+use testing::Numbers;
 
-use crate::fitter::{comparison_fit, comparison_take_back, Answer};
+use crate::fitter::{comparison_fit, comparison_take_back};
 use crate::inputs::Call;
 
 /// Which of the two fitters.
@@ -70,29 +71,17 @@ impl Buffers {
         self.journal.bytes_mut().copy_from_slice(&input.journal);
     }
 
-    /// Number and place of one call.
-    pub fn call(&mut self, fitter: Fitter, call: Call) -> (u32, u32) {
+    /// The answer of one call.
+    pub fn call(&mut self, fitter: Fitter, call: Call) -> Numbers {
         let (object, order) = (self.object.bytes(), self.order.bytes());
         let (image, journal) = (self.image.bytes_mut(), self.journal.bytes_mut());
         match (fitter, call) {
-            (Fitter::Library, Call::Fit) => {
-                of_library(aktinoph::fit(object, order, image, journal))
-            }
-            (Fitter::Library, Call::TakeBack) => of_library(aktinoph::take_back(image, journal)),
+            (Fitter::Library, Call::Fit) => aktinoph::fit(object, order, image, journal).numbers(),
+            (Fitter::Library, Call::TakeBack) => aktinoph::take_back(image, journal).numbers(),
             (Fitter::Comparison, Call::Fit) => {
-                of_comparison(comparison_fit(object, order, image, journal))
+                comparison_fit(object, order, image, journal).numbers()
             }
-            (Fitter::Comparison, Call::TakeBack) => {
-                of_comparison(comparison_take_back(image, journal))
-            }
+            (Fitter::Comparison, Call::TakeBack) => comparison_take_back(image, journal).numbers(),
         }
     }
-}
-
-fn of_library(answer: aktinoph::Answer) -> (u32, u32) {
-    (answer.number(), answer.place())
-}
-
-fn of_comparison(answer: Answer) -> (u32, u32) {
-    (answer.number, answer.place)
 }

@@ -6,6 +6,7 @@ use bench::run::{Buffers, Fitter};
 use reference::object::{Header, Object};
 use reference::Class;
 use testing::damage::get;
+use testing::{numbers, DONE};
 
 /// The rows that are real objects, but for what names of class 2 begin with.
 const REAL: [&str; 2] = ["many-relocations", "gcc-relaxed"];
@@ -71,7 +72,7 @@ fn answered_alike() {
             Call::Fit => reference::install(&input.object, &input.order, &mut image, &mut journal),
             Call::TakeBack => reference::rollback(&mut image, &mut journal),
         };
-        assert_eq!((answer.number, answer.place), row.answer, "{}", row.name);
+        assert_eq!(numbers(answer), row.answer, "{}", row.name);
         for fitter in [Fitter::Library, Fitter::Comparison] {
             let mut buffers = Buffers::new(input);
             buffers.fill(input);
@@ -114,7 +115,7 @@ fn the_span_is_the_whole_image() {
         if row.call == Call::TakeBack {
             let span = (get(&row.input.journal, 4, 4), get(&row.input.journal, 8, 4));
             assert_eq!(span, (0, IMAGE), "{}", row.name);
-        } else if row.answer == (0, 0) && !is_real {
+        } else if row.answer == DONE && !is_real {
             let mut buffers = Buffers::new(&row.input);
             buffers.fill(&row.input);
             buffers.call(Fitter::Library, row.call);

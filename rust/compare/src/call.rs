@@ -2,6 +2,7 @@
 
 use crate::arena::{Arena, Layout};
 use testing::damage::Input;
+use testing::{numbers, Numbers, DONE};
 
 /// Which of the two calls.
 #[derive(Clone, Copy, PartialEq, Eq, Debug)]
@@ -10,10 +11,10 @@ pub enum Command {
     TakeBack,
 }
 
-/// What a call leaves: number and place, image and ledger.
+/// What a call leaves: the answer, image and ledger.
 #[derive(Clone, PartialEq, Eq, Debug)]
 pub struct Outcome {
-    pub answer: (u32, u32),
+    pub answer: Numbers,
     pub image: Vec<u8>,
     pub journal: Vec<u8>,
 }
@@ -26,7 +27,7 @@ pub fn reference(input: &Input, command: Command) -> Outcome {
         Command::TakeBack => reference::rollback(&mut image, &mut journal),
     };
     Outcome {
-        answer: (answer.number, answer.place),
+        answer: numbers(answer),
         image,
         journal,
     }
@@ -86,7 +87,7 @@ impl Library {
             "the order changed".into()
         })?;
         Ok(Outcome {
-            answer: (answer.number(), answer.place()),
+            answer: answer.numbers(),
             image: self.image.bytes().to_vec(),
             journal: self.journal.bytes().to_vec(),
         })
@@ -120,7 +121,7 @@ impl Library {
         held(object == input.object, || "the object changed".into())?;
         held(order == input.order, || "the order changed".into())?;
         let outcome = Outcome {
-            answer: (answer.number(), answer.place()),
+            answer: answer.numbers(),
             image: image.to_vec(),
             journal: journal.to_vec(),
         };
@@ -157,19 +158,18 @@ pub(crate) fn held(holds: bool, wrong: impl Fn() -> String) -> Result<(), String
 
 /// That the library's outcome is the reference's, or what is wrong with it.
 fn same(input: &Input, given: &Outcome, expected: &Outcome) -> Result<(), String> {
-    let (number, place) = given.answer;
-    let (asked, at) = expected.answer;
-    held(given.answer == expected.answer, || {
-        format!("{number} {place}, and the reference {asked} {at}")
+    let answer = given.answer;
+    held(answer == expected.answer, || {
+        format!("{answer:?}, and the reference {:?}", expected.answer)
     })?;
     let unchanged = given.image == input.image && given.journal == input.journal;
-    held(number == 0 || unchanged, || {
-        format!("{number} {place} changed the image or the ledger")
+    held(answer == DONE || unchanged, || {
+        format!("{answer:?} changed the image or the ledger")
     })?;
     held(given.image == expected.image, || {
-        format!("{number} {place}, but another image")
+        format!("{answer:?}, but another image")
     })?;
     held(given.journal == expected.journal, || {
-        format!("{number} {place}, but another ledger")
+        format!("{answer:?}, but another ledger")
     })
 }

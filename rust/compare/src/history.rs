@@ -3,12 +3,13 @@
 
 use crate::arena::Layout;
 use crate::call::{Command, Library};
-use crate::Counts;
 use reference::history::History;
 use reference::journal::Standing;
+use testing::counts::Counts;
 use testing::damage::Input;
 use testing::random::Random;
 use testing::sample::{some_call, start, Call};
+use testing::{numbers, Numbers, DONE};
 
 /// What the histories reached.
 #[derive(Default)]
@@ -16,8 +17,6 @@ pub struct Seen {
     pub answers: Counts,
     pub most_standing: usize,
 }
-
-const DONE: (u32, u32) = (0, 0);
 
 /// Plays one history. Every call is compared; then the end is compared with the
 /// model, the standing fits are done anew from the start, and all taken back.
@@ -59,14 +58,14 @@ fn play_list(
             Command::Fit => model.install(&call.object, &call.order),
             Command::TakeBack => model.rollback(),
         };
-        if answer != (by_model.number, by_model.place) {
+        if answer != numbers(by_model) {
             return Err(format!("turn {turn}: {answer:?}, the model {by_model:?}"));
         }
         match command {
             Command::Fit => standing.extend((answer == DONE).then_some(call)),
             Command::TakeBack => drop(standing.pop()),
         }
-        seen.answers[answer.0 as usize] += 1;
+        seen.answers.add(answer);
         seen.most_standing = seen.most_standing.max(standing.len());
     }
     Ok(standing)
@@ -78,7 +77,7 @@ fn step(
     state: &mut Input,
     command: Command,
     call: &Call,
-) -> Result<(u32, u32), String> {
+) -> Result<Numbers, String> {
     state.object.clone_from(&call.object);
     state.order.clone_from(&call.order);
     let outcome = library.compare(state, command)?;
@@ -143,7 +142,7 @@ fn take_all_back(
     for turn in 0..=standing {
         let layout = Layout::ALL[turn % 3];
         let outcome = library.call(&state, Command::TakeBack, layout)?;
-        let expected = if turn < standing { DONE } else { (16, 0) };
+        let expected = if turn < standing { DONE } else { (16, 0, 0) };
         if outcome.answer != expected {
             return Err(format!("taking all back: {:?}", outcome.answer));
         }

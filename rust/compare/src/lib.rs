@@ -18,10 +18,8 @@ pub mod stack;
 use call::{Command, Library};
 use inputs::Pool;
 use replay::Replays;
+use testing::counts::Counts;
 use testing::random::Random;
-
-/// How often each number was answered.
-pub type Counts = [u64; 17];
 
 /// Random calls, histories and lists. A seed stands for one of them.
 pub struct Compare {
@@ -56,7 +54,7 @@ impl Compare {
             Command::Fit => &mut self.fits,
             Command::TakeBack => &mut self.rollbacks,
         };
-        counts[outcome.answer.0 as usize] += 1;
+        counts.add(outcome.answer);
         Ok(())
     }
 

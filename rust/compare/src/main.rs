@@ -72,19 +72,25 @@ fn run(options: &Options) -> Result<String, (u64, String)> {
         done.map_err(|what| (seed, what))?;
         cases += 1;
     }
+    let (histories, lists) = (&compare.histories, &compare.lists);
+    let all = [compare.fits, histories.answers, lists.answers];
+    let reasons: Vec<u64> = (1..=7)
+        .map(|reason| all.iter().map(|counts| counts.reasons[reason]).sum())
+        .collect();
     Ok(format!(
         "{cases} cases from seed {} on, no difference\n\
          fits by answer:         {:?}\n\
          takings-back by answer: {:?}\n\
          in histories:           {:?}, at most {} standing\n\
-         in lists:               {:?}, {} run, {} not",
+         in lists:               {:?}, {} run, {} not\n\
+         10 by reason, in all:   {reasons:?}",
         options.seed,
-        compare.fits,
-        compare.rollbacks,
-        compare.histories.answers,
-        compare.histories.most_standing,
-        compare.lists.answers,
-        compare.lists.run,
-        compare.lists.not_run
+        compare.fits.numbers,
+        compare.rollbacks.numbers,
+        histories.answers.numbers,
+        histories.most_standing,
+        lists.answers.numbers,
+        lists.run,
+        lists.not_run
     ))
 }

@@ -3,9 +3,9 @@
 use crate::arena::{numbers, Arena, Layout};
 use crate::call::held;
 use crate::inputs::Pool;
-use crate::Counts;
 use reference::history::History;
 use reference::Answer;
+use testing::counts::Counts;
 use testing::lists::{list, some_list, wound_list, Listed};
 use testing::random::Random;
 use testing::sample::{start, Call};
@@ -22,18 +22,16 @@ pub struct State {
 /// Whether a list was run, and what it left.
 pub type Outcome = (bool, State);
 
-/// As the header has it: the number in the low eight bits, the place in the
-/// upper 32.
+/// As the header has it: the number in the low eight bits, the reason in the next
+/// eight, the place in the upper 32.
 pub fn code(answer: Answer) -> u64 {
-    u64::from(answer.place) << 32 | u64::from(answer.number)
+    let [number, place, reason] = [answer.number, answer.place, answer.reason].map(u64::from);
+    place << 32 | reason << 8 | number
 }
 
 /// A list by the reference.
 pub fn reference(list: &[u8], before: &State) -> Outcome {
-    const UNTOUCHED: Answer = Answer {
-        number: u32::MAX,
-        place: 0,
-    };
+    const UNTOUCHED: Answer = Answer::new(u32::MAX, 0);
     let mut after = before.clone();
     let mut answers = vec![UNTOUCHED; before.answers.len()];
     let is_run = reference::replay(list, &mut after.image, &mut after.journal, &mut answers);
@@ -222,8 +220,9 @@ pub fn play(
         if from_start {
             as_by_model(&before, &calls, given)?;
         }
-        for answer in given {
-            seen.answers[(answer & 0xFF) as usize] += 1;
+        for code in given {
+            let answer = aktinoph::Answer::from_code(*code);
+            seen.answers.add(answer.numbers());
         }
     }
     match is_run {

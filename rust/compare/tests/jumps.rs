@@ -4,6 +4,7 @@
 use compare::call::{Command, Library};
 use testing::build::Class;
 use testing::jumps::every_jump;
+use testing::DONE;
 
 #[test]
 fn every_distance() {
@@ -12,7 +13,7 @@ fn every_distance() {
         let jumps = every_jump(class);
         let outcome = library.compare(&jumps.input, Command::Fit);
         let outcome = outcome.unwrap_or_else(|wrong| panic!("{class:?}: {wrong}"));
-        assert_eq!(outcome.answer, (0, 0), "{class:?}");
+        assert_eq!(outcome.answer, DONE, "{class:?}");
         jumps.assert_laid(&outcome.image);
     }
 }

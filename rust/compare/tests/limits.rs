@@ -5,6 +5,7 @@ use compare::call::{Command, Library};
 use testing::build::{journal, Class, Fit};
 use testing::damage::Input;
 use testing::limits::limits;
+use testing::DONE;
 
 #[test]
 fn at_each_and_one_past_it() {
@@ -25,10 +26,10 @@ fn ledger_entries() {
         let mut state = Input::from(&Fit::code(0x1000, &[0; 8], &[], &[]).of(class));
         state.journal = journal(1_000);
         let first = state.clone();
-        for (command, last) in [(Command::Fit, (15, 0)), (Command::TakeBack, (16, 0))] {
+        for (command, last) in [(Command::Fit, (15, 0, 0)), (Command::TakeBack, (16, 0, 0))] {
             for turn in 0..17 {
                 let outcome = library.compare(&state, command).expect("no difference");
-                let expected = if turn < 16 { (0, 0) } else { last };
+                let expected = if turn < 16 { DONE } else { last };
                 assert_eq!(outcome.answer, expected, "{command:?} {turn}");
                 (state.image, state.journal) = (outcome.image, outcome.journal);
             }
@@ -49,18 +50,18 @@ fn image_of_a_taking_back() {
         let outcome = library
             .compare(&state, Command::Fit)
             .expect("no difference");
-        assert_eq!(outcome.answer, (0, 0), "{class:?}");
+        assert_eq!(outcome.answer, DONE, "{class:?}");
         (state.image, state.journal) = (outcome.image, outcome.journal);
         state.image.push(0);
         let outcome = library
             .compare(&state, Command::TakeBack)
             .expect("no difference");
-        assert_eq!(outcome.answer, (3, 0), "{class:?}");
+        assert_eq!(outcome.answer, (3, 0, 0), "{class:?}");
         state.image.pop();
         let outcome = library
             .compare(&state, Command::TakeBack)
             .expect("no difference");
-        assert_eq!(outcome.answer, (0, 0), "{class:?}");
+        assert_eq!(outcome.answer, DONE, "{class:?}");
         assert!(outcome.image == first.image && outcome.journal == first.journal);
     }
 }

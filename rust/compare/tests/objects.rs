@@ -5,6 +5,7 @@ use compare::call::{Command, Library};
 use testing::build::{journal, Class};
 use testing::damage::Input;
 use testing::given::{objects, Given, FILL};
+use testing::DONE;
 
 /// What is wrong with one object, if anything.
 fn wrong(library: &mut Library, given: Given) -> Option<String> {
@@ -22,7 +23,7 @@ fn wrong(library: &mut Library, given: Given) -> Option<String> {
     if installed.answer != given.answer || Some(&installed.image) != given.image.as_ref() {
         return Some(format!("{:?}, not what is given", installed.answer));
     }
-    if given.answer != (0, 0) {
+    if given.answer != DONE {
         let another = installed.journal != before.journal;
         return another.then(|| "another ledger".into());
     }
@@ -31,8 +32,7 @@ fn wrong(library: &mut Library, given: Given) -> Option<String> {
         Ok(back) => back,
         Err(wrong) => return Some(wrong),
     };
-    let same =
-        back.answer == (0, 0) && back.image == before.image && back.journal == before.journal;
+    let same = back.answer == DONE && back.image == before.image && back.journal == before.journal;
     (!same).then(|| format!("{:?}, not as before", back.answer))
 }
 

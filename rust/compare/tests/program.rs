@@ -25,15 +25,19 @@ fn counts_its_cases() {
             .expect("a line")
             .to_string()
     };
-    let sum = |line: String| -> u64 {
+    let counts = |start: &str| -> Vec<u64> {
+        let line = line(start);
         let list = line.split(['[', ']']).nth(1).expect("a list");
         list.split(", ")
             .map(|count| count.parse::<u64>().expect("a count"))
-            .sum()
+            .collect()
     };
-    assert_eq!(sum(line("fits")) + sum(line("takings-back")), 116);
-    assert!(sum(line("in histories")) > 0);
-    assert!(line("in lists").ends_with(", 2 run, 0 not"));
+    let sum = |start: &str| counts(start).iter().sum::<u64>();
+    assert_eq!(sum("fits") + sum("takings-back"), 116);
+    assert!(sum("in histories") > 0);
+    assert!(line("in lists").ends_with(", 1 run, 1 not"));
+    let unresolved = ["fits", "in histories", "in lists"].map(|start| counts(start)[10]);
+    assert_eq!(sum("10 by reason"), unresolved.iter().sum());
 }
 
 #[test]

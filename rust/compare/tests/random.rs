@@ -16,11 +16,13 @@ fn calls() {
     println!("fits: {fits:?}\ntakings-back: {rollbacks:?}");
     for number in 0..17 {
         let often = if number < 16 { 100 } else { 0 };
-        assert!(fits[number] >= often, "answer {number} occurs in fits");
+        let (fits, rollbacks) = (fits.numbers[number], rollbacks.numbers[number]);
+        assert!(fits >= often, "answer {number} occurs in fits");
         let occurs = [0, 1, 3, 16].contains(&number);
-        assert_eq!(rollbacks[number] > 0, occurs, "{number} in takings-back");
+        assert_eq!(rollbacks > 0, occurs, "{number} in takings-back");
     }
-    assert_eq!(fits[16], 0, "a fit never answers 16");
+    assert!(fits.rarest_reason() >= 100, "{:?}", fits.reasons);
+    assert_eq!(fits.numbers[16], 0, "a fit never answers 16");
 }
 
 #[test]
@@ -33,8 +35,9 @@ fn histories() {
     let seen = compare.histories;
     println!("answers: {:?}", seen.answers);
     assert_eq!(seen.most_standing, 16, "a full ledger occurs");
-    assert_eq!(seen.answers[1], 0, "the ledger stays sound");
+    assert_eq!(seen.answers.numbers[1], 0, "the ledger stays sound");
     for number in (0..17).filter(|number| *number != 1) {
-        assert!(seen.answers[number] >= 10, "answer {number}");
+        assert!(seen.answers.numbers[number] >= 10, "answer {number}");
     }
+    assert!(seen.answers.rarest_reason() > 0, "every reason occurs");
 }

@@ -4,7 +4,6 @@
 use aktinoph::{Answer, Calls};
 use compare::replay::{as_by_model, code, Replays, State};
 use compare::Compare;
-use testing::answer;
 use testing::build::{journal, Class, Fit};
 use testing::lists::{histories, list, malformed, Listed};
 use testing::sample::Call;
@@ -41,11 +40,7 @@ fn vectors() {
         let outcome = replays.compare(&bytes, &before);
         let (is_run, after) = outcome.unwrap_or_else(|wrong| panic!("{name}: {wrong}"));
         assert!(is_run, "{name}");
-        let asked: Vec<u64> = given
-            .answers
-            .iter()
-            .map(|&(number, place)| code(answer(number, place)))
-            .collect();
+        let asked: Vec<u64> = given.answers.into_iter().map(code).collect();
         assert_eq!(after.answers, asked, "{name}");
         assert_eq!(after.image, given.image_after, "{name}");
         assert_eq!(after.journal, given.journal_after, "{name}");
@@ -145,6 +140,7 @@ fn random_lists() {
     println!("{} run, {} not: {:?}", seen.run, seen.not_run, seen.answers);
     assert!(seen.run > LISTS / 2 && seen.not_run > LISTS / 10);
     for number in 0..17 {
-        assert!(seen.answers[number] >= 10, "answer {number}");
+        assert!(seen.answers.numbers[number] >= 10, "answer {number}");
     }
+    assert!(seen.answers.rarest_reason() >= 5, "every reason occurs");
 }

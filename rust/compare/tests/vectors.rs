@@ -1,13 +1,14 @@
 //! Every line of the shared vectors through the static library: number, place,
-//! image after and ledger after.
+//! reason, image after and ledger after.
 
 use compare::call::{Command, Library};
 use testing::damage::Input;
-use testing::vectors::{bytes, bytes_after, lines, number};
+use testing::numbers;
+use testing::vectors::{answer, bytes, bytes_after, lines};
 
 /// One line of calls.txt: the input, and what follows the last input word.
 fn read_call<'w>(words: &[&'w str]) -> (Input, Command, Vec<&'w str>) {
-    let (inputs, expected) = words.split_at(words.len() - 4);
+    let (inputs, expected) = words.split_at(words.len() - 5);
     let (object, order, image, ledger, command) = match inputs {
         ["fit", object, order, image, ledger] => (*object, *order, image, ledger, Command::Fit),
         ["take-back", image, ledger] => ("-", "-", image, ledger, Command::TakeBack),
@@ -30,14 +31,14 @@ fn wrong_call(library: &mut Library, words: &[String]) -> Option<String> {
         Ok(given) => given,
         Err(wrong) => return Some(wrong),
     };
-    let asked = (number(expected[0]), number(expected[1]));
+    let asked = numbers(answer([expected[0], expected[1], expected[2]]));
     if given.answer != asked {
         return Some(format!("{:?}, and the vector {asked:?}", given.answer));
     }
-    if given.image != bytes_after(expected[2], &input.image) {
+    if given.image != bytes_after(expected[3], &input.image) {
         return Some("another image".into());
     }
-    let another = given.journal != bytes_after(expected[3], &input.journal);
+    let another = given.journal != bytes_after(expected[4], &input.journal);
     another.then(|| "another ledger".into())
 }
 
@@ -65,13 +66,16 @@ fn wrong_step(library: &mut Library, words: &[String], state: &mut Input) -> Opt
             let same = state.image == bytes(image) && state.journal == bytes(ledger);
             return (!same).then(|| "another image or ledger".into());
         }
-        ["fit", object, order, asked, place] => {
+        ["fit", object, order, number, place, reason] => {
             (state.object, state.order) = (bytes(object), bytes(order));
-            (Command::Fit, (number(asked), number(place)))
+            (Command::Fit, answer([number, place, reason]))
         }
-        ["take-back", asked, place] => (Command::TakeBack, (number(asked), number(place))),
+        ["take-back", number, place, reason] => {
+            (Command::TakeBack, answer([number, place, reason]))
+        }
         _ => panic!("a line that is no call"),
     };
+    let asked = numbers(asked);
     let given = match library.compare(state, command) {
         Ok(given) => given,
         Err(wrong) => return Some(wrong),

@@ -10,9 +10,9 @@ use crate::placement::{
 use crate::plan::Plan;
 use crate::relocate::{
     breaks_shape_rule, distance_is_wrong, has_not_one_pair, instruction_form_is_wrong,
-    padding_misses_boundary, symbol_does_not_resolve, RelaEntry,
+    padding_misses_boundary, unresolved_symbol, RelaEntry,
 };
-use crate::symbol::Symbols;
+use crate::symbol::{Reason, Symbols};
 use crate::Answer;
 
 /// Checks 2 to 14: everything that depends on object, order and image length
@@ -39,28 +39,25 @@ pub fn judge(object: &[u8], order: &[u8], image_length: usize) -> Result<Plan, A
     Ok(Plan::new(&symbols, window, &lists))
 }
 
-/// A check's number, and whether a relocation breaks it.
-type RelocationCheck = (u32, fn(&RelaEntry) -> bool);
-
-/// The checks of one relocation.
-const RELOCATION_CHECKS: [RelocationCheck; 6] = [
-    (9, breaks_shape_rule),          // type, offset, overlap, addend rule
-    (10, symbol_does_not_resolve),   // (24, 25: or is not in the target row)
-    (11, instruction_form_is_wrong), // instruction form
-    (12, has_not_one_pair),          // not exactly one partner
-    (13, distance_is_wrong),         // distance odd or too far; or no multiple of 4
-    (14, padding_misses_boundary),   // padding not on its boundary
-];
-
 /// "Records go by RELA row, then file order, each through 9 to 14 before the
 /// next." The place is the "record, counted from 0 over all".
 fn first_broken_relocation<'a>(relas: impl Iterator<Item = RelaEntry<'a>>) -> Result<(), Answer> {
     for (place, rela) in relas.enumerate() {
-        for (number, is_broken) in RELOCATION_CHECKS {
-            broken_at(number, is_broken(&rela).then_some(place as u32))?;
-        }
+        check_relocation(&rela, place as u32)?;
     }
     Ok(())
+}
+
+/// The checks of one relocation.
+#[rustfmt::skip]
+fn check_relocation(rela: &RelaEntry, place: u32) -> Result<(), Answer> {
+    let broken = |number, is_broken: bool| broken_at(number, is_broken.then_some(place));
+    broken(9, breaks_shape_rule(rela))?;            // type, offset, overlap, addend rule
+    resolved_at(place, unresolved_symbol(rela))?;   // 10 (24, 25: or is not in the target row)
+    broken(11, instruction_form_is_wrong(rela))?;   // instruction form
+    broken(12, has_not_one_pair(rela))?;            // not exactly one partner
+    broken(13, distance_is_wrong(rela))?;           // distance odd or too far; or no multiple of 4
+    broken(14, padding_misses_boundary(rela))       // padding not on its boundary
 }
 
 /// The checks of an install, in order.
@@ -110,17 +107,22 @@ pub fn rollback(image: &mut [u8], journal: &mut [u8]) -> Answer {
 
 /// What was read, or the refusal with this number at place 0.
 fn read<T>(number: u32, read: Option<T>) -> Result<T, Answer> {
-    read.ok_or(Answer { number, place: 0 })
+    read.ok_or(Answer::new(number, 0))
 }
 
 /// What was read, or the refusal with this number at the place in the error.
 fn read_at<T>(number: u32, read: Result<T, u32>) -> Result<T, Answer> {
-    read.map_err(|place| Answer { number, place })
+    read.map_err(|place| Answer::new(number, place))
 }
 
 /// The refusal with this number at the broken place, if there is one.
 fn broken_at(number: u32, broken: Option<u32>) -> Result<(), Answer> {
-    broken.map_or(Ok(()), |place| Err(Answer { number, place }))
+    broken.map_or(Ok(()), |place| Err(Answer::new(number, place)))
+}
+
+/// The refusal of check 10 at this place, if there is a reason.
+fn resolved_at(place: u32, reason: Option<Reason>) -> Result<(), Answer> {
+    reason.map_or(Ok(()), |reason| Err(Answer::unresolved(place, reason)))
 }
 
 /// The refusal with this number at place 0, unless the rule holds.

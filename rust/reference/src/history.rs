@@ -35,10 +35,7 @@ impl History {
         };
         let needed = OLD_BYTES_AT as u64 + self.k() + u64::from(plan.span.length);
         if self.n() == MAX_ENTRIES || needed > self.journal_length as u64 {
-            return Answer {
-                number: 15,
-                place: 0,
-            };
+            return Answer::new(15, 0);
         }
         self.standing.push(plan);
         Answer::DONE
@@ -49,10 +46,7 @@ impl History {
     pub fn rollback(&mut self) -> Answer {
         match self.standing.pop() {
             Some(_) => Answer::DONE,
-            None => Answer {
-                number: 16,
-                place: 0,
-            },
+            None => Answer::new(16, 0),
         }
     }
 

@@ -1,8 +1,8 @@
 //! The program: one call over files.
 //!
-//! A done or refused call writes its number and place and exits with 0, and so
-//! does a file that is too long. Anything else gives a line on standard error,
-//! changes no file and exits with 1.
+//! A done or refused call writes its number, place and reason and exits with 0,
+//! and so does a file that is too long. Anything else gives a line on standard
+//! error, changes no file and exits with 1.
 
 #![forbid(unsafe_code)]
 
@@ -86,9 +86,10 @@ fn take_back(image: &Path, ledger: &Path) -> Result<String, String> {
 /// "A longer file gives the line `too long`, and no file changes."
 const TOO_LONG: &str = "too long";
 
-/// "number and place in decimal, a space between, then a line end"
+/// "number and place in decimal, a space between, then a line end"; the reason:
+/// "the program writes it third".
 fn line(answer: Answer) -> String {
-    format!("{} {}", answer.number, answer.place)
+    format!("{} {} {}", answer.number, answer.place, answer.reason)
 }
 
 /// The bytes of all files, or `None` if one is too long.

@@ -5,7 +5,7 @@ use crate::class::Class;
 use crate::numbers::Whole;
 use crate::object::{RelocationSection, Section};
 use crate::relocation::{effect_of, Calculation, Effect, Patch, Relocation};
-use crate::symbol::Symbols;
+use crate::symbol::{Reason, Symbols};
 
 /// One relocation with everything that its rules look at.
 #[derive(Clone, Copy, Debug)]
@@ -63,9 +63,14 @@ impl<'a> RelaEntry<'a> {
         Whole::from(self.symbols.addresses[self.list.target].0) + self.offset()
     }
 
+    /// S, or why the symbol does not resolve.
+    fn s(&self) -> Result<Whole, Reason> {
+        self.symbols.value(self.relocation().symbol)
+    }
+
     /// S + A, not reduced.
     fn s_plus_a(&self) -> Option<Whole> {
-        Some(self.symbols.value(self.relocation().symbol)? + self.addend())
+        Some(self.s().ok()? + self.addend())
     }
 
     /// "S + A is reduced modulo 2^32, then called T." In class 2, "modulo 2^64".
@@ -180,11 +185,13 @@ fn addend_is_wrong(rela: &RelaEntry) -> bool {
     }
 }
 
-/// Check 10: "symbol does not resolve (24, 25: or is not in the target row)".
-/// "Markers skip 10."
-pub fn symbol_does_not_resolve(rela: &RelaEntry) -> bool {
-    rela.patch().is_some()
-        && (rela.s_plus_a().is_none() || (rela.asks_for_pair() && !label_is_in_target(rela)))
+/// Check 10: "symbol does not resolve (24, 25: or is not in the target row)", and
+/// why. "Markers skip 10."
+pub fn unresolved_symbol(rela: &RelaEntry) -> Option<Reason> {
+    rela.patch()?;
+    let misses_target = rela.asks_for_pair() && !label_is_in_target(rela);
+    let last = misses_target.then_some(Reason::NotInTarget);
+    rela.s().err().or(last)
 }
 
 /// "A PCREL_LO12 symbol is above 0 and defined in the record's own target row"

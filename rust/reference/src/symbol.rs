@@ -1,8 +1,9 @@
-//! Symbols, and S: the value of a symbol in a relocation (check 10).
+//! Symbols, and S: the value of a symbol in a relocation, or why it has none
+//! (check 10).
 
 use crate::class::Class;
 use crate::numbers::{u16_at, Whole};
-use crate::object::Object;
+use crate::object::{Object, Section};
 use crate::order::ExternalValue;
 use crate::placement::Addresses;
 
@@ -13,9 +14,32 @@ pub const MAX_SYMBOLS: u32 = 8_192;
 pub const UNDEFINED: u16 = 0;
 /// "the value for section 0xFFF1"
 const ABSOLUTE: u16 = 0xFFF1;
+const COMMON: u16 = 0xFFF2;
+/// The lowest of the section numbers that name no section.
+const FIRST_RESERVED: u16 = 0xFF00;
 const WEAK: u8 = 2;
 const TLS: u8 = 6;
 const IFUNC: u8 = 10;
+
+/// Why a lookup gives no value: "the first that applies, in this order, numbered 1
+/// to 7".
+#[derive(Clone, Copy, PartialEq, Eq, Debug)]
+pub enum Reason {
+    /// "past the table"
+    PastTable = 1,
+    /// "row missing or not allocated (sections 1 to 0xFEFF)"
+    NotAllocated = 2,
+    /// "common (section 0xFFF2)"
+    Common = 3,
+    /// "reserved section (0xFF00 and up, but for 0xFFF1 and 0xFFF2)"
+    Reserved = 4,
+    /// "undefined, not weak and without a value in the order"
+    Undefined = 5,
+    /// "wrong type (TLS or IFUNC)"
+    WrongType = 6,
+    /// "not in the target row (24 and 25 only)"
+    NotInTarget = 7,
+}
 
 /// One entry of the symbol table.
 #[derive(Clone, Copy, PartialEq, Eq, Debug)]
@@ -63,22 +87,26 @@ pub struct Symbols<'a> {
 }
 
 impl Symbols<'_> {
-    /// S, from 0 to 2^32 - 1, or to 2^64 - 1; `None` where the symbol does "not
+    /// S, from 0 to 2^32 - 1, or to 2^64 - 1; or why the symbol does "not
     /// resolve".
-    pub fn value(&self, index: u32) -> Option<Whole> {
+    pub fn value(&self, index: u32) -> Result<Whole, Reason> {
         // "0 for symbol 0, whatever its entry holds and even in an empty table"
         if index == 0 {
-            return Some(0);
+            return Ok(0);
         }
-        let symbol = self.entry(index)?;
-        // "types TLS 6 and IFUNC 10 do not resolve"
-        if matches!(symbol.kind, TLS | IFUNC) {
-            return None;
-        }
-        match symbol.section {
-            UNDEFINED => self.undefined_value(index, symbol),
-            ABSOLUTE => Some(Whole::from(symbol.value)),
-            section => self.placed_value(section, symbol),
+        let symbol = self.entry(index).ok_or(Reason::PastTable)?;
+        let value = match symbol.section {
+            UNDEFINED => self.undefined_value(index, symbol)?,
+            ABSOLUTE => Whole::from(symbol.value),
+            COMMON => return Err(Reason::Common),
+            FIRST_RESERVED.. => return Err(Reason::Reserved),
+            section => self.placed_value(section, symbol)?,
+        };
+        // "types TLS 6 and IFUNC 10 do not resolve", and this is the last of the
+        // reasons of a lookup.
+        match symbol.kind {
+            TLS | IFUNC => Err(Reason::WrongType),
+            _ => Ok(value),
         }
     }
 
@@ -88,23 +116,24 @@ impl Symbols<'_> {
     }
 
     /// "for an undefined symbol the order's value, else 0 if weak (binding 2)"
-    fn undefined_value(&self, index: u32, symbol: Symbol) -> Option<Whole> {
+    fn undefined_value(&self, index: u32, symbol: Symbol) -> Result<Whole, Reason> {
         let mut values = self.external_values.iter();
         match values.find(|external| external.symbol == index) {
-            Some(external) => Some(Whole::from(external.value)),
-            None => (symbol.binding == WEAK).then_some(0),
+            Some(external) => Ok(Whole::from(external.value)),
+            None if symbol.binding == WEAK => Ok(0),
+            None => Err(Reason::Undefined),
         }
     }
 
     /// "placed address plus value modulo 2^32 for a symbol of an allocated row",
     /// or modulo 2^64
-    fn placed_value(&self, section: u16, symbol: Symbol) -> Option<Whole> {
-        let section = u32::from(section);
-        if !self.object.section(section)?.is_allocated() {
-            return None;
+    fn placed_value(&self, section: u16, symbol: Symbol) -> Result<Whole, Reason> {
+        let row = self.object.section(u32::from(section));
+        if !row.is_some_and(Section::is_allocated) {
+            return Err(Reason::NotAllocated);
         }
-        let address = self.addresses[section as usize];
+        let address = self.addresses[usize::from(section)];
         let sum = Whole::from(address.0) + Whole::from(symbol.value);
-        Some(sum.rem_euclid(self.object.class().address_end()))
+        Ok(sum.rem_euclid(self.object.class().address_end()))
     }
 }

@@ -9,6 +9,7 @@ use reference::numbers::number_from;
 use reference::order::{Order, Placement};
 use reference::{install, numbers::Address, Answer};
 use testing::build::{journal, object, order, Class, Fit, Relocation, Section, Symbol, RVC};
+use testing::DONE;
 
 const HI20: u32 = 26;
 const LO12_I: u32 = 27;
@@ -52,7 +53,7 @@ fn halves() {
     assert_eq!(number_from(&lui(0x7FFF_F800).laid()), 0x8000_0537);
     assert_eq!(addi(0x7FFF_F800), 0x8005_0513);
     // In class 2 this is the first address that the halves do not reach.
-    assert_eq!(lui(0x7FFF_F800).of(Class::Elf64).answer(), (13, 0));
+    assert_eq!(lui(0x7FFF_F800).of(Class::Elf64).answer(), (13, 0, 0));
 }
 
 #[test]
@@ -74,8 +75,8 @@ fn call() {
     let to = |target| one(CALL, &before.to_le_bytes(), 0x1000, target);
     assert_eq!(laid_word(&to(0x2800)), after);
     assert_eq!(laid_word(&to(0x2800).with_flags(0)), after, "bit 0 clear");
-    assert_eq!(to(0x2802).answer_of_both(), (0, 0));
-    assert_eq!(to(0x2802).with_flags(0).answer_of_both(), (13, 0));
+    assert_eq!(to(0x2802).answer_of_both(), DONE);
+    assert_eq!(to(0x2802).with_flags(0).answer_of_both(), (13, 0, 0));
 }
 
 #[test]
@@ -84,16 +85,16 @@ fn jal() {
     let to = |distance: u64| one(JAL, &word(0xEF), 0x1000, 0x1000 + distance);
     assert_eq!(laid_word(&to(8)), 0x0080_00EF);
     assert_eq!(laid_word(&to(8).with_flags(0)), 0x0080_00EF);
-    assert_eq!(to(1_048_576).answer_of_both(), (13, 0));
-    assert_eq!(to(1_048_576).with_flags(0).answer_of_both(), (13, 0));
+    assert_eq!(to(1_048_576).answer_of_both(), (13, 0, 0));
+    assert_eq!(to(1_048_576).with_flags(0).answer_of_both(), (13, 0, 0));
 }
 
 #[test]
 fn jal_1048574_with_bit_0_set() {
     let fit = one(JAL, &word(0xEF), 0x1000, 0x1000 + 1_048_574);
-    assert_eq!(fit.clone().with_flags(RVC).answer_of_both(), (0, 0));
+    assert_eq!(fit.clone().with_flags(RVC).answer_of_both(), DONE);
     assert_eq!(laid_word(&fit.clone().with_flags(RVC)), 0x7FFF_F0EF);
-    assert_eq!(fit.with_flags(0).answer_of_both(), (13, 0), "clear");
+    assert_eq!(fit.with_flags(0).answer_of_both(), (13, 0, 0), "clear");
 }
 
 #[test]
@@ -102,16 +103,19 @@ fn branch() {
     let to = |target| one(BRANCH, &word(0x63), 0x1000, target);
     assert_eq!(laid_word(&to(0x1000 - 4)), 0xFE00_0EE3);
     assert_eq!(laid_word(&to(0x1000 - 4).with_flags(0)), 0xFE00_0EE3);
-    assert_eq!(to(0x1000 + 4_096).answer_of_both(), (13, 0));
-    assert_eq!(to(0x1000 + 4_096).with_flags(0).answer_of_both(), (13, 0));
+    assert_eq!(to(0x1000 + 4_096).answer_of_both(), (13, 0, 0));
+    assert_eq!(
+        to(0x1000 + 4_096).with_flags(0).answer_of_both(),
+        (13, 0, 0)
+    );
 }
 
 #[test]
 fn branch_4094_with_bit_0_set() {
     let fit = one(BRANCH, &word(0x63), 0x1000, 0x1000 + 4_094);
-    assert_eq!(fit.clone().with_flags(RVC).answer_of_both(), (0, 0));
+    assert_eq!(fit.clone().with_flags(RVC).answer_of_both(), DONE);
     assert_eq!(laid_word(&fit.clone().with_flags(RVC)), 0x7E00_0FE3);
-    assert_eq!(fit.with_flags(0).answer_of_both(), (13, 0), "clear");
+    assert_eq!(fit.with_flags(0).answer_of_both(), (13, 0, 0), "clear");
 }
 
 #[test]
@@ -120,10 +124,10 @@ fn compressed_with_bit_0_set() {
     assert_eq!(insert(CB, 0xC101, 8), 0xC501);
     let fit = one(RVC_JUMP, &[0x01, 0xA0], 0x1000, 0x1000 - 2).with_flags(RVC);
     assert_eq!(laid_word(&fit), 0xBFFD);
-    assert_eq!(fit.with_flags(0).answer_of_both(), (9, 0), "clear");
+    assert_eq!(fit.with_flags(0).answer_of_both(), (9, 0, 0), "clear");
     let fit = one(RVC_BRANCH, &[0x01, 0xC1], 0x1000, 0x1000 + 8).with_flags(RVC);
     assert_eq!(laid_word(&fit), 0xC501);
-    assert_eq!(fit.with_flags(0).answer_of_both(), (9, 0), "clear");
+    assert_eq!(fit.with_flags(0).answer_of_both(), (9, 0, 0), "clear");
 }
 
 #[test]
@@ -140,12 +144,12 @@ fn align() {
     let list = [Relocation::new(0, ALIGN, 0, 6)];
     assert_eq!(
         Fit::code(0x1002, &[0; 8], &[], &list).answer_of_both(),
-        (0, 0),
+        DONE,
         "P 0x1002"
     );
     assert_eq!(
         Fit::code(0x1000, &[0; 8], &[], &list).answer_of_both(),
-        (14, 0),
+        (14, 0, 0),
         "P 0x1000"
     );
 }
@@ -229,8 +233,11 @@ fn error_unnamed_strong_symbol() {
         let list = [Relocation::new(0, 1, 1, 0)];
         Fit::code(0x1000, &[0; 4], &[Symbol::new(info, 0, 0)], &list)
     };
-    assert_eq!(undefined(testing::build::GLOBAL).answer_of_both(), (10, 0));
-    assert_eq!(undefined(testing::build::WEAK).answer_of_both(), (0, 0));
+    assert_eq!(
+        undefined(testing::build::GLOBAL).answer_of_both(),
+        (10, 0, 5)
+    );
+    assert_eq!(undefined(testing::build::WEAK).answer_of_both(), DONE);
 }
 
 /// "ADD32 and SUB32 at one offset both started from the object's V."
@@ -267,8 +274,8 @@ fn across_with(
         let mut fit = fit.with_flags(flags);
         fit.image.truncate(64 + width);
         match fit.answer() {
-            (0, 0) => (0, 0, number_from(&fit.laid())),
-            (number, place) => (number, place, u64::from(before)),
+            DONE => (0, 0, number_from(&fit.laid())),
+            (number, place, _) => (number, place, u64::from(before)),
         }
     })
 }
@@ -349,15 +356,15 @@ fn ends_of_the_halves() {
         let target = place.wrapping_add_signed(distance);
         one_64(PCREL_HI20, &word(0x517), place, target)
     };
-    assert_eq!(over(-2_147_485_697).answer(), (13, 0));
+    assert_eq!(over(-2_147_485_697).answer(), (13, 0, 0));
     assert_eq!(number_from(&over(-2_147_485_696).laid()), 0x8000_0517);
     assert_eq!(number_from(&over(2_147_481_599).laid()), 0x7FFF_F517);
-    assert_eq!(over(2_147_481_600).answer(), (13, 0));
+    assert_eq!(over(2_147_481_600).answer(), (13, 0, 0));
     let lui = |t| one_64(HI20, &word(0x537), place, t);
-    assert_eq!(lui(0xFFFF_FFFF_7FFF_F7FF).answer(), (13, 0));
+    assert_eq!(lui(0xFFFF_FFFF_7FFF_F7FF).answer(), (13, 0, 0));
     assert_eq!(number_from(&lui(0xFFFF_FFFF_7FFF_F800).laid()), 0x8000_0537);
     assert_eq!(number_from(&lui(0x7FFF_F7FF).laid()), 0x7FFF_F537);
-    assert_eq!(lui(0x7FFF_F800).answer(), (13, 0));
+    assert_eq!(lui(0x7FFF_F800).answer(), (13, 0, 0));
 }
 
 /// The same of a call, whose distance is even: one step is two bytes.
@@ -365,13 +372,13 @@ fn ends_of_the_halves() {
 fn ends_of_a_call() {
     let before = 0x0000_80E7_0000_0097_u64.to_le_bytes();
     let over = |distance| one_64(CALL, &before, 0, 0_u64.wrapping_add_signed(distance));
-    assert_eq!(over(-2_147_485_698).answer(), (13, 0));
+    assert_eq!(over(-2_147_485_698).answer(), (13, 0, 0));
     let laid = number_from(&over(-2_147_485_696).laid());
     assert_eq!(laid, 0x8000_80E7_8000_0097);
     let laid = number_from(&over(2_147_481_598).laid());
     assert_eq!(laid, 0x7FE0_80E7_7FFF_F097);
-    assert_eq!(over(2_147_481_599).answer(), (13, 0), "odd");
-    assert_eq!(over(2_147_481_600).answer(), (13, 0));
+    assert_eq!(over(2_147_481_599).answer(), (13, 0, 0), "odd");
+    assert_eq!(over(2_147_481_600).answer(), (13, 0, 0));
 }
 
 /// Type 2 with T above 2^63.
@@ -379,7 +386,7 @@ fn ends_of_a_call() {
 fn word_64() {
     let t = 0xFEDC_BA98_7654_3210;
     assert_eq!(number_from(&one_64(2, &[0; 8], 0x1000, t).laid()), t);
-    assert_eq!(one(2, &[0; 8], 0x1000, t).answer(), (9, 0));
+    assert_eq!(one(2, &[0; 8], 0x1000, t).answer(), (9, 0, 0));
 }
 
 /// addiw a0, a0, 0.
@@ -391,7 +398,7 @@ fn addiw() {
         number_from(&fit.clone().of(Class::Elf64).laid()),
         0xFFF5_051B
     );
-    assert_eq!(fit.answer(), (11, 0));
+    assert_eq!(fit.answer(), (11, 0, 0));
 }
 
 /// C.JAL's number is C.ADDIW in class 2.
@@ -399,6 +406,6 @@ fn addiw() {
 fn compressed_jal() {
     let jal = one(RVC_JUMP, &[0x01, 0x20], 0x1000, 0x1000 - 2);
     assert_eq!(number_from(&jal.laid()), 0x3FFD);
-    assert_eq!(jal.clone().of(Class::Elf64).answer(), (11, 0));
-    assert_eq!(jal.with_flags(0).answer_of_both(), (9, 0), "bit 0 clear");
+    assert_eq!(jal.clone().of(Class::Elf64).answer(), (11, 0, 0));
+    assert_eq!(jal.with_flags(0).answer_of_both(), (9, 0, 0), "bit 0 clear");
 }

@@ -5,7 +5,9 @@ use std::panic::{catch_unwind, AssertUnwindSafe};
 
 use reference::journal::Standing;
 use reference::{install, judge, rollback, Answer, Class};
+use testing::counts::Counts;
 use testing::damage::{damage, right_input, vector_inputs, Input};
+use testing::numbers;
 use testing::random::Random;
 
 const INPUTS: u64 = 3_000_000;
@@ -58,7 +60,7 @@ fn check_done_rollback(before: &Input, image: &[u8], journal: &[u8]) {
 }
 
 /// One call on a copy of the input, checked against the input.
-fn try_input(input: &Input, is_rollback: bool) -> u32 {
+fn try_input(input: &Input, is_rollback: bool) -> Answer {
     let (mut image, mut journal) = (input.image.clone(), input.journal.clone());
     let answer = if is_rollback {
         rollback(&mut image, &mut journal)
@@ -73,7 +75,7 @@ fn try_input(input: &Input, is_rollback: bool) -> u32 {
             assert!(journal == input.journal, "a refusal keeps the ledger");
         }
     }
-    answer.number
+    answer
 }
 
 #[test]
@@ -81,8 +83,8 @@ fn millions_of_inputs() {
     let mut right = vector_inputs();
     right.extend((0..RIGHT_INPUTS).map(|seed| right_input(&mut Random::new(seed))));
     // By what the object says of its class: none or another, 1, and 2.
-    let mut fits = [[0_u64; 17]; 3];
-    let mut rollbacks = [0_u64; 17];
+    let mut fits = [Counts::default(); 3];
+    let mut rollbacks = Counts::default();
     for seed in 0..INPUTS {
         let random = &mut Random::new(seed + (1 << 32));
         let mut input = right[random.below(right.len())].clone();
@@ -95,20 +97,22 @@ fn millions_of_inputs() {
             Some(Class::Elf64) => &mut fits[2],
         };
         match catch_unwind(AssertUnwindSafe(|| try_input(&input, is_rollback))) {
-            Ok(number) => counts[number as usize] += 1,
+            Ok(answer) => counts.add(numbers(answer)),
             Err(_) => panic!("input {seed}, a taking-back: {is_rollback}"),
         }
     }
     println!("fits: {fits:?}\ntakings-back: {rollbacks:?}");
     for fits in &fits[1..] {
-        for (number, count) in fits[..16].iter().enumerate() {
+        for (number, count) in fits.numbers[..16].iter().enumerate() {
             assert!(*count >= 100, "answer {number} occurs often in fits");
         }
+        assert!(fits.rarest_reason() >= 100, "{:?}", fits.reasons);
     }
     // No class is 4, unless the ledger is unsound.
-    let others = [fits[0][1] + fits[0][4], fits[0].iter().sum()];
-    assert!(others[0] == others[1] && fits.iter().all(|fits| fits[16] == 0));
-    for (number, count) in rollbacks.iter().enumerate() {
+    let none = fits[0].numbers;
+    let others = [none[1] + none[4], none.iter().sum()];
+    assert!(others[0] == others[1] && fits.iter().all(|fits| fits.numbers[16] == 0));
+    for (number, count) in rollbacks.numbers.iter().enumerate() {
         let occurs = [0, 1, 3, 16].contains(&number);
         assert_eq!(*count > 0, occurs, "answer {number} in takings-back");
     }

@@ -153,7 +153,9 @@ fn type_line(i: u64) -> String {
         Effect::Marker => format!("t {kind:x} {rvc} 0"),
         Effect::Align => format!("t {kind:x} {rvc} 1"),
         Effect::Refused => format!("t {kind:x} {rvc} 3"),
-        Effect::Patch(patch) if rvc == 0 && patch.form.is_compressed() => format!("t {kind:x} {rvc} 3"),
+        Effect::Patch(patch) if rvc == 0 && patch.form.is_compressed() => {
+            format!("t {kind:x} {rvc} 3")
+        }
         Effect::Patch(patch) => {
             let calculation = calculation(patch);
             let field = place_in(&FIELDS, patch.field);
@@ -198,7 +200,10 @@ fn reach_line(i: u64) -> String {
         u8::from(distance % 2 == 0 && reach.contains(&distance))
     });
     let aligned = u8::from((t - p) % 4 == 0);
-    format!("r {number:x} {t:x} {p:x} {} {} {aligned}", reached[0], reached[1])
+    format!(
+        "r {number:x} {t:x} {p:x} {} {} {aligned}",
+        reached[0], reached[1]
+    )
 }
 
 /// A word whose rd and rs1 are 0 or 1 and whose funct3 is often 0.

@@ -4,6 +4,8 @@
 use reference::history::History;
 use reference::journal::Standing;
 use reference::{install, rollback, Answer};
+use testing::counts::Counts;
+use testing::numbers;
 use testing::random::Random;
 use testing::sample::{some_call, start, Call};
 
@@ -36,21 +38,16 @@ impl Slot {
     }
 }
 
-/// How often each answer was given, to see that the lists reach everything.
+/// What the lists reach.
 #[derive(Default)]
-struct Counts {
-    answers: [u64; 17],
+struct Seen {
+    answers: Counts,
     deepest: usize,
 }
 
 /// Plays one list on the program and on the history, and gives the standing
 /// fits, oldest first.
-fn play(
-    random: &mut Random,
-    slot: &mut Slot,
-    model: &mut History,
-    counts: &mut Counts,
-) -> Vec<Call> {
+fn play(random: &mut Random, slot: &mut Slot, model: &mut History, seen: &mut Seen) -> Vec<Call> {
     let mut standing = Vec::new();
     let one_rollback_in = random.pick(&[2, 3, 8]);
     for _ in 0..random.below(45) {
@@ -67,8 +64,8 @@ fn play(
             standing.extend((answer == Answer::DONE).then_some(call));
             answer
         };
-        counts.answers[answer.number as usize] += 1;
-        counts.deepest = counts.deepest.max(standing.len());
+        seen.answers.add(numbers(answer));
+        seen.deepest = seen.deepest.max(standing.len());
     }
     standing
 }
@@ -109,25 +106,23 @@ fn check_empty_again(first: &Slot, slot: &mut Slot, standing: &[Call]) {
 
 #[test]
 fn long_histories() {
-    let mut counts = Counts::default();
+    let mut seen = Seen::default();
     for seed in 0..HISTORIES {
         let random = &mut Random::new(seed);
         let (image, journal) = start(random);
         let first = Slot { image, journal };
         let mut slot = first.clone();
         let mut model = History::start(&first.image, first.journal.len());
-        let standing = play(random, &mut slot, &mut model, &mut counts);
+        let standing = play(random, &mut slot, &mut model, &mut seen);
         compare(&slot, &model);
         check_replay(random, &first, &slot, &standing);
         check_empty_again(&first, &mut slot, &standing);
     }
-    println!(
-        "answers: {:?}, most standing: {}",
-        counts.answers, counts.deepest
-    );
-    assert_eq!(counts.deepest, 16, "a full ledger occurs");
-    for (number, count) in counts.answers.iter().enumerate() {
+    println!("{:?}, most standing: {}", seen.answers, seen.deepest);
+    assert_eq!(seen.deepest, 16, "a full ledger occurs");
+    for (number, count) in seen.answers.numbers.iter().enumerate() {
         // The ledger stays sound, so that 1 never occurs.
         assert_eq!(*count > 0, number != 1, "answer {number}");
     }
+    assert!(seen.answers.rarest_reason() > 0, "every reason occurs");
 }

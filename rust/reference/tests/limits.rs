@@ -1,8 +1,8 @@
 //! Every limit of both classes, at its value and one past it.
 
 use reference::{install, Answer};
-use testing::answer;
 use testing::limits::limits;
+use testing::numbers;
 
 #[test]
 fn at_each_and_one_past_it() {
@@ -11,7 +11,7 @@ fn at_each_and_one_past_it() {
         let input = limit.input;
         let (mut image, mut journal) = (input.image.clone(), input.journal.clone());
         let given = install(&input.object, &input.order, &mut image, &mut journal);
-        if given != answer(limit.answer.0, limit.answer.1) {
+        if numbers(given) != limit.answer {
             wrong.push(format!("{}: {given:?}, not {:?}", limit.name, limit.answer));
         }
         if given != Answer::DONE {

@@ -7,8 +7,8 @@ use std::collections::BTreeSet;
 use reference::journal::Standing;
 use reference::object::{Header, Object};
 use reference::{install, rollback, Answer, Class};
-use testing::answer;
 use testing::given::{objects, Given, FILL};
+use testing::{numbers, DONE};
 
 /// The journal's length without old bytes. Document 01: 136.
 const JOURNAL_HEAD: usize = 136;
@@ -53,8 +53,8 @@ fn try_case(case: &Given) -> Result<(), String> {
     let before = (image.clone(), journal.clone());
 
     let given = install(&case.object, &case.order, &mut image, &mut journal);
-    if given != answer(case.answer.0, case.answer.1) {
-        return Err(format!("install {} {}", given.number, given.place));
+    if numbers(given) != case.answer {
+        return Err(format!("install {:?}", numbers(given)));
     }
     let laid = case.image.as_ref().expect("an image");
     if let Some(at) = (0..image.len()).find(|&at| image[at] != laid[at]) {
@@ -68,7 +68,7 @@ fn try_case(case: &Given) -> Result<(), String> {
     if given == Answer::DONE {
         let back = rollback(&mut image, &mut journal);
         if back != Answer::DONE {
-            return Err(format!("rollback {} {}", back.number, back.place));
+            return Err(format!("rollback {:?}", numbers(back)));
         }
     }
     if (image, journal) != before {
@@ -90,7 +90,7 @@ fn installs_what_a_linker_lays() {
 
 /// The types of the done cases of a class, with these e_flags.
 fn types_of(class: Class, is_wanted: impl Fn(&Kinds) -> bool) -> BTreeSet<u32> {
-    let done = objects().into_iter().filter(|case| case.answer == (0, 0));
+    let done = objects().into_iter().filter(|case| case.answer == DONE);
     let kinds = done.map(|case| kinds(&case.object));
     let wanted = kinds.filter(|kinds| kinds.class == class && is_wanted(kinds));
     wanted.flat_map(|kinds| kinds.types).collect()

@@ -4,17 +4,16 @@
 use reference::calls::{read, Call};
 use reference::history::History;
 use reference::{install, replay, rollback, Answer};
-use testing::answer;
 use testing::build::{Class, Fit};
 use testing::lists::{histories, list, malformed, some_list, wound_list, Listed};
 use testing::random::Random;
 use testing::sample::{self, start};
 
 /// What a place holds before the list, and what no call answers.
-const UNTOUCHED: Answer = Answer {
-    number: 99,
-    place: 99,
-};
+const UNTOUCHED: Answer = Answer::new(99, 99);
+
+/// "no fit stands"
+const NOTHING_STANDS: Answer = Answer::new(16, 0);
 
 /// What a list is run on, and what it leaves.
 #[derive(Clone, PartialEq, Eq, Debug)]
@@ -88,13 +87,16 @@ fn no_call() {
 fn calls_are_made_in_their_order() {
     let mut state = State::new(3);
     assert!(state.replay(&list(&[fit(), Listed::TakeBack, Listed::TakeBack])));
-    assert_eq!(state.answers, [answer(0, 0), answer(0, 0), answer(16, 0)]);
+    assert_eq!(state.answers, [Answer::DONE, Answer::DONE, NOTHING_STANDS]);
     assert_eq!(state.image, State::new(0).image);
     assert_eq!(state.journal, State::new(0).journal);
 
     let mut state = State::new(3);
     assert!(state.replay(&list(&[Listed::TakeBack, Listed::TakeBack, fit()])));
-    assert_eq!(state.answers, [answer(16, 0), answer(16, 0), answer(0, 0)]);
+    assert_eq!(
+        state.answers,
+        [NOTHING_STANDS, NOTHING_STANDS, Answer::DONE]
+    );
     assert_eq!(&state.image[64..72], CODE);
 }
 
@@ -112,7 +114,7 @@ fn fits_of_both_classes() {
         let mut state = State::new(5);
         assert!(state.replay(&list(&calls)));
         let done = Answer::DONE;
-        assert_eq!(state.answers, [done, done, done, done, answer(16, 0)]);
+        assert_eq!(state.answers, [done, done, done, done, NOTHING_STANDS]);
         assert_eq!(state.image, State::new(0).image);
         assert_eq!(state.journal, State::new(0).journal);
     }
@@ -150,7 +152,7 @@ fn unsound_ledger() {
     state.journal[0] = 17;
     let before = state.clone();
     assert!(state.replay(&list(&[fit(), Listed::TakeBack])));
-    assert_eq!(state.answers, [answer(1, 0); 2]);
+    assert_eq!(state.answers, [Answer::new(1, 0); 2]);
     assert_eq!((state.image, state.journal), (before.image, before.journal));
 }
 
@@ -211,8 +213,7 @@ fn vectors() {
             answers: vec![UNTOUCHED; given.calls.len()],
         };
         assert!(state.replay(&list(&given.calls)), "{}", given.name);
-        let answers: Vec<Answer> = given.answers.iter().map(|&(n, p)| answer(n, p)).collect();
-        assert_eq!(state.answers, answers, "{}", given.name);
+        assert_eq!(state.answers, given.answers, "{}", given.name);
         assert_eq!(state.image, given.image_after, "{}", given.name);
         assert_eq!(state.journal, given.journal_after, "{}", given.name);
     }

@@ -72,7 +72,7 @@ fn of_calls() -> Vec<Case> {
             ["take-back", image, journal, ..] => {
                 cases.extend(rollbacks(&bytes(image), &bytes(journal)));
             }
-            ["fit", object, order, image, journal, number, _, image_after, journal_after] => {
+            ["fit", object, order, image, journal, number, _, _, image_after, journal_after] => {
                 let (image, journal) = (bytes(image), bytes(journal));
                 cases.extend(save(&bytes(object), &bytes(order), &image, &journal));
                 if number == "0" {

@@ -1,6 +1,7 @@
 //! Builds objects and orders of both classes, and ledgers: right ones and
 //! slightly wrong ones.
 
+use crate::{numbers, Numbers};
 pub use reference::Class;
 use reference::{install, Answer};
 
@@ -17,8 +18,11 @@ pub const ALLOCATED: u64 = 2;
 pub const RVC: u32 = 1;
 
 pub const ABSOLUTE: u16 = 0xFFF1;
+pub const COMMON: u16 = 0xFFF2;
 pub const GLOBAL: u8 = 0x10;
 pub const WEAK: u8 = 0x20;
+pub const TLS: u8 = 6;
+pub const IFUNC: u8 = 10;
 
 /// One section header and what it points to. `offset`, `size` and `entry_size`
 /// are worked out unless given.
@@ -402,18 +406,18 @@ impl Fit {
         (answer, image, journal)
     }
 
-    /// Number and place. A refusal must change nothing.
-    pub fn answer(&self) -> (u32, u32) {
+    /// The answer's numbers. A refusal must change nothing.
+    pub fn answer(&self) -> Numbers {
         let (answer, image, journal) = self.run();
         if answer != Answer::DONE {
             assert_eq!(image, self.image, "image after {answer:?}");
             assert_eq!(journal, self.journal, "ledger after {answer:?}");
         }
-        (answer.number, answer.place)
+        numbers(answer)
     }
 
-    /// Number and place, which are the same in both classes.
-    pub fn answer_of_both(&self) -> (u32, u32) {
+    /// The answer's numbers, which are the same in both classes.
+    pub fn answer_of_both(&self) -> Numbers {
         let [first, second] = Class::ALL.map(|class| self.clone().of(class).answer());
         assert_eq!(first, second, "class 1 and class 2");
         first

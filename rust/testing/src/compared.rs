@@ -2,7 +2,7 @@
 //! `stdin` and `stdout` of its crate, which the gate holds it to. Here they are
 //! held against the cases of a test.
 
-use std::fmt::Display;
+use std::fmt::{Debug, Display};
 use std::fs;
 use std::path::{Path, PathBuf};
 
@@ -50,13 +50,12 @@ impl Compared {
     }
 }
 
-/// Number and place.
-pub type Answer = (u32, u32);
-
 /// Panics unless every answer that is stated is the one given. Each comes after
 /// the name of its case: what is given, and what is stated, if anything is.
-pub fn assert_stated<N: Display>(answers: impl IntoIterator<Item = (N, Answer, Option<Answer>)>) {
-    let differs = |(name, given, stated): (N, Answer, Option<Answer>)| {
+pub fn assert_stated<N: Display, A: PartialEq + Debug>(
+    answers: impl IntoIterator<Item = (N, A, Option<A>)>,
+) {
+    let differs = |(name, given, stated): (N, A, Option<A>)| {
         let stated = stated.filter(|stated| *stated != given)?;
         Some(format!("{name}: {given:?}, stated {stated:?}"))
     };

@@ -5,20 +5,21 @@ use std::fs;
 use std::path::Path;
 
 use crate::build::{flags_at, Class, RVC};
-use crate::vectors::{bytes, bytes_after, lines, number};
+use crate::vectors::{answer, bytes, bytes_after, lines};
+use crate::{numbers, Numbers, DONE};
 
 /// What the image holds before a fit of a real object.
 pub const FILL: u8 = 0xA5;
 
-/// What a fit is asked with, besides the ledger, its number and place, and the
-/// image after it, where that is given.
+/// What a fit is asked with, besides the ledger, its answer, and the image after
+/// it, where that is given.
 #[derive(Clone, Debug)]
 pub struct Given {
     pub name: String,
     pub object: Vec<u8>,
     pub order: Vec<u8>,
     pub image_length: usize,
-    pub answer: (u32, u32),
+    pub answer: Numbers,
     pub image: Option<Vec<u8>>,
 }
 
@@ -31,10 +32,15 @@ pub fn vectors() -> Vec<Given> {
             object: bytes(&words[1]),
             order: bytes(&words[2]),
             image_length: bytes(&words[3]).len(),
-            answer: (number(&words[5]), number(&words[6])),
-            image: Some(bytes_after(&words[7], &bytes(&words[3]))),
+            answer: stated(&words[5..8]),
+            image: Some(bytes_after(&words[8], &bytes(&words[3]))),
         })
         .collect()
+}
+
+/// The answer that three words of a line state.
+fn stated(words: &[String]) -> Numbers {
+    numbers(answer([&words[0], &words[1], &words[2]]))
 }
 
 /// The fits of the histories.
@@ -49,7 +55,7 @@ pub fn histories() -> Vec<Given> {
                 object: bytes(&words[1]),
                 order: bytes(&words[2]),
                 image_length,
-                answer: (number(&words[3]), number(&words[4])),
+                answer: stated(&words[3..6]),
                 image: None,
             }),
             _ => {}
@@ -81,15 +87,15 @@ fn read_object(folder: &Path, name: &str) -> Vec<Given> {
         object: file(&format!("{name}.o")),
         order: file("order"),
         image_length: file("image").len(),
-        answer: (0, 0),
+        answer: DONE,
         image: Some(file("image")),
     };
     let Ok(answer) = fs::read_to_string(folder.join("answer")) else {
         return vec![done];
     };
-    let mut words = answer.split_whitespace().map(number);
+    let words: Vec<String> = answer.split_whitespace().map(str::to_string).collect();
     let refused = Given {
-        answer: words.next().zip(words.next()).expect("number and place"),
+        answer: stated(&words),
         image: Some(vec![FILL; done.image_length]),
         ..done.clone()
     };

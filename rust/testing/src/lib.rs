@@ -5,6 +5,7 @@
 pub mod build;
 pub mod commands;
 pub mod compared;
+pub mod counts;
 pub mod damage;
 pub mod given;
 pub mod jumps;
@@ -16,6 +17,12 @@ pub mod vectors;
 
 use reference::Answer;
 
-pub fn answer(number: u32, place: u32) -> Answer {
-    Answer { number, place }
+/// Number, place and reason of an answer, as the program writes them.
+pub type Numbers = (u32, u32, u32);
+
+/// Document 01: "done".
+pub const DONE: Numbers = numbers(Answer::DONE);
+
+pub const fn numbers(answer: Answer) -> Numbers {
+    (answer.number, answer.place, answer.reason)
 }

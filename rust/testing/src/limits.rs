@@ -1,10 +1,13 @@
-//! Every limit of document 01 and of Tickets 1, 3, 5 and 7, in both classes: at
+//! Every limit of document 01 and of Tickets 1, 3, 5, 7 and 9, in both classes: at
 //! its value, and one past it.
 
 mod jumps;
+mod largest;
+mod symbols;
 
 use crate::build::*;
 use crate::damage::Input;
+use crate::{Numbers, DONE};
 
 const WORD: u32 = 1;
 const WORD_64: u32 = 2;
@@ -16,14 +19,12 @@ const LO12_I: u32 = 27;
 const RVC_JUMP: u32 = 45;
 const RELAX: u32 = 51;
 
-const DONE: (u32, u32) = (0, 0);
-
-/// A fit, and its number and place.
+/// A fit, and its answer.
 #[derive(Clone, Debug)]
 pub struct Limit {
     pub name: String,
     pub input: Input,
-    pub answer: (u32, u32),
+    pub answer: Numbers,
 }
 
 /// The limits of one class, in the making.
@@ -44,6 +45,7 @@ pub fn limits() -> Vec<Limit> {
         };
         limits.lengths();
         limits.counts();
+        limits.symbols();
         limits.relocations();
         limits.all_at_once();
         limits.longest_section();
@@ -68,11 +70,11 @@ fn code(symbols: &[Symbol], list: &[Relocation]) -> Fit {
 }
 
 impl Limits {
-    fn add(&mut self, name: impl Into<String>, fit: Fit, answer: (u32, u32)) {
+    fn add(&mut self, name: impl Into<String>, fit: Fit, answer: Numbers) {
         self.add_input(name, Input::from(&fit.of(self.class)), answer);
     }
 
-    fn add_input(&mut self, name: impl Into<String>, input: Input, answer: (u32, u32)) {
+    fn add_input(&mut self, name: impl Into<String>, input: Input, answer: Numbers) {
         let name = format!("{}, {:?}", name.into(), self.class);
         self.found.push(Limit {
             name,
@@ -87,7 +89,7 @@ impl Limits {
         name: impl Into<String>,
         fit: &Fit,
         change: impl Fn(&mut Input),
-        answer: (u32, u32),
+        answer: Numbers,
     ) {
         let mut input = Input::from(&fit.clone().of(self.class));
         change(&mut input);
@@ -98,39 +100,43 @@ impl Limits {
     fn lengths(&mut self) {
         let fit = code(&[], &[]);
         // The program takes 65,536.
-        for (length, answer) in [(65_537, DONE), (1_048_576, DONE), (1_048_577, (4, 0))] {
+        for (length, answer) in [(65_537, DONE), (1_048_576, DONE), (1_048_577, (4, 0, 0))] {
             let name = format!("an object of {length} bytes");
             self.changed(name, &fit, |i| i.object.resize(length, 0xEE), answer);
         }
-        for (length, answer) in [(65_537, DONE), (1_048_576, DONE), (1_048_577, (3, 0))] {
+        for (length, answer) in [(65_537, DONE), (1_048_576, DONE), (1_048_577, (3, 0, 0))] {
             let name = format!("an image of {length} bytes");
             self.changed(name, &fit, |i| i.image.resize(length, 0x5A), answer);
         }
         for byte in [0, 3, 255] {
             let name = format!("class {byte}");
-            self.changed(name, &fit, |i| i.object[4] = byte, (4, 0));
+            self.changed(name, &fit, |i| i.object[4] = byte, (4, 0, 0));
         }
-        self.changed("the other class", &fit, |i| i.object[4] ^= 3, (4, 0));
+        self.changed("the other class", &fit, |i| i.object[4] ^= 3, (4, 0, 0));
         let header = header_size(self.class);
         for length in 50..=66 {
-            let answer = if length < header { (4, 0) } else { (5, 0) };
+            let answer = if length < header {
+                (4, 0, 0)
+            } else {
+                (5, 0, 0)
+            };
             let name = format!("{length} bytes of an object");
             self.changed(name, &fit, |i| i.object.truncate(length), answer);
         }
         let malformed = |input: &mut Input| {
             input.order.pop();
         };
-        self.changed("a malformed order", &fit, malformed, (2, 0));
+        self.changed("a malformed order", &fit, malformed, (2, 0, 0));
         let both = |input: &mut Input| {
             input.order.pop();
             input.object[5] = 2;
         };
-        self.changed("a bad header besides", &fit, both, (4, 0));
+        self.changed("a bad header besides", &fit, both, (4, 0, 0));
     }
 
     /// Sections, placements, symbols and external values.
     fn counts(&mut self) {
-        for (count, answer) in [(128, DONE), (129, (5, 0))] {
+        for (count, answer) in [(128, DONE), (129, (5, 0, 0))] {
             let mut fit = code(&[], &[]);
             fit.sections.resize(count, Section::default());
             self.add(format!("{count} sections"), fit, answer);
@@ -140,29 +146,29 @@ impl Limits {
         let sections: Vec<(Section, u64)> = (0..127).map(section).collect();
         let fit = Fit::placed(0x1000, 381, &sections);
         self.add("127 placements", fit.clone(), DONE);
-        for (count, answer) in [(128, (6, 128)), (129, (2, 0))] {
+        for (count, answer) in [(128, (6, 128, 0)), (129, (2, 0, 0))] {
             let mut fit = fit.clone();
             fit.placements = (1..=count).map(|row| (row, 0x1000)).collect();
             self.add(format!("{count} placements"), fit, answer);
         }
-        for (count, answer) in [(8_191, DONE), (8_192, (5, 2))] {
+        for (count, answer) in [(8_191, DONE), (8_192, (5, 2, 0))] {
             let undefined = vec![Symbol::new(GLOBAL, 0, 0); count];
             let fit = code(&undefined, &[Relocation::new(0, WORD, 0, 0)]);
             self.add(format!("symbol 0 and {count} more"), fit, answer);
         }
         for symbol in [1, 2, 8_191, 8_192, 0xFF_FFFF] {
             let fit = code(&[], &[Relocation::new(0, WORD, symbol, 0)]);
-            self.add(format!("symbol {symbol}"), fit, (10, 0));
+            self.add(format!("symbol {symbol}"), fit, (10, 0, 1));
         }
         let mut fit = code(&vec![Symbol::new(GLOBAL, 0, 0); 8_191], &[]);
-        for (count, answer) in [(8_191, DONE), (8_192, (7, 8_192)), (8_193, (2, 0))] {
+        for (count, answer) in [(8_191, DONE), (8_192, (7, 8_192, 0)), (8_193, (2, 0, 0))] {
             let value = |symbol: u32| (symbol, self.top - u64::from(symbol));
             fit.external_values = (1..=count).map(value).collect();
             self.add(format!("{count} external values"), fit.clone(), answer);
         }
         // Symbol 0 can have none.
         fit.external_values = (0..8_192).map(|symbol| (symbol, 0)).collect();
-        self.add("8,192 external values from symbol 0 on", fit, (7, 0));
+        self.add("8,192 external values from symbol 0 on", fit, (7, 0, 0));
     }
 
     /// Two loaded sections of nine and eight bytes with so many markers; the last
@@ -188,133 +194,36 @@ impl Limits {
     fn relocations(&mut self) {
         for (first, second, answer) in [
             (16_384, 16_384, DONE),
-            (16_384, 16_385, (5, 5)),
+            (16_384, 16_385, (5, 5, 0)),
             (16_383, 16_385, DONE),
             (20_800, 11_968, DONE),
-            (20_800, 11_969, (5, 5)),
+            (20_800, 11_969, (5, 5, 0)),
         ] {
             let fit = self.markers(first, second, 8);
             self.add(format!("{first} relocations and {second}"), fit, answer);
         }
         // Inside the first section and past the second.
         let fit = self.markers(16_383, 16_385, 9);
-        self.add("the last of 32,768 relocations", fit, (9, 32_767));
-        for (count, answer) in [(32_768, DONE), (32_769, (5, 3))] {
+        self.add("the last of 32,768 relocations", fit, (9, 32_767, 0));
+        for (count, answer) in [(32_768, DONE), (32_769, (5, 3, 0))] {
             let fit = code(&[], &vec![Relocation::new(8, RELAX, 0, 0); count]);
             self.add(format!("{count} relocations"), fit, answer);
         }
-    }
-
-    /// 128 sections, 8,192 symbols and 32,768 relocations in 1,048,576 bytes, laid
-    /// into as long an image. The last relocations are pairs, the last symbols
-    /// their labels, and all lead into the last section.
-    fn largest(&self) -> Fit {
-        const PAIRS: u64 = 512;
-        let code = [0x17, 0x05, 0, 0, 0x13, 0x05, 0x05, 0].repeat(PAIRS as usize);
-        let mut symbols = vec![Symbol::new(GLOBAL, 127, 0x765); 8_191 - PAIRS as usize];
-        let mut list = vec![Relocation::new(0, RELAX, 0, 0); 32_768 - 2 * PAIRS as usize];
-        for pair in 0..PAIRS {
-            let hi20 = Relocation::new(8 * pair, PCREL_HI20, 1, pair as i64);
-            symbols.push(Symbol::new(0, 1, hi20.offset));
-            let label = symbols.len() as u32;
-            list.push(hi20);
-            list.push(Relocation::new(8 * pair + 4, PCREL_LO12_I, label, 0));
-        }
-        let mut fit = Fit::code(0x1000, &code, &symbols, &list);
-        for section in 4..128 {
-            fit.sections.push(Section::loaded(1, &[section as u8]));
-            fit.placements.push((section, 0x2000 + u64::from(section)));
-        }
-        fit.base = 0x1000;
-        fit.image.resize(1_048_576, 0x5A);
-        // From 0x1000 to the last section's byte.
-        fit.journal = journal(0x1000 + 128);
-        fit
-    }
-
-    fn all_at_once(&mut self) {
-        let fit = self.largest();
-        let long = |input: &mut Input| input.object.resize(1_048_576, 0xEE);
-        self.changed("the largest", &fit, long, DONE);
-        let mut short = fit.clone();
-        short.journal.pop();
-        self.changed("the largest, and no room", &short, long, (15, 0));
-        let mut wrong = fit.clone();
-        wrong.sections[3].relocations_mut()[32_767].addend = 1;
-        self.changed("the largest, the last record", &wrong, long, (9, 32_767));
-        let mut wrong = fit.clone();
-        wrong.sections[3].relocations_mut()[32_766].kind = HI20;
-        wrong.sections[1].bytes[4_088] = 0x37;
-        self.changed("the largest, the last pair", &wrong, long, (12, 32_767));
-        let mut wrong = fit;
-        wrong.sections[2].symbols_mut()[8_191].section = 128;
-        self.changed("the largest, the last symbol", &wrong, long, (10, 32_767));
-    }
-
-    /// As many pairs as there may be, with 1,024 labels; and one low half before
-    /// high halves whose offsets fall, as many as there may be.
-    fn many_pairs(&mut self) {
-        const PAIRS: u64 = 16_384;
-        let code = [0x17, 0x05, 0, 0, 0x13, 0x05, 0x05, 0].repeat(PAIRS as usize);
-        let labels: Vec<Symbol> = (0..1_024).map(|at| Symbol::new(0, 1, 128 * at)).collect();
-        let pair = |at: u64| {
-            let label = 1 + (at % 1_024) as u32;
-            [
-                Relocation::new(8 * at, PCREL_HI20, 1, at as i64),
-                Relocation::new(8 * at + 4, PCREL_LO12_I, label, 0),
-            ]
-        };
-        let list: Vec<Relocation> = (0..PAIRS).flat_map(pair).collect();
-        let fit = Fit::code(0x1000, &code, &labels, &list);
-        self.add("16,384 pairs", fit, DONE);
-
-        let mut list = vec![Relocation::new(4, PCREL_LO12_I, 1, 0)];
-        let falling = (0..32_767).rev();
-        list.extend(falling.map(|at| Relocation::new(4 * at, PCREL_HI20, 1, 0)));
-        let mut fit = Fit::code(0x1000, &code[..8], &labels[..1], &list);
-        self.add("falling high halves", fit.clone(), (9, 1));
-        // The first and the last one are at one offset.
-        fit.sections[3].relocations_mut()[1].offset = 0;
-        self.add("falling high halves, two at the label", fit, (12, 0));
-    }
-
-    /// The longest section that an object has room for, at the end of the address
-    /// space and of a whole window, with a relocation at each end.
-    fn longest_section(&mut self) {
-        let others = header_size(self.class) + 4 * section_size(self.class);
-        let entries = 2 * symbol_size(self.class) + 2 * relocation_size(self.class);
-        let size = 1_048_576 - others - entries as usize;
-        let address = self.top - size as u64 + 1;
-        let list = [
-            Relocation::new(0, WORD, 1, 0),
-            Relocation::new(size as u64 - 4, WORD, 1, 1),
-        ];
-        let symbols = [Symbol::absolute(0x1234_5678)];
-        let mut fit = Fit::code(address, &vec![0xC7; size], &symbols, &list);
-        fit.base = self.top - 1_048_575;
-        fit.image = vec![0x5A; 1_048_576];
-        self.add("the longest section", fit.clone(), DONE);
-        let mut wrong = fit.clone();
-        wrong.sections[3].relocations_mut()[1].offset += 1;
-        self.add("a word past the longest section", wrong, (9, 1));
-        fit.sections[1].bytes.push(0);
-        fit.placements[0].1 -= 1;
-        self.add("a longer section", fit, (4, 0));
     }
 
     fn windows(&mut self) {
         let top = self.top;
         for (base, answer) in [
             (top - 1_048_575, DONE),
-            (top - 1_048_574, (3, 0)),
-            (top, (3, 0)),
+            (top - 1_048_574, (3, 0, 0)),
+            (top, (3, 0, 0)),
         ] {
             let sections = [(Section::loaded(1, &[7; 16]), top - 15)];
             let mut fit = Fit::placed(base, 1_048_576, &sections);
             fit.journal = journal(16);
             self.add(format!("a window from {base:#x} on"), fit, answer);
         }
-        for (length, answer) in [(0, (8, 1)), (1, DONE), (2, (3, 0))] {
+        for (length, answer) in [(0, (8, 1, 0)), (1, DONE), (2, (3, 0, 0))] {
             let sections = [(Section::loaded(1, &[7]), top)];
             let fit = Fit::placed(top, length, &sections);
             self.add(format!("the last {length} addresses"), fit, answer);
@@ -325,10 +234,10 @@ impl Limits {
         let top = self.top;
         for (size, address, answer) in [
             (16, top - 15, DONE),
-            (17, top - 15, (8, 1)),
+            (17, top - 15, (8, 1, 0)),
             (top, 1, DONE),
-            (top, 2, (8, 1)),
-            (top, top, (8, 1)),
+            (top, 2, (8, 1, 0)),
+            (top, top, (8, 1, 0)),
             (0, top, DONE),
         ] {
             let sections = [(Section::nobits(1, size), address)];
@@ -339,11 +248,11 @@ impl Limits {
         for (alignment, address, answer) in [
             (highest, 0, DONE),
             (highest, highest, DONE),
-            (highest, highest / 2, (8, 1)),
-            (highest, top, (8, 1)),
-            (highest + 1, 0, (5, 1)),
-            (highest + highest / 2, 0, (5, 1)),
-            (top, 0, (5, 1)),
+            (highest, highest / 2, (8, 1, 0)),
+            (highest, top, (8, 1, 0)),
+            (highest + 1, 0, (5, 1, 0)),
+            (highest + highest / 2, 0, (5, 1, 0)),
+            (top, 0, (5, 1, 0)),
         ] {
             let sections = [(Section::nobits(alignment, 1), address)];
             let fit = Fit::placed(0x1000, 16, &sections);
@@ -353,19 +262,19 @@ impl Limits {
     }
 
     fn ledger_room(&mut self) {
-        for (room, answer) in [(8, DONE), (7, (15, 0)), (0, (15, 0))] {
+        for (room, answer) in [(8, DONE), (7, (15, 0, 0)), (0, (15, 0, 0))] {
             let mut fit = code(&[], &[]);
             fit.journal = journal(room);
             self.add(format!("room for {room} old bytes"), fit, answer);
         }
         let short = |input: &mut Input| input.journal.truncate(135);
-        self.changed("135 bytes of a ledger", &code(&[], &[]), short, (1, 0));
+        self.changed("135 bytes of a ledger", &code(&[], &[]), short, (1, 0, 0));
     }
 
     fn of_class_1(&mut self) {
         let fit = code(&[], &[Relocation::new(0, WORD_64, 0, 0)]);
-        self.add("type 2", fit, (9, 0));
-        self.one("addiw", LO12_I, &[0x1B, 0x05, 0x05, 0], 0x1000, (11, 0));
+        self.add("type 2", fit, (9, 0, 0));
+        self.one("addiw", LO12_I, &[0x1B, 0x05, 0x05, 0], 0x1000, (11, 0, 0));
         self.one("c.jal", RVC_JUMP, &[0x01, 0x20], 0x1000, DONE);
         // Halves lead everywhere.
         for target in [0, 0x7FFF_F800, 0x8000_0000, self.top] {
@@ -376,7 +285,7 @@ impl Limits {
     }
 
     /// One relocation at 0x1000 towards a target.
-    fn one(&mut self, name: &str, kind: u32, bytes: &[u8], target: u64, answer: (u32, u32)) {
+    fn one(&mut self, name: &str, kind: u32, bytes: &[u8], target: u64, answer: Numbers) {
         let list = [Relocation::new(0, kind, 1, 0)];
         let fit = Fit::code(0x1000, bytes, &[Symbol::absolute(target)], &list);
         self.add(format!("{name} to {target:#x}"), fit, answer);
@@ -390,24 +299,24 @@ impl Limits {
             self.one("a word of 64 bits", WORD_64, &[0; 8], t, DONE);
         }
         self.one("addiw", LO12_I, &[0x1B, 0x05, 0x05, 0], 0x1000, DONE);
-        self.one("slliw", LO12_I, &[0x1B, 0x15, 0x05, 0], 0x1000, (11, 0));
+        self.one("slliw", LO12_I, &[0x1B, 0x15, 0x05, 0], 0x1000, (11, 0, 0));
         self.one("c.j", RVC_JUMP, &[0x01, 0xA0], 0x1000, DONE);
-        self.one("c.addiw", RVC_JUMP, &[0x01, 0x20], 0x1000, (11, 0));
+        self.one("c.addiw", RVC_JUMP, &[0x01, 0x20], 0x1000, (11, 0, 0));
         for kind in [256, 257, 0x133, 1 << 16, 1 << 31, u32::MAX] {
             let list = [
                 Relocation::new(0, RELAX, 0, 0),
                 Relocation::new(0, kind, 0, 0),
             ];
-            self.add(format!("type {kind:#x}"), code(&[], &list), (9, 1));
+            self.add(format!("type {kind:#x}"), code(&[], &list), (9, 1, 0));
         }
         for symbol in [1 << 24, (1 << 24) + 1, u32::MAX] {
             let fit = code(&[], &[Relocation::new(0, WORD, symbol, 0)]);
-            self.add(format!("symbol {symbol:#x}"), fit, (10, 0));
+            self.add(format!("symbol {symbol:#x}"), fit, (10, 0, 1));
         }
         for offset in [1 << 32, (1 << 32) + 4, 1 << 63, u64::MAX - 3, u64::MAX] {
             for kind in [WORD, WORD_64, RELAX, JAL] {
                 let fit = code(&[], &[Relocation::new(offset, kind, 0, 0)]);
-                self.add(format!("type {kind} at {offset:#x}"), fit, (9, 0));
+                self.add(format!("type {kind} at {offset:#x}"), fit, (9, 0, 0));
             }
         }
     }
@@ -425,14 +334,14 @@ impl Limits {
             let mut fit = code(&[], &[]);
             fit.sections[1].offset = Some(offset);
             fit.sections[1].size = Some(size);
-            self.add(format!("{size:#x} bytes from {offset:#x}"), fit, (5, 1));
+            self.add(format!("{size:#x} bytes from {offset:#x}"), fit, (5, 1, 0));
         }
         // Four sections, which would end at 0 or in the file.
         for table in [0_u64.wrapping_sub(256), 0_u64.wrapping_sub(100), 1 << 32] {
             let name = format!("section headers from {table:#x} on");
             let put =
                 |input: &mut Input| input.object[40..48].copy_from_slice(&table.to_le_bytes());
-            self.changed(name, &code(&[], &[]), put, (5, 0));
+            self.changed(name, &code(&[], &[]), put, (5, 0, 0));
         }
     }
 }

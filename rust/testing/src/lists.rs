@@ -3,7 +3,8 @@
 use crate::damage::{put, wound_bytes};
 use crate::random::Random;
 use crate::sample::{some_call, Call};
-use crate::vectors::{bytes, lines, number, shared_lines, Line};
+use crate::vectors::{answer, bytes, lines, shared_lines, Line};
+use reference::Answer;
 
 /// One call of a list.
 #[derive(Clone, Debug)]
@@ -138,8 +139,8 @@ pub struct Given {
     pub image: Vec<u8>,
     pub journal: Vec<u8>,
     pub calls: Vec<Listed>,
-    /// Number and place of each call.
-    pub answers: Vec<(u32, u32)>,
+    /// The answer of each call.
+    pub answers: Vec<Answer>,
     pub image_after: Vec<u8>,
     pub journal_after: Vec<u8>,
 }
@@ -148,7 +149,7 @@ pub struct Given {
 /// repository, where they are there.
 pub fn histories() -> Vec<Given> {
     let mut given = read_histories("history", lines("histories.txt"));
-    if let Some(shared) = shared_lines("histories-after-1-3-5-7.txt") {
+    if let Some(shared) = shared_lines("histories-after-1-3-5-7-9.txt") {
         given.extend(read_histories("shared history", shared));
     }
     given
@@ -171,20 +172,20 @@ fn read_histories(name: &str, lines: Vec<Line>) -> Vec<Given> {
             continue;
         }
         let history = given.last_mut().expect("a start");
-        let (call, answer) = match words[..] {
+        let (call, stated) = match words[..] {
             ["end", image, journal] => {
                 (history.image_after, history.journal_after) = (bytes(image), bytes(journal));
                 continue;
             }
-            ["fit", object, order, number, place] => {
+            ["fit", object, order, number, place, reason] => {
                 let [object, order] = [object, order].map(bytes);
-                (Listed::Fit(Call { object, order }), (number, place))
+                (Listed::Fit(Call { object, order }), [number, place, reason])
             }
-            ["take-back", number, place] => (Listed::TakeBack, (number, place)),
+            ["take-back", number, place, reason] => (Listed::TakeBack, [number, place, reason]),
             _ => panic!("a line that is no call"),
         };
         history.calls.push(call);
-        history.answers.push((number(answer.0), number(answer.1)));
+        history.answers.push(answer(stated));
     }
     given
 }

@@ -3,7 +3,8 @@
 mod items;
 
 use crate::build::{
-    flags_at, journal, object_with, order, Relocation, Section, Symbol, ABSOLUTE, GLOBAL, RVC, WEAK,
+    flags_at, journal, object_with, order, Relocation, Section, Symbol, ABSOLUTE, COMMON, GLOBAL,
+    IFUNC, RVC, TLS, WEAK,
 };
 use crate::random::Random;
 use reference::Class;
@@ -53,8 +54,10 @@ struct Sampler<'r> {
     /// or lead half a step aside where bit 0 of e_flags is clear.
     is_faulty: bool,
     symbols: Vec<Symbol>,
-    /// S of each symbol; `None` where it does not resolve.
+    /// S of each symbol; `None` where it does not resolve, and for a label.
     values: Vec<Option<u64>>,
+    /// The symbols that do not resolve.
+    unresolved: Vec<u32>,
     external_values: Vec<(u32, u64)>,
 }
 
@@ -76,6 +79,7 @@ fn sample(random: &mut Random, image_length: usize, is_faulty: bool) -> Call {
         is_faulty,
         symbols: vec![Symbol::default()],
         values: vec![Some(0)],
+        unresolved: Vec::new(),
         external_values: Vec::new(),
     };
     sampler.add_symbols(&rows, &shapes);
@@ -252,8 +256,31 @@ impl Sampler<'_> {
             self.external_values.push((symbol, value));
         }
         self.add(Symbol::new(WEAK, 0, 0), Some(0));
-        self.add(Symbol::new(GLOBAL, 0, 0), None);
-        self.add(Symbol::new(GLOBAL + 6, ABSOLUTE, 0), None);
+        self.add_unresolved(rows);
+    }
+
+    /// A symbol for each reason that it can have by itself, now and then with the
+    /// type that is a later reason.
+    fn add_unresolved(&mut self, rows: &[Row]) {
+        let not_allocated = [
+            index_of(rows, Row::Symbols).unwrap_or(0) as u16,
+            rows.len() as u16 + 1,
+            0xFEFF,
+        ];
+        let sections = [
+            self.random.pick(&not_allocated),
+            COMMON,
+            self.random.pick(&[0xFF00, 0xFFF0, 0xFFF3, 0xFFFF]),
+            0,
+        ];
+        for section in sections {
+            let kind = self.random.pick(&[0, 0, 0, TLS]);
+            let symbol = self.add(Symbol::new(GLOBAL + kind, section, 0), None);
+            self.unresolved.push(symbol);
+        }
+        let kind = self.random.pick(&[TLS, IFUNC]);
+        let symbol = self.add(Symbol::new(GLOBAL + kind, ABSOLUTE, 0), None);
+        self.unresolved.push(symbol);
     }
 
     fn finish(mut self, base: u64, rows: &[Row], shapes: &[Shape]) -> Call {

@@ -4,6 +4,8 @@ use std::fs;
 use std::io;
 use std::path::Path;
 
+use reference::Answer;
+
 /// A line's number and its words.
 pub type Line = (usize, Vec<String>);
 
@@ -52,6 +54,16 @@ pub fn bytes_after(word: &str, before: &[u8]) -> Vec<u8> {
         before.to_vec()
     } else {
         bytes(word)
+    }
+}
+
+/// "`.. NUMBER PLACE REASON ..`"
+pub fn answer(words: [&str; 3]) -> Answer {
+    let [number, place, reason] = words.map(number);
+    Answer {
+        number,
+        place,
+        reason,
     }
 }
 

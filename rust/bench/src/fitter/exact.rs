@@ -7,13 +7,32 @@ use super::bytes::{double_word_at, half_at};
 use super::class::Class;
 use super::forms::{is_call, missing_forms};
 use super::relocations::{wrong_distance, Before, Entry, List};
-use super::symbols::Symbols;
+use super::symbols::{Reason, Symbols};
 use super::types::{Rules, Way};
 
 const PCREL_HI20: u32 = 23;
 const HIGHEST_PADDING: i64 = 4_094;
 
-/// The number of the first broken rule, or 0.
+/// A broken check of a relocation.
+#[derive(Clone, Copy)]
+pub struct Broken {
+    pub number: u8,
+    /// Why a symbol does not resolve; 0 for every number but 10.
+    pub reason: u8,
+}
+
+fn broken(number: u8) -> Result<(), Broken> {
+    Err(Broken { number, reason: 0 })
+}
+
+fn unresolved(reason: Reason) -> Broken {
+    Broken {
+        number: 10,
+        reason: reason as u8,
+    }
+}
+
+/// The error is the first broken check.
 #[cold]
 #[inline(never)]
 pub fn first_broken<C: Class, const N: usize>(
@@ -21,69 +40,67 @@ pub fn first_broken<C: Class, const N: usize>(
     symbols: &mut Symbols<C, N>,
     entry: Entry,
     before: &Before,
-) -> u32 {
+) -> Result<(), Broken> {
     let rules = list.rules(entry);
     let offset = i64::from(entry.offset);
     match rules.way {
-        Way::Refused => return 9,
-        Way::Align => return broken_padding(list, &entry, before),
-        Way::Marker if before.marker_room(offset, list.size) < 0 => return 9,
-        Way::Marker => return 0,
-        Way::Pair if entry.addend != 0 => return 9,
-        _ if before.room(offset, rules, list.size) < 0 => return 9,
-        Way::Pair => return broken_pair(list, symbols, &entry, rules),
+        Way::Refused => return broken(9),
+        Way::Align => return check_padding(list, &entry, before),
+        Way::Marker if before.marker_room(offset, list.size) < 0 => return broken(9),
+        Way::Marker => return Ok(()),
+        Way::Pair if entry.addend != 0 => return broken(9),
+        _ if before.room(offset, rules, list.size) < 0 => return broken(9),
+        Way::Pair => return check_pair(list, symbols, &entry, rules),
         Way::Plain | Way::Call => {}
     }
-    let Some(value) = symbols.value(entry.symbol) else {
-        return 10;
-    };
+    let value = symbols.value(entry.symbol).map_err(unresolved)?;
     if !form_holds(list, &entry, rules) {
-        return 11;
+        return broken(11);
     }
     match wrong_distance::<C>(value, entry, list.place(entry), rules) {
-        0 => 0,
-        _ => 13,
+        0 => Ok(()),
+        _ => broken(13),
     }
 }
 
 /// Checks 10, 11 and 12 of a PCREL_LO12.
-fn broken_pair<C: Class, const N: usize>(
+fn check_pair<C: Class, const N: usize>(
     list: &List<C>,
-    symbols: &Symbols<C, N>,
+    symbols: &mut Symbols<C, N>,
     entry: &Entry,
     rules: &Rules,
-) -> u32 {
+) -> Result<(), Broken> {
     let Some(label) = symbols.label(entry.symbol, list.target) else {
-        return 10;
+        return Err(unresolved(symbols.no_label(entry.symbol)));
     };
     if !form_holds(list, entry, rules) {
-        return 11;
+        return broken(11);
     }
     let is_pair = |other: &&C::Relocation| {
         let other = C::relocation(other);
         other.kind == PCREL_HI20 && other.offset == label
     };
     match list.relocations.iter().filter(is_pair).count() {
-        1 => 0,
-        _ => 12,
+        1 => Ok(()),
+        _ => broken(12),
     }
 }
 
 /// Checks 9 and 14 of ALIGN, which has no other.
-fn broken_padding<C: Class>(list: &List<C>, entry: &Entry, before: &Before) -> u32 {
+fn check_padding<C: Class>(list: &List<C>, entry: &Entry, before: &Before) -> Result<(), Broken> {
     let offset = i64::from(entry.offset);
     if offset < before.offset
         || !(0..=HIGHEST_PADDING).contains(&entry.addend)
         || entry.addend & 1 != 0
         || offset + entry.addend > list.size
     {
-        return 9;
+        return broken(9);
     }
     let boundary = (entry.addend as u64 + 2).next_power_of_two();
     // A section may end at the end of memory.
     match list.place(*entry).wrapping_add(entry.addend as u64) & (boundary - 1) {
-        0 => 0,
-        _ => 14,
+        0 => Ok(()),
+        _ => broken(14),
     }
 }
 

@@ -2,14 +2,14 @@
 
 use super::bytes::{double_word_at, half_at};
 use super::class::{Class, Word};
-use super::exact;
+use super::exact::{self, Broken};
 use super::forms::{is_call, missing_forms};
 use super::object::{Object, MAX_RELOCATIONS};
 use super::pairs::{HighHalves, Room};
 use super::placing::Addresses;
 use super::symbols::Symbols;
 use super::types::{Rules, Table, Way};
-use super::{refusal, Answer};
+use super::Answer;
 
 /// One RELA section, and what it patches.
 pub struct List<'a, C: Class> {
@@ -162,17 +162,21 @@ pub fn check<C: Class, const N: usize>(
             size: section.size() as i64,
             address: addresses[target],
         };
-        check_list(&list, symbols).map_err(|(number, place)| refusal(number, first + place))?;
+        check_list(&list, symbols).map_err(|(broken, place)| Answer {
+            number: u32::from(broken.number),
+            place: first + place,
+            reason: u32::from(broken.reason),
+        })?;
         first += relocations.len() as u32;
     }
     Ok(())
 }
 
-/// The error is the number, and the place in this list.
+/// The error is the broken check, and the place in this list.
 fn check_list<C: Class, const N: usize>(
     list: &List<C>,
     symbols: &mut Symbols<C, N>,
-) -> Result<(), (u32, u32)> {
+) -> Result<(), (Broken, u32)> {
     match check_from(list, symbols, 0, Before::START, None)? {
         Reached::End => Ok(()),
         Reached::Pair(index, before) if list.relocations.len() <= FEW => {
@@ -195,7 +199,7 @@ fn check_with_pairs<C: Class, const N: usize, const MOST: usize>(
     symbols: &mut Symbols<C, N>,
     start: usize,
     before: Before,
-) -> Result<(), (u32, u32)> {
+) -> Result<(), (Broken, u32)> {
     let mut room = Room::<C, MOST>::new();
     let high_halves = room.find(list.relocations);
     check_from(list, symbols, start, before, Some(&high_halves)).map(|_| ())
@@ -207,7 +211,7 @@ fn check_from<C: Class, const N: usize>(
     start: usize,
     mut before: Before,
     high_halves: Option<&HighHalves<C>>,
-) -> Result<Reached, (u32, u32)> {
+) -> Result<Reached, (Broken, u32)> {
     let mut rest = &list.relocations[start..];
     loop {
         rest = match high_halves {
@@ -223,10 +227,8 @@ fn check_from<C: Class, const N: usize>(
         if rules.way == Way::Pair && high_halves.is_none() {
             return Ok(Reached::Pair(index, before));
         }
-        let number = exact::first_broken(list, symbols, entry, &before);
-        if number != 0 {
-            return Err((number, index as u32));
-        }
+        exact::first_broken(list, symbols, entry, &before)
+            .map_err(|broken| (broken, index as u32))?;
         debug_assert!(rules.way != Way::Pair, "a pair that was not found");
         before.go_past_any(entry.offset, rules);
         rest = behind;

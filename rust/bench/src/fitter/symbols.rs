@@ -1,5 +1,5 @@
-//! S, the value of a symbol in a relocation, and external values against
-//! symbols (check 7).
+//! S, the value of a symbol in a relocation, or why it has none, and external
+//! values against symbols (check 7).
 
 use super::class::{Class, Word};
 use super::object::{is_in, Object, Set};
@@ -8,14 +8,32 @@ use super::placing::Addresses;
 
 const UNDEFINED: u16 = 0;
 const ABSOLUTE: u16 = 0xFFF1;
+const COMMON: u16 = 0xFFF2;
+/// The first section number that names no section.
+const FIRST_RESERVED: u16 = 0xFF00;
 const WEAK: u8 = 2;
 const TLS: u8 = 6;
 const IFUNC: u8 = 10;
 
 /// Set in the mark of a symbol whose S is known.
 const KNOWN: u32 = 1 << 31;
+/// Set in the mark of a symbol that has a value in the order, and a type with which
+/// it does not resolve.
+const GIVEN: u32 = 1 << 30;
 /// The bits of a label's mark that are the place of its pair.
 const PAIR: u32 = 0x7FFF;
+
+/// Ticket 9: why a symbol does not resolve, by its number.
+#[derive(Clone, Copy)]
+pub enum Reason {
+    PastTable = 1,
+    NotAllocated,
+    Common,
+    Reserved,
+    Undefined,
+    WrongType,
+    NotInTarget,
+}
 
 /// What is known of a symbol by now.
 #[derive(Clone, Copy, Default)]
@@ -56,8 +74,9 @@ impl<'a, C: Class, const N: usize> Symbols<'a, C, N> {
         for (symbol, value) in order.external_values() {
             match self.entries.get(symbol as usize) {
                 Some(entry) if symbol > 0 && C::symbol_section(entry) == UNDEFINED => {
-                    if has_value::<C>(entry) {
-                        self.remember(symbol as usize, C::Word::cut(value));
+                    match has_value::<C>(entry) {
+                        true => self.remember(symbol as usize, C::Word::cut(value)),
+                        false => self.memory[symbol as usize].mark |= GIVEN,
                     }
                 }
                 _ => return Err(symbol),
@@ -79,26 +98,42 @@ impl<'a, C: Class, const N: usize> Symbols<'a, C, N> {
         (memory.mark & KNOWN != 0).then_some(memory.value)
     }
 
-    /// S, or `None` where the symbol does not resolve.
-    pub fn value(&mut self, symbol: usize) -> Option<C::Word> {
+    /// S, or why the symbol does not resolve.
+    pub fn value(&mut self, symbol: usize) -> Result<C::Word, Reason> {
         if let Some(value) = self.remembered(symbol) {
-            return Some(value);
+            return Ok(value);
         }
-        let entry = self.entries.get(symbol);
-        let entry = entry.filter(|entry| has_value::<C>(entry))?;
+        let entry = self.entries.get(symbol).ok_or(Reason::PastTable)?;
         let value = match C::symbol_section(entry) {
-            // A symbol with a value in the order is remembered already.
-            UNDEFINED => (C::symbol_info(entry) >> 4 == WEAK).then_some(C::Word::default())?,
+            UNDEFINED if self.is_given_or_weak(symbol, entry) => C::Word::default(),
+            UNDEFINED => return Err(Reason::Undefined),
             ABSOLUTE => C::symbol_value(entry),
+            COMMON => return Err(Reason::Common),
+            FIRST_RESERVED.. => return Err(Reason::Reserved),
+            section if !is_in(self.allocated, usize::from(section)) => {
+                return Err(Reason::NotAllocated)
+            }
             section => {
-                let section = usize::from(section);
-                is_in(self.allocated, section).then_some(())?;
                 let value = C::symbol_value(entry).whole();
-                C::Word::cut(self.addresses[section].wrapping_add(value))
+                C::Word::cut(self.addresses[usize::from(section)].wrapping_add(value))
             }
         };
+        if !has_value::<C>(entry) {
+            return Err(Reason::WrongType);
+        }
         self.remember(symbol, value);
-        Some(value)
+        Ok(value)
+    }
+
+    /// Whether an undefined symbol has a value. One that the order gives a value is
+    /// known already, unless its type is wrong.
+    fn is_given_or_weak(&self, symbol: usize, entry: &C::Symbol) -> bool {
+        self.memory[symbol].mark & GIVEN != 0 || C::symbol_info(entry) >> 4 == WEAK
+    }
+
+    /// Why a symbol is no label of the section that is patched.
+    pub fn no_label(&mut self, symbol: usize) -> Reason {
+        self.value(symbol).err().unwrap_or(Reason::NotInTarget)
     }
 
     /// S of a symbol that a checked relocation names.

@@ -1,13 +1,19 @@
 //! What a fitter written for speed may get wrong: pairs where offsets fall or
 //! meet, places that are shared across markers, jumps without compressed
-//! instructions, and fields in the last bytes of a section or of the file.
+//! instructions, why symbols do not resolve, and fields in the last bytes of a
+//! section or of the file.
 
 use bench::inputs::Call;
-use testing::build::{object_with, Class, Fit, Relocation, Section, Symbol, RVC};
+use testing::build::{
+    journal, object_with, Class, Fit, Relocation, Section, Symbol, ABSOLUTE, COMMON, GLOBAL, IFUNC,
+    RVC, TLS, WEAK,
+};
+use testing::counts::Counts;
 use testing::damage::Input;
 use testing::random::Random;
+use testing::{Numbers, DONE};
 
-use crate::{answer, compare, Counts};
+use crate::{answer, compare};
 
 const CASES: u64 = 20_000;
 
@@ -27,14 +33,14 @@ fn compare_all(cases: u64, make: impl Fn(&mut Random) -> Fit) -> Counts {
         let input = Input::from(&make(&mut Random::new(seed)).of(class));
         let outcome = compare(&input, Call::Fit);
         let outcome = outcome.unwrap_or_else(|wrong| panic!("seed {seed}: {wrong}"));
-        counts[outcome.answer.0 as usize] += 1;
+        counts.add(outcome.answer);
     }
     println!("{counts:?}");
     counts
 }
 
 /// The answer in both classes.
-fn answer_of_both(fit: &Fit) -> (u32, u32) {
+fn answer_of_both(fit: &Fit) -> Numbers {
     let [first, second] = Class::ALL.map(|class| answer(&Input::from(&fit.clone().of(class))));
     assert_eq!(first, second, "class 1 and class 2");
     first
@@ -82,7 +88,7 @@ fn distances(random: &mut Random) -> Fit {
 fn far_and_near() {
     let counts = compare_all(CASES, distances);
     for number in [0, 9, 13] {
-        assert!(counts[number] >= 2_000, "answer {number} occurs");
+        assert!(counts.numbers[number] >= 2_000, "answer {number} occurs");
     }
 }
 
@@ -140,7 +146,7 @@ fn wound(random: &mut Random, list: &mut Vec<Relocation>) {
 fn halves() {
     let counts = compare_all(CASES, pairs);
     for number in [0, 9, 11, 12] {
-        assert!(counts[number] >= 300, "answer {number} occurs");
+        assert!(counts.numbers[number] >= 300, "answer {number} occurs");
     }
 }
 
@@ -159,13 +165,16 @@ fn pairs_behind_a_falling_offset() {
     let high = |offset| Relocation::new(offset, PCREL_HI20, 1, 0);
     let low = |label| Relocation::new(4, PCREL_LO12_I, label, 0);
     for (list, expected) in [
-        (vec![high(0), low(2), high(12), high(8)], (9, 3)),
-        (vec![high(0), low(3), high(12), high(8)], (9, 3)),
-        (vec![high(0), low(3), high(12), high(8), high(8)], (12, 1)),
-        (vec![high(0), low(2), high(12), high(0)], (12, 1)),
-        (vec![low(2), high(8), high(0)], (9, 2)),
-        (vec![low(2), high(8), high(0), high(0)], (12, 0)),
-        (vec![low(2), high(8), high(12)], (12, 0)),
+        (vec![high(0), low(2), high(12), high(8)], (9, 3, 0)),
+        (vec![high(0), low(3), high(12), high(8)], (9, 3, 0)),
+        (
+            vec![high(0), low(3), high(12), high(8), high(8)],
+            (12, 1, 0),
+        ),
+        (vec![high(0), low(2), high(12), high(0)], (12, 1, 0)),
+        (vec![low(2), high(8), high(0)], (9, 2, 0)),
+        (vec![low(2), high(8), high(0), high(0)], (12, 0, 0)),
+        (vec![low(2), high(8), high(12)], (12, 0, 0)),
     ] {
         let fit = Fit::code(0x1000, &words, &symbols, &list);
         assert_eq!(answer_of_both(&fit), expected, "{list:?}");
@@ -188,15 +197,15 @@ fn pairs_past_the_section() {
         let fit = Fit::code(0x1000, &words, &symbols, &list);
         answer(&Input::from(&fit.of(Class::Elf64)))
     };
-    assert_eq!(with(8, &[8]), (0, 0));
-    assert_eq!(with(8, &[FAR]), (12, 0));
-    assert_eq!(with(FAR, &[8]), (12, 0));
-    assert_eq!(with(FAR, &[FAR]), (9, 1));
-    assert_eq!(with(FAR, &[FAR, FAR]), (12, 0));
-    assert_eq!(with(FAR, &[FAR, FAR + 1]), (9, 1));
-    assert_eq!(with(FAR, &[FAR + 1, FAR]), (9, 1));
-    assert_eq!(with(u64::MAX, &[u64::MAX]), (9, 1));
-    assert_eq!(with(u64::MAX, &[u64::MAX - 1]), (12, 0));
+    assert_eq!(with(8, &[8]), (0, 0, 0));
+    assert_eq!(with(8, &[FAR]), (12, 0, 0));
+    assert_eq!(with(FAR, &[8]), (12, 0, 0));
+    assert_eq!(with(FAR, &[FAR]), (9, 1, 0));
+    assert_eq!(with(FAR, &[FAR, FAR]), (12, 0, 0));
+    assert_eq!(with(FAR, &[FAR, FAR + 1]), (9, 1, 0));
+    assert_eq!(with(FAR, &[FAR + 1, FAR]), (9, 1, 0));
+    assert_eq!(with(u64::MAX, &[u64::MAX]), (9, 1, 0));
+    assert_eq!(with(u64::MAX, &[u64::MAX - 1]), (12, 0, 0));
 }
 
 /// Data of all widths at few places, with markers between.
@@ -232,7 +241,7 @@ fn places(random: &mut Random) -> Fit {
 fn shared_places() {
     let counts = compare_all(CASES, places);
     for number in [0, 9] {
-        assert!(counts[number] >= 2_000, "answer {number} occurs");
+        assert!(counts.numbers[number] >= 2_000, "answer {number} occurs");
     }
 }
 
@@ -261,13 +270,13 @@ fn instructions() {
                     let outcome = outcome.unwrap_or_else(|wrong| {
                         panic!("{kind}, {words:x?}, {class:?}, {flags}: {wrong}")
                     });
-                    counts[outcome.answer.0 as usize] += 1;
+                    counts.add(outcome.answer);
                 }
             }
         }
     }
     println!("{counts:?}");
-    assert!(counts[0] >= 2_000 && counts[11] >= 20_000);
+    assert!(counts.numbers[0] >= 2_000 && counts.numbers[11] >= 20_000);
 }
 
 /// One relocation at these words, and a high half behind them.
@@ -284,10 +293,44 @@ fn at_instruction(kind: u32, words: [u32; 2]) -> Fit {
     Fit::code(0x1000, &bytes, &symbols, &list)
 }
 
+/// Two relocations, often against one symbol, which is of any section, type and
+/// binding, and may have a value in the order. Section 4 is loaded, and section 5
+/// is NOBITS.
+fn symbols(random: &mut Random) -> Fit {
+    let sections = [
+        0, 0, 0, 1, 1, 2, 4, 5, 6, 0xFEFF, 0xFF00, ABSOLUTE, COMMON, 0xFFFF,
+    ];
+    let info = random.pick(&[0, GLOBAL, WEAK, 0x30]) + random.pick(&[0, 2, TLS, IFUNC]);
+    let symbol = Symbol::new(info, random.pick(&sections), 8);
+    let bytes = [ADDI, ADDI, AUIPC].map(u32::to_le_bytes).concat();
+    let second = random.pick(&[1, 1, 1, 0, 2]);
+    let list = [
+        Relocation::new(0, random.pick(&[RELAX, ABSOLUTE_32, 27, 35]), 1, 0),
+        Relocation::new(4, random.pick(&[PCREL_LO12_I, ABSOLUTE_32, 27]), second, 0),
+        Relocation::new(8, PCREL_HI20, 0, 0),
+    ];
+    let mut fit = Fit::code(0x1000, &bytes, &[symbol], &list);
+    fit.sections.push(Section::loaded(1, &[7]));
+    fit.sections.push(Section::nobits(1, 4));
+    fit.placements.extend([(4, 0x1010), (5, 0x9000)]);
+    fit.journal = journal(0x11);
+    if symbol.section == 0 && random.one_in(2) {
+        fit.external_values = vec![(1, 0x2000)];
+    }
+    fit
+}
+
+#[test]
+fn reasons() {
+    let counts = compare_all(CASES, symbols);
+    assert!(counts.numbers[0] >= 2_000, "done");
+    assert!(counts.rarest_reason() >= 300, "{:?}", counts.reasons);
+}
+
 /// Symbol 0 is no label, and its value is 0, whatever its entry holds.
 #[test]
 fn symbol_0() {
-    for (kind, expected) in [(PCREL_LO12_I, (10, 0)), (27, (0, 0)), (35, (0, 0))] {
+    for (kind, expected) in [(PCREL_LO12_I, (10, 0, 7)), (27, DONE), (35, DONE)] {
         let mut fit = at_instruction(kind, [ADDI, ADDI]);
         fit.sections[2] = Section::symbols(&[Symbol::new(6, 1, 8), Symbol::default()]);
         let list = [
@@ -332,7 +375,7 @@ fn the_last_bytes_of_a_file() {
                 let fit = fit.clone().of(class).with_flags(flags);
                 let mut input = Input::from(&fit);
                 input.object = with_section_last(&fit, &bytes);
-                assert_eq!(answer(&input), (number, 0), "type {kind}, {bytes:x?}");
+                assert_eq!(answer(&input), (number, 0, 0), "type {kind}, {bytes:x?}");
             }
         }
     }

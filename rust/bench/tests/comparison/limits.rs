@@ -4,6 +4,7 @@ use bench::inputs::Call;
 use testing::build::{journal, Class, Fit};
 use testing::damage::Input;
 use testing::limits::limits;
+use testing::DONE;
 
 use crate::compare;
 
@@ -24,10 +25,10 @@ fn ledger_entries() {
         let mut state = Input::from(&Fit::code(0x1000, &[0; 8], &[], &[]).of(class));
         state.journal = journal(1_000);
         let first = state.clone();
-        for (call, last) in [(Call::Fit, (15, 0)), (Call::TakeBack, (16, 0))] {
+        for (call, last) in [(Call::Fit, (15, 0, 0)), (Call::TakeBack, (16, 0, 0))] {
             for turn in 0..17 {
                 let outcome = compare(&state, call).expect("no difference");
-                let expected = if turn < 16 { (0, 0) } else { last };
+                let expected = if turn < 16 { DONE } else { last };
                 assert_eq!(outcome.answer, expected, "{call:?} {turn}");
                 (state.image, state.journal) = (outcome.image, outcome.journal);
             }
@@ -45,14 +46,14 @@ fn image_of_a_taking_back() {
         state.image.resize(1_048_576, 0x5A);
         let first = state.clone();
         let outcome = compare(&state, Call::Fit).expect("no difference");
-        assert_eq!(outcome.answer, (0, 0), "{class:?}");
+        assert_eq!(outcome.answer, DONE, "{class:?}");
         (state.image, state.journal) = (outcome.image, outcome.journal);
         state.image.push(0);
         let outcome = compare(&state, Call::TakeBack).expect("no difference");
-        assert_eq!(outcome.answer, (3, 0), "{class:?}");
+        assert_eq!(outcome.answer, (3, 0, 0), "{class:?}");
         state.image.pop();
         let outcome = compare(&state, Call::TakeBack).expect("no difference");
-        assert_eq!(outcome.answer, (0, 0), "{class:?}");
+        assert_eq!(outcome.answer, DONE, "{class:?}");
         assert!(outcome.image == first.image && outcome.journal == first.journal);
     }
 }

@@ -1,5 +1,5 @@
-//! The comparison fitter against the reference: number and place of every call,
-//! and every byte of image and ledger after it.
+//! The comparison fitter against the reference: the answer of every call, and every
+//! byte of image and ledger after it.
 
 mod hostile;
 mod limits;
@@ -9,14 +9,12 @@ mod vectors;
 use bench::fitter::{comparison_fit, comparison_take_back};
 use bench::inputs::Call;
 use testing::damage::Input;
+use testing::{numbers, Numbers};
 
-/// How often each number was answered.
-type Counts = [u32; 17];
-
-/// What a call leaves: number and place, image and ledger.
+/// What a call leaves: the answer, image and ledger.
 #[derive(Clone, PartialEq, Eq, Debug)]
 struct Outcome {
-    answer: (u32, u32),
+    answer: Numbers,
     image: Vec<u8>,
     journal: Vec<u8>,
 }
@@ -28,7 +26,7 @@ fn by_comparison(input: &Input, call: Call) -> Outcome {
         Call::TakeBack => comparison_take_back(&mut image, &mut journal),
     };
     Outcome {
-        answer: (answer.number, answer.place),
+        answer: answer.numbers(),
         image,
         journal,
     }
@@ -41,7 +39,7 @@ fn by_reference(input: &Input, call: Call) -> Outcome {
         Call::TakeBack => reference::rollback(&mut image, &mut journal),
     };
     Outcome {
-        answer: (answer.number, answer.place),
+        answer: numbers(answer),
         image,
         journal,
     }
@@ -64,7 +62,7 @@ fn compare(input: &Input, call: Call) -> Result<Outcome, String> {
 }
 
 /// The answer of both to an install.
-fn answer(input: &Input) -> (u32, u32) {
+fn answer(input: &Input) -> Numbers {
     let outcome = compare(input, Call::Fit);
     outcome.unwrap_or_else(|wrong| panic!("{wrong}")).answer
 }

@@ -1,10 +1,11 @@
 //! Random and damaged calls, from a fixed seed.
 
 use bench::inputs::{rows, Call};
+use testing::counts::Counts;
 use testing::damage::{damage, right_input, vector_inputs, wound_bytes, wound_relocation, Input};
 use testing::random::Random;
 
-use crate::{compare, Counts};
+use crate::compare;
 
 const CALLS: u64 = 100_000;
 const WOUNDED: u64 = 3_000;
@@ -12,7 +13,7 @@ const WOUNDED: u64 = 3_000;
 fn check(name: &str, seed: u64, input: &Input, call: Call, counts: &mut Counts) {
     let outcome = compare(input, call);
     let outcome = outcome.unwrap_or_else(|wrong| panic!("{name}, seed {seed}: {wrong}"));
-    counts[outcome.answer.0 as usize] += 1;
+    counts.add(outcome.answer);
 }
 
 #[test]
@@ -34,10 +35,12 @@ fn calls() {
     println!("fits: {fits:?}\ntakings-back: {rollbacks:?}");
     for number in 0..17 {
         let often = if number < 16 { 20 } else { 0 };
-        assert!(fits[number] >= often, "answer {number} occurs in fits");
+        let (fits, rollbacks) = (fits.numbers[number], rollbacks.numbers[number]);
+        assert!(fits >= often, "answer {number} occurs in fits");
         let occurs = [0, 1, 3, 16].contains(&number);
-        assert_eq!(rollbacks[number] > 0, occurs, "{number} in takings-back");
+        assert_eq!(rollbacks > 0, occurs, "{number} in takings-back");
     }
+    assert!(fits.rarest_reason() >= 20, "{:?}", fits.reasons);
 }
 
 /// The timed installs with a few wounds at their relocations, or anywhere in
@@ -61,6 +64,6 @@ fn wounded_rows() {
     }
     println!("{counts:?}");
     for number in [0, 5, 9, 10, 11, 12, 13] {
-        assert!(counts[number] >= 20, "answer {number} occurs");
+        assert!(counts.numbers[number] >= 20, "answer {number} occurs");
     }
 }

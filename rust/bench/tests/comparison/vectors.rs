@@ -5,14 +5,15 @@ use testing::build::{journal, Class};
 use testing::damage::Input;
 use testing::given::{objects, FILL};
 use testing::lists::{histories, Listed};
-use testing::vectors::{bytes, bytes_after, lines, number};
+use testing::vectors::{answer, bytes, bytes_after, lines};
+use testing::{numbers, DONE};
 
 use crate::compare;
 
 /// What is wrong with one line of calls.txt, if anything.
 fn wrong_call(words: &[String]) -> Option<String> {
     let words: Vec<&str> = words.iter().map(String::as_str).collect();
-    let (inputs, expected) = words.split_at(words.len() - 4);
+    let (inputs, expected) = words.split_at(words.len() - 5);
     let (call, object, order, image, ledger) = match inputs {
         ["fit", object, order, image, ledger] => (Call::Fit, *object, *order, image, ledger),
         ["take-back", image, ledger] => (Call::TakeBack, "-", "-", image, ledger),
@@ -28,9 +29,10 @@ fn wrong_call(words: &[String]) -> Option<String> {
         Ok(given) => given,
         Err(wrong) => return Some(wrong),
     };
-    let is_right = given.answer == (number(expected[0]), number(expected[1]))
-        && given.image == bytes_after(expected[2], &input.image)
-        && given.journal == bytes_after(expected[3], &input.journal);
+    let asked = answer([expected[0], expected[1], expected[2]]);
+    let is_right = given.answer == numbers(asked)
+        && given.image == bytes_after(expected[3], &input.image)
+        && given.journal == bytes_after(expected[4], &input.journal);
     (!is_right).then(|| format!("{:?}, not as the vector says", given.answer))
 }
 
@@ -66,7 +68,7 @@ fn lists_of_calls() {
                 Listed::TakeBack => Call::TakeBack,
             };
             let after = compare(&state, call).unwrap_or_else(|wrong| panic!("{name}: {wrong}"));
-            assert_eq!(after.answer, expected, "{name}");
+            assert_eq!(after.answer, numbers(expected), "{name}");
             (state.image, state.journal) = (after.image, after.journal);
         }
         assert_eq!(state.image, given.image_after, "{name}");
@@ -95,14 +97,14 @@ fn real_objects() {
         let installed = compare(&before, Call::Fit).unwrap_or_else(fail);
         assert_eq!(installed.answer, given.answer, "{name}");
         assert_eq!(Some(&installed.image), given.image.as_ref(), "{name}");
-        if given.answer != (0, 0) {
+        if given.answer != DONE {
             assert_eq!(installed.journal, before.journal, "{name}");
             continue;
         }
         let mut after = before.clone();
         (after.image, after.journal) = (installed.image, installed.journal);
         let back = compare(&after, Call::TakeBack).unwrap_or_else(fail);
-        assert_eq!(back.answer, (0, 0), "{name}");
+        assert_eq!(back.answer, DONE, "{name}");
         assert_eq!((back.image, back.journal), (before.image, before.journal));
     }
 }

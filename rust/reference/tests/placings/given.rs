@@ -6,8 +6,8 @@ use testing::given::{objects, vectors, Given};
 /// A broken ledger hides the other checks.
 fn case(given: Given) -> Case {
     let stated = match given.answer {
-        (1, _) => None,
-        (2..=8, _) => Some(given.answer),
+        (1, _, _) => None,
+        (number @ 2..=8, place, _) => Some((number, place)),
         _ => Some((0, 0)),
     };
     Case {

@@ -5,16 +5,15 @@ use reference::order::{Order, Window};
 use reference::placement::{
     addresses, lowest_differing_section, lowest_misplaced, lowest_wrong_external,
 };
-use reference::symbol::Symbols;
+use reference::symbol::{Reason, Symbols};
 
 use crate::Case;
 
 /// The address of each section, 0 where there is none, and the value of each
-/// symbol and of three numbers past the table; `None` for one that does not
-/// resolve.
+/// symbol and of three numbers past the table, or why it does not resolve.
 pub struct Placed {
     pub addresses: Vec<u64>,
-    pub values: Vec<Option<u64>>,
+    pub values: Vec<Result<u64, Reason>>,
 }
 
 /// Checks 4, 2, 3 and 5 to 8: number and place of the first broken one, or what
@@ -37,7 +36,7 @@ pub fn place(case: &Case) -> Result<Placed, (u32, u32)> {
     let end = (0..).find(|index| symbols.entry(*index).is_none());
     let value = |index| {
         let value = symbols.value(index)?;
-        Some(u64::try_from(value).expect("from 0 to 2^64 - 1"))
+        Ok(u64::try_from(value).expect("from 0 to 2^64 - 1"))
     };
     Ok(Placed {
         addresses: (0..object.sections().len())
@@ -59,11 +58,11 @@ pub fn line(case: &Case) -> String {
     match place(case) {
         Err((number, place)) => format!("{number} {place}"),
         Ok(placed) => {
-            let addresses = placed.addresses.into_iter().map(Some);
+            let addresses = placed.addresses.into_iter().map(Ok);
             let numbers = addresses.chain(placed.values);
             let words = numbers.map(|number| match number {
-                Some(number) => format!(" {number:x}"),
-                None => " -".to_string(),
+                Ok(number) => format!(" {number:x}"),
+                Err(reason) => format!(" -{}", reason as u32),
             });
             format!("0 0{}", words.collect::<String>())
         }

@@ -12,6 +12,7 @@ mod symbols;
 use std::collections::BTreeMap;
 
 use lines::{answer, line, place};
+use reference::Reason;
 use testing::build::{Class, Fit};
 use testing::commands::Commands;
 use testing::compared::{assert_stated, Compared};
@@ -28,8 +29,8 @@ pub struct Case {
     pub image_length: usize,
     /// Number and place of the first broken check of 2 to 8.
     pub stated: Option<(u32, u32)>,
-    /// Symbols and their values; `None` for one that does not resolve.
-    pub values: Vec<(u32, Option<u64>)>,
+    /// Symbols and their values, or why they do not resolve.
+    pub values: Vec<(u32, Result<u64, Reason>)>,
     /// What it was made of, unless its bytes were changed since.
     pub fit: Option<Fit>,
 }
@@ -47,11 +48,16 @@ impl Case {
         }
     }
 
-    /// The same in class 2, with the same answer.
+    /// The same in class 2, with the same answer. Sums are other ones there, and the
+    /// reasons are the same.
     fn in_class_2(&self) -> Option<Case> {
         let fit = self.fit.clone()?.of(Class::Elf64);
         let name = format!("{}, in class 2", self.name);
-        Some(Case::new(name, &fit, self.stated?))
+        let reasons = self.values.iter().filter(|(_, value)| value.is_err());
+        Some(Case {
+            values: reasons.copied().collect(),
+            ..Case::new(name, &fit, self.stated?)
+        })
     }
 }
 
@@ -133,6 +139,19 @@ fn many_answers() {
     assert!([0, 6, 7, 8].iter().all(|number| numbers[number] >= 60));
     let different = |number| places.keys().filter(|answer| answer.0 == number).count();
     assert!((6..=8).all(|number| different(number) >= 8));
+}
+
+/// Each reason that a symbol can have by itself occurs in random pairs.
+#[test]
+fn many_reasons() {
+    let mut counts = [0; 8];
+    for placed in random::cases().iter().filter_map(|case| place(case).ok()) {
+        for reason in placed.values.into_iter().filter_map(Result::err) {
+            counts[reason as usize] += 1;
+        }
+    }
+    println!("{counts:?}");
+    assert!(counts[1..=6].iter().all(|count| *count >= 20));
 }
 
 #[test]

@@ -1,6 +1,7 @@
-//! S of symbols of every kind, with the values.
+//! S of symbols of every kind, with the values, and why there is none.
 
 use crate::Case;
+use reference::Reason::{self, *};
 use testing::build::*;
 
 const BASE: u64 = 0x8000_0000;
@@ -9,13 +10,27 @@ const EMPTY_AT: u64 = 0x10;
 /// The highest value of class 1.
 const TOP: u64 = 0xFFFF_FFFF;
 const LOCAL: u8 = 0;
-const TLS: u8 = 6;
-const IFUNC: u8 = 10;
-/// The section number of a common symbol.
-const COMMON: u16 = 0xFFF2;
-/// Sections that are not in the table, or are no section.
-const OTHERS: [u16; 12] = [
-    6, 7, 127, 128, 129, 0x101, 0xFEFF, 0xFF00, 0xFFF0, COMMON, 0xFFF3, 0xFFFF,
+/// Sections of [`six`] in which no symbol resolves, whatever its type: "row missing
+/// or not allocated (sections 1 to 0xFEFF), common (section 0xFFF2), reserved
+/// section (0xFF00 and up, but for 0xFFF1 and 0xFFF2)".
+const OTHERS: [(u16, Reason); 17] = [
+    (2, NotAllocated),
+    (4, NotAllocated),
+    (6, NotAllocated),
+    (7, NotAllocated),
+    (127, NotAllocated),
+    (128, NotAllocated),
+    (129, NotAllocated),
+    (0x101, NotAllocated),
+    (0xFE01, NotAllocated),
+    (0xFEFF, NotAllocated),
+    (0xFF00, Reserved),
+    (0xFF01, Reserved),
+    (0xFFF0, Reserved),
+    (COMMON, Common),
+    (0xFFF3, Reserved),
+    (0xFFFE, Reserved),
+    (0xFFFF, Reserved),
 ];
 
 /// Sections 1, 3 and 5 are allocated, section 4 is the symbol table.
@@ -38,10 +53,10 @@ fn six(symbols: &[Symbol], external_values: &[(u32, u64)]) -> Fit {
 }
 
 /// A symbol, the order's value for it, and S.
-type Row = (Symbol, Option<u64>, Option<u64>);
+type Row = (Symbol, Option<u64>, Result<u64, Reason>);
 
 fn defined() -> Vec<Row> {
-    let row = |info, section, value, s| (Symbol::new(info, section, value), None, Some(s));
+    let row = |info, section, value, s| (Symbol::new(info, section, value), None, Ok(s));
     vec![
         row(LOCAL, 1, 0, BASE),
         row(GLOBAL, 1, 8, BASE + 8),
@@ -65,41 +80,50 @@ fn defined() -> Vec<Row> {
 fn undefined() -> Vec<Row> {
     let row = |info, external, s| (Symbol::new(info, 0, 0x111), external, s);
     vec![
-        row(GLOBAL, Some(7), Some(7)),
-        row(GLOBAL, Some(0), Some(0)),
-        row(GLOBAL, Some(TOP), Some(TOP)),
-        row(GLOBAL, None, None),
-        row(LOCAL, Some(8), Some(8)),
-        row(LOCAL, None, None),
-        row(WEAK, Some(0x8765_4321), Some(0x8765_4321)),
-        row(WEAK, Some(0), Some(0)),
-        row(WEAK, None, Some(0)),
-        row(0x30, Some(9), Some(9)),
-        row(0x30, None, None),
-        row(0x60, None, None),
-        row(0xA0, None, None),
-        row(0x02, None, None),
-        row(0x12, None, None),
-        row(0xF2, None, None),
-        row(0x22, None, Some(0)),
-        row(0x2F, None, Some(0)),
+        row(GLOBAL, Some(7), Ok(7)),
+        row(GLOBAL, Some(0), Ok(0)),
+        row(GLOBAL, Some(TOP), Ok(TOP)),
+        row(GLOBAL, None, Err(Undefined)),
+        row(LOCAL, Some(8), Ok(8)),
+        row(LOCAL, None, Err(Undefined)),
+        row(WEAK, Some(0x8765_4321), Ok(0x8765_4321)),
+        row(WEAK, Some(0), Ok(0)),
+        row(WEAK, None, Ok(0)),
+        row(0x30, Some(9), Ok(9)),
+        row(0x30, None, Err(Undefined)),
+        row(0x60, None, Err(Undefined)),
+        row(0xA0, None, Err(Undefined)),
+        row(0x02, None, Err(Undefined)),
+        row(0x12, None, Err(Undefined)),
+        row(0xF2, None, Err(Undefined)),
+        row(0x22, None, Ok(0)),
+        row(0x2F, None, Ok(0)),
     ]
 }
 
-/// "Anything else [...] and types TLS 6 and IFUNC 10 do not resolve."
+/// "Anything else [...] and types TLS 6 and IFUNC 10 do not resolve." The type is
+/// the last reason: "the first that applies, in this order".
 fn unresolved() -> Vec<Row> {
     let mut rows = Vec::new();
-    for section in [2, 4].into_iter().chain(OTHERS) {
-        rows.push((Symbol::new(GLOBAL, section, 5), None, None));
+    for kind in [0, TLS, IFUNC] {
+        for (section, reason) in OTHERS {
+            for binding in [LOCAL, GLOBAL, WEAK] {
+                let symbol = Symbol::new(binding + kind, section, 5);
+                rows.push((symbol, None, Err(reason)));
+            }
+        }
     }
     for kind in [TLS, IFUNC] {
-        for section in [1, 2, 3, 5, 6, ABSOLUTE, COMMON] {
-            rows.push((Symbol::new(GLOBAL + kind, section, 4), None, None));
+        for section in [1, 3, 5, ABSOLUTE] {
+            rows.push((Symbol::new(GLOBAL + kind, section, 4), None, Err(WrongType)));
         }
+        let undefined = |binding: u8| Symbol::new(binding + kind, 0, 0);
         for binding in [LOCAL, GLOBAL, WEAK] {
-            rows.push((Symbol::new(binding + kind, 0, 0), Some(3), None));
-            rows.push((Symbol::new(binding + kind, 0, 0), None, None));
+            rows.push((undefined(binding), Some(3), Err(WrongType)));
         }
+        rows.push((undefined(LOCAL), None, Err(Undefined)));
+        rows.push((undefined(GLOBAL), None, Err(Undefined)));
+        rows.push((undefined(WEAK), None, Err(WrongType)));
     }
     rows
 }
@@ -116,8 +140,12 @@ fn table(name: &str, rows: &[Row]) -> Case {
     let mut case = Case::new(name, &six(&all, &externals), (0, 0));
     case.values = given.map(|(index, row)| (index, row.2)).collect();
     let past = all.len() as u32;
-    case.values
-        .extend([(0, Some(0)), (past, None), (past + 2, None)]);
+    let last = [
+        (0, Ok(0)),
+        (past, Err(PastTable)),
+        (past + 2, Err(PastTable)),
+    ];
+    case.values.extend(last);
     case
 }
 
@@ -134,9 +162,10 @@ fn symbol_0() -> Vec<Case> {
     ];
     let with = |name: &str, fit: &Fit, count: u32| {
         let mut case = Case::new(name, fit, (0, 0));
-        case.values = vec![(0, Some(0))];
+        case.values = vec![(0, Ok(0))];
         let past = [count.max(1), count + 1, count + 2];
-        case.values.extend(past.map(|index| (index, None)));
+        case.values
+            .extend(past.map(|index| (index, Err(PastTable))));
         case
     };
     let no_table = Fit::placed(BASE, 8, &[(Section::loaded(4, &[1; 8]), BASE)]);
@@ -155,7 +184,9 @@ fn every_kind() -> Case {
     let mut externals = Vec::new();
     for kind in 0..16 {
         for binding in [LOCAL, GLOBAL, WEAK, 0x30, 0xA0] {
-            for section in [1, 2, 3, 5, 6, 128, ABSOLUTE, COMMON, 0xFFFF, 0, 0] {
+            for section in [
+                1, 2, 3, 5, 6, 128, 0xFEFF, 0xFF00, ABSOLUTE, COMMON, 0xFFFF, 0, 0,
+            ] {
                 let at = symbols.len() as u32;
                 let is_second = symbols.last().is_some_and(|last| last.section == 0);
                 if section == 0 && is_second {
@@ -189,10 +220,8 @@ fn every_section() -> Case {
     let mut case = Case::new("every section", &fit, (0, 0));
     let value = |index: u32| {
         let is_placed = index < 128 && is_allocated(index);
-        (
-            index,
-            is_placed.then_some(BASE + 0x10_0000 + u64::from(index)),
-        )
+        let value = BASE + 0x10_0000 + u64::from(index);
+        (index, is_placed.then_some(value).ok_or(NotAllocated))
     };
     case.values = (1..130).map(value).collect();
     case
@@ -219,22 +248,26 @@ pub fn cases_of_class_2() -> Vec<Case> {
     const NOBITS_AT: u64 = 0_u64.wrapping_sub(16);
     const BASE: u64 = 0x8000_0000_0000_0000;
     let rows: [Row; 16] = [
-        (Symbol::new(LOCAL, 1, 0), None, Some(BASE)),
-        (Symbol::new(LOCAL, 1, 1 << 32), None, Some(BASE + (1 << 32))),
-        (Symbol::new(LOCAL, 1, BASE - 1), None, Some(u64::MAX)),
-        (Symbol::new(LOCAL, 1, BASE), None, Some(0)),
-        (Symbol::new(LOCAL, 1, BASE + 1), None, Some(1)),
-        (Symbol::new(LOCAL, 1, u64::MAX), None, Some(BASE - 1)),
-        (Symbol::new(GLOBAL, 3, 15), None, Some(u64::MAX)),
-        (Symbol::new(GLOBAL, 3, 16), None, Some(0)),
-        (Symbol::new(GLOBAL, 3, TOP), None, Some(TOP - 16)),
-        (Symbol::new(WEAK, 5, TOP), None, Some(TOP + EMPTY_AT)),
-        (Symbol::absolute(u64::MAX), None, Some(u64::MAX)),
-        (Symbol::absolute(1 << 32), None, Some(1 << 32)),
-        (Symbol::new(GLOBAL, 0, 1), Some(u64::MAX), Some(u64::MAX)),
-        (Symbol::new(GLOBAL, 0, 1), Some(1 << 32), Some(1 << 32)),
-        (Symbol::new(WEAK, 0, 1 << 32), None, Some(0)),
-        (Symbol::new(GLOBAL + TLS, 0, 0), Some(1 << 32), None),
+        (Symbol::new(LOCAL, 1, 0), None, Ok(BASE)),
+        (Symbol::new(LOCAL, 1, 1 << 32), None, Ok(BASE + (1 << 32))),
+        (Symbol::new(LOCAL, 1, BASE - 1), None, Ok(u64::MAX)),
+        (Symbol::new(LOCAL, 1, BASE), None, Ok(0)),
+        (Symbol::new(LOCAL, 1, BASE + 1), None, Ok(1)),
+        (Symbol::new(LOCAL, 1, u64::MAX), None, Ok(BASE - 1)),
+        (Symbol::new(GLOBAL, 3, 15), None, Ok(u64::MAX)),
+        (Symbol::new(GLOBAL, 3, 16), None, Ok(0)),
+        (Symbol::new(GLOBAL, 3, TOP), None, Ok(TOP - 16)),
+        (Symbol::new(WEAK, 5, TOP), None, Ok(TOP + EMPTY_AT)),
+        (Symbol::absolute(u64::MAX), None, Ok(u64::MAX)),
+        (Symbol::absolute(1 << 32), None, Ok(1 << 32)),
+        (Symbol::new(GLOBAL, 0, 1), Some(u64::MAX), Ok(u64::MAX)),
+        (Symbol::new(GLOBAL, 0, 1), Some(1 << 32), Ok(1 << 32)),
+        (Symbol::new(WEAK, 0, 1 << 32), None, Ok(0)),
+        (
+            Symbol::new(GLOBAL + TLS, 0, 0),
+            Some(1 << 32),
+            Err(WrongType),
+        ),
     ];
     let mut case = table("values of class 2", &rows);
     let mut fit = case.fit.expect("a fit").of(Class::Elf64);

@@ -5,25 +5,26 @@ use std::os::unix::fs::MetadataExt;
 
 use crate::bench::{good, line, on_both, Bench};
 use reference::install;
-use testing::build::{journal, Class, Symbol};
+use testing::build::{journal, Class, Symbol, COMMON, GLOBAL, TLS};
 use testing::damage::Input;
+use testing::{numbers, Numbers, DONE};
 
 #[test]
 fn done_and_taken_back() {
     on_both(|program| {
         for fit in Class::ALL.map(|class| good().of(class)) {
             let bench = Bench::new(program, &fit);
-            assert_eq!(line(&bench.fit()), "0 0\n");
+            assert_eq!(line(&bench.fit()), "0 0 0\n");
             let (_, image, ledger) = fit.run();
             assert_eq!(bench.read("image"), image);
             assert_eq!(bench.read("ledger"), ledger);
             assert_eq!(bench.read("image")[64..68], [1, 2, 3, 4]);
             assert_eq!(bench.files().len(), 4, "no file is left over");
-            assert_eq!(line(&bench.fit()), "15 0\n");
-            assert_eq!(line(&bench.take_back()), "0 0\n");
+            assert_eq!(line(&bench.fit()), "15 0 0\n");
+            assert_eq!(line(&bench.take_back()), "0 0 0\n");
             assert_eq!(bench.read("image"), fit.image);
             assert_eq!(bench.read("ledger"), fit.journal);
-            assert_eq!(line(&bench.take_back()), "16 0\n");
+            assert_eq!(line(&bench.take_back()), "16 0 0\n");
             assert_eq!(bench.files().len(), 4, "no file is left over");
         }
     });
@@ -37,7 +38,7 @@ fn an_order_of_the_other_class() {
             let bench = Bench::new(program, &good().of(class));
             bench.write("order", &good().of(other).order());
             let before = bench.files();
-            assert_eq!(line(&bench.fit()), "2 0\n", "{class:?}");
+            assert_eq!(line(&bench.fit()), "2 0 0\n", "{class:?}");
             assert_eq!(bench.files(), before);
         }
     });
@@ -52,10 +53,43 @@ fn a_refusal_touches_no_file() {
         let inode = |name: &str| fs::metadata(bench.path(name)).map(|file| file.ino());
         let inodes = || ["image", "ledger"].map(|name| inode(name).expect("the file is there"));
         let (before, inodes_before) = (bench.files(), inodes());
-        assert_eq!(line(&bench.fit()), "6 1\n");
-        assert_eq!(line(&bench.take_back()), "16 0\n");
+        assert_eq!(line(&bench.fit()), "6 1 0\n");
+        assert_eq!(line(&bench.take_back()), "16 0 0\n");
         assert_eq!(bench.files(), before);
         assert_eq!(inodes(), inodes_before);
+    });
+}
+
+/// "the program writes it third"
+#[test]
+fn reasons() {
+    let against = |symbol: Symbol, kind| {
+        let mut fit = good();
+        fit.sections[1].bytes = vec![0x13, 0, 0, 0];
+        fit.sections[2].symbols_mut()[1] = symbol;
+        fit.sections[3].relocations_mut()[0].kind = kind;
+        fit
+    };
+    let mut past = good();
+    past.sections[3].relocations_mut()[0].symbol = 2;
+    let fits = [
+        past,
+        against(Symbol::new(GLOBAL, 2, 0), 1),
+        against(Symbol::new(GLOBAL, COMMON, 0), 1),
+        against(Symbol::new(GLOBAL, 0xFF00, 0), 1),
+        against(Symbol::new(GLOBAL, 0, 0), 1),
+        against(Symbol::new(TLS, 1, 0), 1),
+        against(Symbol::absolute(0), 24),
+    ];
+    on_both(|program| {
+        for (reason, fit) in (1..).zip(&fits) {
+            for class in Class::ALL {
+                let bench = Bench::new(program, &fit.clone().of(class));
+                let before = bench.files();
+                assert_eq!(line(&bench.fit()), format!("10 0 {reason}\n"));
+                assert_eq!(bench.files(), before);
+            }
+        }
     });
 }
 
@@ -82,7 +116,7 @@ fn too_long() {
 }
 
 /// Which file is longer, what the library answers, and the change.
-type Longer = (&'static str, (u32, u32), fn(&mut Input));
+type Longer = (&'static str, Numbers, fn(&mut Input));
 
 /// A file of 65,537 bytes each in turn, and an order with as many values as there
 /// may be: the program keeps its limit, and the library takes all but an order
@@ -90,10 +124,10 @@ type Longer = (&'static str, (u32, u32), fn(&mut Input));
 #[test]
 fn too_long_for_the_program_alone() {
     const LONGER: [Longer; 4] = [
-        ("object", (0, 0), |input| input.object.resize(65_537, 0xEE)),
-        ("order", (2, 0), |input| input.order.resize(65_537, 0)),
-        ("image", (0, 0), |input| input.image.resize(65_537, 0xA5)),
-        ("ledger", (0, 0), |input| input.journal.resize(65_537, 0)),
+        ("object", DONE, |input| input.object.resize(65_537, 0xEE)),
+        ("order", (2, 0, 0), |input| input.order.resize(65_537, 0)),
+        ("image", DONE, |input| input.image.resize(65_537, 0xA5)),
+        ("ledger", DONE, |input| input.journal.resize(65_537, 0)),
     ];
     let mut inputs = Vec::new();
     for class in Class::ALL {
@@ -107,12 +141,12 @@ fn too_long_for_the_program_alone() {
             .symbols_mut()
             .resize(8_192, Symbol::default());
         fit.external_values = (2..8_192).map(|symbol| (symbol, 7)).collect();
-        inputs.push((format!("values, {class:?}"), (0, 0), Input::from(&fit)));
+        inputs.push((format!("values, {class:?}"), DONE, Input::from(&fit)));
     }
     for (name, answer, input) in &inputs {
         let (mut image, mut journal) = (input.image.clone(), input.journal.clone());
         let taken = install(&input.object, &input.order, &mut image, &mut journal);
-        assert_eq!((taken.number, taken.place), *answer, "{name}");
+        assert_eq!(numbers(taken), *answer, "{name}");
     }
     on_both(|program| {
         for (name, _, input) in &inputs {
@@ -146,20 +180,20 @@ fn lengths_at_the_limits() {
         fit.journal = journal(65_536 - 136);
         fit.image.resize(65_536, 0xA5);
         let bench = Bench::new(program, &fit);
-        assert_eq!(line(&bench.fit()), "0 0\n");
+        assert_eq!(line(&bench.fit()), "0 0 0\n");
         let (_, image, ledger) = fit.run();
         assert_eq!((bench.read("image"), bench.read("ledger")), (image, ledger));
-        assert_eq!(line(&bench.take_back()), "0 0\n");
+        assert_eq!(line(&bench.take_back()), "0 0 0\n");
         assert_eq!(bench.read("image"), fit.image);
         bench.write("order", &[]);
-        assert_eq!(line(&bench.fit()), "2 0\n");
+        assert_eq!(line(&bench.fit()), "2 0 0\n");
         bench.write("object", &[]);
-        assert_eq!(line(&bench.fit()), "4 0\n");
+        assert_eq!(line(&bench.fit()), "4 0 0\n");
         bench.write("image", &[]);
-        assert_eq!(line(&bench.take_back()), "16 0\n");
+        assert_eq!(line(&bench.take_back()), "16 0 0\n");
         bench.write("ledger", &[]);
-        assert_eq!(line(&bench.fit()), "1 0\n");
-        assert_eq!(line(&bench.take_back()), "1 0\n");
+        assert_eq!(line(&bench.fit()), "1 0 0\n");
+        assert_eq!(line(&bench.take_back()), "1 0 0\n");
     });
 }
 
@@ -180,9 +214,9 @@ fn names_with_spaces() {
             image,
             ledger,
         ];
-        assert_eq!(line(&bench.run(&fit)), "0 0\n");
+        assert_eq!(line(&bench.run(&fit)), "0 0 0\n");
         assert_eq!(bench.read(image)[64..68], [1, 2, 3, 4]);
-        assert_eq!(line(&bench.run(&["take-back", image, ledger])), "0 0\n");
+        assert_eq!(line(&bench.run(&["take-back", image, ledger])), "0 0 0\n");
         assert_eq!(bench.read(image), good().image);
     });
 }

@@ -70,10 +70,14 @@ fn ended_at_every_call(program: Program, arguments: &[&str], states: [&Pair; 3],
         assert_eq!(output.status.code(), Some(99));
         let state = states.iter().position(|state| **state == pair(&bench));
         let state = state.expect("each file is old or new, and the right one is new first");
-        let said: &[&[u8]] = if state == 2 { &[b"", b"0 0\n"] } else { &[b""] };
+        let said: &[&[u8]] = if state == 2 {
+            &[b"", b"0 0 0\n"]
+        } else {
+            &[b""]
+        };
         assert!(said.contains(&&output.stdout[..]), "only what is done");
         seen.push(state);
-        let expected = if state == bare { "16 0\n" } else { "0 0\n" };
+        let expected = if state == bare { "16 0 0\n" } else { "0 0 0\n" };
         assert_eq!(line(&bench.take_back()), expected);
         assert_eq!(pair(&bench), old);
     }
@@ -165,7 +169,7 @@ fn failed_in_turn(
         failed += 1;
         assert_eq!(bench.files().len(), 4, "no file is left over");
         if output.stderr.is_empty() {
-            assert_eq!(line(&output), "0 0\n");
+            assert_eq!(line(&output), "0 0 0\n");
             assert_eq!(pair(&bench), *new);
             continue;
         }

@@ -22,7 +22,7 @@ type Call = &'static [&'static str];
 /// where one does.
 fn calls(program: Program, fit: &Fit) -> [(Bench, Call); 2] {
     let [before, after] = [(); 2].map(|()| Bench::new(program, fit));
-    assert_eq!(line(&after.fit()), "0 0\n");
+    assert_eq!(line(&after.fit()), "0 0 0\n");
     [(before, &FIT), (after, &TAKE_BACK)]
 }
 
@@ -42,7 +42,7 @@ fn is_done(bench: &Bench, call: Call) {
 
 fn command_is_done(command: &mut Command) {
     let output = command.output().expect("the program starts");
-    assert_eq!(line(&output), "0 0\n");
+    assert_eq!(line(&output), "0 0 0\n");
 }
 
 #[test]
@@ -132,7 +132,7 @@ fn long_names() {
             let [image, ledger] = [padded(4_095, "image"), padded(4_094, "ledger")];
             let mut longest = with(call, IMAGE, &image);
             longest[call.len() - LEDGER] = &ledger;
-            assert_eq!(line(&bench.run(&longest)), "0 0\n");
+            assert_eq!(line(&bench.run(&longest)), "0 0 0\n");
         }
     });
 }
@@ -301,7 +301,7 @@ fn devices() {
             bench.fails(&with(call, IMAGE, "/dev/null"), "/dev/null: ");
             let files = bench.files();
             let with_ledger = |device| line(&bench.run(&with(call, LEDGER, device)));
-            assert_eq!(with_ledger("/dev/null"), "1 0\n");
+            assert_eq!(with_ledger("/dev/null"), "1 0 0\n");
             assert_eq!(with_ledger("/dev/zero"), "too long\n");
             assert_eq!(bench.files(), files);
             for device in ["/dev/null", "/dev/zero"] {

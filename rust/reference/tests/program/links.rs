@@ -14,13 +14,13 @@ fn links_stay() {
         fs::rename(bench.path("image"), bench.path("far/behind")).expect("a rename");
         symlink("behind", bench.path("far/link")).expect("a link");
         symlink("far/link", bench.path("image")).expect("a link");
-        assert_eq!(line(&bench.fit()), "0 0\n");
+        assert_eq!(line(&bench.fit()), "0 0 0\n");
         assert_eq!(bench.read("far/behind")[64..68], [1, 2, 3, 4]);
         for name in ["image", "far/link"] {
             let link = fs::symlink_metadata(bench.path(name)).expect("the link is there");
             assert!(link.is_symlink());
         }
-        assert_eq!(line(&bench.take_back()), "0 0\n");
+        assert_eq!(line(&bench.take_back()), "0 0 0\n");
         assert_eq!(bench.read("far/behind"), good().image);
     });
 }
@@ -31,7 +31,7 @@ fn second_names() {
     on_both(|program| {
         let bench = Bench::new(program, &good());
         fs::hard_link(bench.path("image"), bench.path("other")).expect("a second name");
-        assert_eq!(line(&bench.fit()), "0 0\n");
+        assert_eq!(line(&bench.fit()), "0 0 0\n");
         assert_eq!(bench.read("image")[64..68], [1, 2, 3, 4]);
         assert_eq!(bench.read("other"), good().image);
     });
@@ -52,7 +52,7 @@ fn modes() {
                 fs::set_permissions(bench.path(name), kept).expect("permissions");
             }
             for call in [Bench::fit, Bench::take_back] {
-                assert_eq!(line(&call(&bench)), "0 0\n");
+                assert_eq!(line(&call(&bench)), "0 0 0\n");
                 assert_eq!((mode("image"), mode("ledger")), (image, ledger));
             }
         }

@@ -8,7 +8,7 @@ use testing::vectors::{bytes, bytes_after, lines};
 
 /// Runs a call over the bench's files and compares its line. A file that is
 /// longer than the program takes gives another.
-fn call(bench: &Bench, at: usize, command: &str, inputs: &[&str], expected: [&str; 2]) {
+fn call(bench: &Bench, at: usize, command: &str, inputs: &[&str], expected: &[&str]) {
     let names = if command == "fit" {
         &FIT[1..]
     } else {
@@ -19,7 +19,7 @@ fn call(bench: &Bench, at: usize, command: &str, inputs: &[&str], expected: [&st
     }
     let output = bench.run(if command == "fit" { &FIT } else { &TAKE_BACK });
     let too_long = names.iter().any(|name| bench.read(name).len() > 65_536);
-    let answer = format!("{} {}\n", expected[0], expected[1]);
+    let answer = expected.join(" ") + "\n";
     let asked = if too_long { "too long\n" } else { &answer };
     assert_eq!(line(&output), asked, "line {at}");
     assert_eq!(bench.files().len(), 4, "line {at}");
@@ -29,29 +29,25 @@ fn call(bench: &Bench, at: usize, command: &str, inputs: &[&str], expected: [&st
 fn calls() {
     on_both(|program| {
         let bench = Bench::new(program, &empty());
-        let mut numbers = BTreeSet::new();
+        let (mut numbers, mut reasons) = (BTreeSet::new(), BTreeSet::new());
         for (at, words) in lines("calls.txt") {
             let words: Vec<&str> = words.iter().map(String::as_str).collect();
-            let (inputs, expected) = words.split_at(words.len() - 4);
-            call(
-                &bench,
-                at,
-                inputs[0],
-                &inputs[1..],
-                [expected[0], expected[1]],
-            );
+            let (inputs, expected) = words.split_at(words.len() - 5);
+            call(&bench, at, inputs[0], &inputs[1..], &expected[..3]);
             numbers.insert(expected[0].to_string());
+            reasons.insert(expected[2].to_string());
             let [image, ledger] = [inputs.len() - 2, inputs.len() - 1].map(|i| bytes(inputs[i]));
             assert!(
-                bench.read("image") == bytes_after(expected[2], &image),
+                bench.read("image") == bytes_after(expected[3], &image),
                 "line {at}"
             );
             assert!(
-                bench.read("ledger") == bytes_after(expected[3], &ledger),
+                bench.read("ledger") == bytes_after(expected[4], &ledger),
                 "line {at}"
             );
         }
         assert_eq!(numbers.len(), 17, "each number from 0 to 16");
+        assert_eq!(reasons.len(), 8, "each reason from 1 to 7, and 0");
     });
 }
 
@@ -70,10 +66,10 @@ fn histories() {
                     assert!(bench.read("image") == bytes(image), "line {at}");
                     assert!(bench.read("ledger") == bytes(ledger), "line {at}");
                 }
-                ["fit", object, order, number, place] => {
-                    call(&bench, at, "fit", &[object, order], [number, place]);
+                ["fit", object, order, ref expected @ ..] => {
+                    call(&bench, at, "fit", &[object, order], expected);
                 }
-                ["take-back", number, place] => call(&bench, at, "take-back", &[], [number, place]),
+                ["take-back", ref expected @ ..] => call(&bench, at, "take-back", &[], expected),
                 _ => panic!("a line that is no call"),
             }
         }

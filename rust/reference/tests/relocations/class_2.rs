@@ -52,7 +52,7 @@ fn high_halves() -> Vec<Case> {
                 let after = words(&[high << 12 | opcode]);
                 cases.push(Case::done(name(x), &fit(x), &after));
             }
-            cases.extend(TOO_FAR.map(|x| Case::new(name(x), &fit(x), (13, 0))));
+            cases.extend(TOO_FAR.map(|x| Case::new(name(x), &fit(x), (13, 0, 0))));
         }
     }
     cases
@@ -78,9 +78,9 @@ fn calls() -> Vec<Case> {
             for (x, first, second) in rows {
                 let after = words(&[first, second]);
                 cases.push(Case::done(name(x), &fit(x), &after));
-                cases.push(Case::new(name(x + 1), &fit(x + 1), (13, 0)));
+                cases.push(Case::new(name(x + 1), &fit(x + 1), (13, 0, 0)));
             }
-            cases.extend(TOO_FAR.map(|x| Case::new(name(x), &fit(x), (13, 0))));
+            cases.extend(TOO_FAR.map(|x| Case::new(name(x), &fit(x), (13, 0, 0))));
         }
     }
     cases
@@ -93,14 +93,14 @@ fn jumps() -> Vec<Case> {
         (0, TOP - 1, 0, DONE),
         (TOP - 15, 0, 0, DONE),
         (TOP - 15, TOP - 1, 0, DONE),
-        (0, 0xFFFF_FFFE, 0, (13, 0)),
-        (0xFFFF_FFF0, 0, 0, (13, 0)),
+        (0, 0xFFFF_FFFE, 0, (13, 0, 0)),
+        (0xFFFF_FFF0, 0, 0, (13, 0, 0)),
         (0xFFFF_FFF0, 1 << 32, 0, DONE),
         (1 << 32, 0xFFFF_FFF0, 0, DONE),
         ((1 << 63) - 8, 1 << 63, 0, DONE),
         (1 << 63, (1 << 63) - 8, 0, DONE),
-        (0, 1 << 32, 0, (13, 0)),
-        (FAR, PLACE, 0, (13, 0)),
+        (0, 1 << 32, 0, (13, 0, 0)),
+        (FAR, PLACE, 0, (13, 0, 0)),
         (0, TOP - 1, 4, DONE),
         (TOP - 15, 2, -4, DONE),
         (0, 1 << 63, i64::MIN, DONE),
@@ -180,12 +180,12 @@ fn words_of_64() -> Vec<Case> {
     let rows: [Row; 9] = [
         ("alone", 8, &[(0, WORD_64)], DONE),
         ("at an odd address", 9, &[(1, WORD_64)], DONE),
-        ("a byte too few", 8, &[(1, WORD_64)], (9, 0)),
+        ("a byte too few", 8, &[(1, WORD_64)], (9, 0, 0)),
         ("two", 16, &[(0, WORD_64), (8, WORD_64)], DONE),
-        ("overlapping", 16, &[(0, WORD_64), (7, WORD_64)], (9, 1)),
-        ("twice", 8, &[(0, WORD_64), (0, WORD_64)], (9, 1)),
-        ("before ADD64", 8, &[(0, WORD_64), (0, ADD64)], (9, 1)),
-        ("behind ADD64", 8, &[(0, ADD64), (0, WORD_64)], (9, 1)),
+        ("overlapping", 16, &[(0, WORD_64), (7, WORD_64)], (9, 1, 0)),
+        ("twice", 8, &[(0, WORD_64), (0, WORD_64)], (9, 1, 0)),
+        ("before ADD64", 8, &[(0, WORD_64), (0, ADD64)], (9, 1, 0)),
+        ("behind ADD64", 8, &[(0, ADD64), (0, WORD_64)], (9, 1, 0)),
         ("and a word", 12, &[(0, WORD_64), (8, WORD)], DONE),
     ];
     let case = |(name, size, list, answer): Row| {
@@ -202,7 +202,7 @@ fn words_of_64() -> Vec<Case> {
 fn forms() -> Vec<Case> {
     let mut cases = Vec::new();
     for funct3 in 0..8 {
-        let answer = if funct3 == 0 { DONE } else { (11, 0) };
+        let answer = if funct3 == 0 { DONE } else { (11, 0, 0) };
         let code = words(&[0x0005_051B | funct3 << 12, 0x17]);
         let symbols = [Symbol::absolute(PLACE), Symbol::new(0, 1, 4)];
         for (kind, symbol) in [(LO12_I, 1), (PCREL_LO12_I, 2)] {
@@ -217,13 +217,13 @@ fn forms() -> Vec<Case> {
         for (kind, code) in [(LO12_S, 0x0005_051B), (HI20, 0x51B), (PCREL_HI20, 0x51B)] {
             let fit = one_64(kind, &words(&[code | funct3 << 12]), PLACE, PLACE);
             let name = format!("type {kind} on 0x1B with funct3 {funct3}");
-            cases.push(Case::new(name, &fit, (11, 0)));
+            cases.push(Case::new(name, &fit, (11, 0, 0)));
         }
         for quadrant in 0..4 {
             let word = (funct3 << 13) | 0x0A54 | quadrant;
             let is_right = quadrant == 1 && funct3 == 5;
             let fit = one_64(RVC_JUMP, &low_bytes(u64::from(word), 2), PLACE, PLACE);
-            let answer = if is_right { DONE } else { (11, 0) };
+            let answer = if is_right { DONE } else { (11, 0, 0) };
             cases.push(Case::new(format!("RVC_JUMP on {word:x}"), &fit, answer));
         }
     }
@@ -243,7 +243,7 @@ fn types() -> Vec<Case> {
                 Relocation::new(4, kind, 1, 0),
             ];
             let fit = at_64(PLACE, &[0; 12], &[Symbol::absolute(0)], &list);
-            cases.push(Case::new(format!("type {kind:#x}"), &fit, (9, 1)));
+            cases.push(Case::new(format!("type {kind:#x}"), &fit, (9, 1, 0)));
         }
     }
     cases
@@ -259,23 +259,23 @@ fn whole_numbers() -> Vec<Case> {
             let list = [Relocation::new(offset, kind, 1, 0)];
             let fit = at_64(PLACE, &[0; 8], &[Symbol::absolute(0)], &list);
             let name = format!("type {kind} at {offset:x}");
-            cases.push(Case::new(name, &fit, (9, 0)));
+            cases.push(Case::new(name, &fit, (9, 0, 0)));
         }
     }
     for addend in [1 << 32, (1 << 32) + 6, -(1 << 32), i64::MIN, i64::MAX - 1] {
         let list = [Relocation::new(0, ALIGN, 0, addend)];
         let fit = at_64(PLACE, &[0; 16], &[], &list);
-        cases.push(Case::new(format!("ALIGN, A {addend}"), &fit, (9, 0)));
+        cases.push(Case::new(format!("ALIGN, A {addend}"), &fit, (9, 0, 0)));
     }
     let rows: [(u64, u64, Answer); 8] = [
         (8, 8, DONE),
-        (8, ABOVE + 8, (12, 0)),
-        (ABOVE + 8, 8, (12, 0)),
-        (ABOVE + 8, ABOVE + 8, (9, 1)),
-        (TOP, TOP, (9, 1)),
-        (TOP, TOP - 1, (12, 0)),
-        (1 << 63, 1 << 63, (9, 1)),
-        (1 << 63, 0, (12, 0)),
+        (8, ABOVE + 8, (12, 0, 0)),
+        (ABOVE + 8, 8, (12, 0, 0)),
+        (ABOVE + 8, ABOVE + 8, (9, 1, 0)),
+        (TOP, TOP, (9, 1, 0)),
+        (TOP, TOP - 1, (12, 0, 0)),
+        (1 << 63, 1 << 63, (9, 1, 0)),
+        (1 << 63, 0, (12, 0, 0)),
     ];
     for (high, label, answer) in rows {
         let symbols = [Symbol::absolute(PLACE), Symbol::new(0, 1, label)];
@@ -289,7 +289,7 @@ fn whole_numbers() -> Vec<Case> {
     }
     let symbols = [1, 2, 256, 1 << 24, u32::MAX].map(|symbol| {
         let list = [Relocation::new(0, WORD, symbol, 0)];
-        let answer = if symbol == 1 { DONE } else { (10, 0) };
+        let answer = if symbol == 1 { DONE } else { (10, 0, 1) };
         let fit = at_64(PLACE, &[0; 4], &[Symbol::absolute(0)], &list);
         Case::new(format!("symbol {symbol:#x}"), &fit, answer)
     });
@@ -318,11 +318,15 @@ fn pairs() -> Vec<Case> {
         let name = |what: &str| format!("pair from {place:x}, {what}");
         cases.push(Case::done(name("lowest"), &with(place, LOWEST), &lowest));
         cases.push(Case::done(name("highest"), &with(place, HIGHEST), &highest));
-        cases.push(Case::new(name("lower"), &with(place, LOWEST - 1), (13, 0)));
+        cases.push(Case::new(
+            name("lower"),
+            &with(place, LOWEST - 1),
+            (13, 0, 0),
+        ));
         cases.push(Case::new(
             name("higher"),
             &with(place, HIGHEST + 1),
-            (13, 0),
+            (13, 0, 0),
         ));
     }
     // The low half comes first, and its pair is too far: the pair is named.
@@ -334,7 +338,11 @@ fn pairs() -> Vec<Case> {
             Relocation::new(4, PCREL_HI20, 1, 0),
         ];
         let fit = at_64(PLACE, &words(&[0x5_0513, 0x517]), &symbols, &list);
-        cases.push(Case::new(format!("a far pair, {distance}"), &fit, (13, 1)));
+        cases.push(Case::new(
+            format!("a far pair, {distance}"),
+            &fit,
+            (13, 1, 0),
+        ));
     }
     // Low halves of an address that no high half leads to.
     for (kind, before, after) in [
@@ -354,11 +362,11 @@ fn padding() -> Vec<Case> {
         (TOP - 15, 16, 0, DONE),
         (TOP - 15, 14, 2, DONE),
         (TOP - 15, 2, 14, DONE),
-        (TOP - 15, 1, 14, (14, 2)),
-        (TOP - 15, 0, 14, (14, 2)),
-        (TOP - 15, 16, 2, (9, 2)),
+        (TOP - 15, 1, 14, (14, 2, 0)),
+        (TOP - 15, 0, 14, (14, 2, 0)),
+        (TOP - 15, 16, 2, (9, 2, 0)),
         ((1 << 32) - 6, 0, 6, DONE),
-        ((1 << 32) - 4, 0, 6, (14, 2)),
+        ((1 << 32) - 4, 0, 6, (14, 2, 0)),
         (FAR + 2, 0, 6, DONE),
     ];
     let case = |(address, offset, addend, answer): (u64, u64, i64, Answer)| {
@@ -393,7 +401,7 @@ fn places() -> Vec<Case> {
     let second = [Relocation::new(0, PCREL_LO12_I, 3, 0)];
     fit.sections.push(Section::relocations(4, 2, &second));
     fit.placements.push((4, PLACE + 16));
-    let mut cases = vec![Case::new("no pair in the second", &fit, (12, 3))];
+    let mut cases = vec![Case::new("no pair in the second", &fit, (12, 3, 0))];
 
     let with = |last: Relocation| {
         let mut list = vec![Relocation::new(0, NONE, 0, 0); 16_383];
@@ -413,10 +421,10 @@ fn places() -> Vec<Case> {
     let beside = with(Relocation::new(8, ALIGN, 0, 0));
     cases.push(Case::new("ALIGN at the last", &beside, DONE));
     let first = with(Relocation::new(9, NONE, 0, 0));
-    cases.push(Case::new("past the first", &first, (9, 16_383)));
+    cases.push(Case::new("past the first", &first, (9, 16_383, 0)));
     let mut second = kept;
     second.sections[4].bytes.truncate(7);
-    cases.push(Case::new("past the second", &second, (9, 32_767)));
+    cases.push(Case::new("past the second", &second, (9, 32_767, 0)));
     cases
 }
 

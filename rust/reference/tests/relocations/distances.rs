@@ -85,7 +85,7 @@ impl Jump {
         let odd = [low - 1, low + 1, -1, 1, 3, high - 1, high + 1];
         let far = [low - 4, low - 2, high + 2, high + 4, -(1 << 29), 1 << 30];
         let broken = odd.into_iter().chain(far);
-        cases.extend(broken.map(|d| Case::new(self.name(d), &self.over(d), (13, 0))));
+        cases.extend(broken.map(|d| Case::new(self.name(d), &self.over(d), (13, 0, 0))));
         cases
     }
 
@@ -115,8 +115,8 @@ impl Jump {
             ("to the top", 0xFFFF_FFF0, 0xFFFF_FFFE, DONE),
             ("up across 2^31", 0x7FFF_FFF8, 0x8000_0006, DONE),
             ("down across 2^31", 0x8000_0006, 0x7FFF_FFF8, DONE),
-            ("2^31 up", 0, 0x8000_0000, (13, 0)),
-            ("2^31 down", 0x8000_0000, 0, (13, 0)),
+            ("2^31 up", 0, 0x8000_0000, (13, 0, 0)),
+            ("2^31 down", 0x8000_0000, 0, (13, 0, 0)),
         ];
         rows.iter()
             .map(|(name, p, t, answer)| Case::new(self.name(name), &self.jumping(*p, *t), *answer))
@@ -153,7 +153,7 @@ impl Jump {
             (last, high + 1),
             (last, high + 2),
         ];
-        cases.extend(broken.map(|(p, d)| Case::new(name(d), &over(p, d), (13, 0))));
+        cases.extend(broken.map(|(p, d)| Case::new(name(d), &over(p, d), (13, 0, 0))));
         cases.into_iter().map(Case::only_in_class_1).collect()
     }
 
@@ -164,7 +164,7 @@ impl Jump {
             (0xFFFF_FFF0, 2, -4, DONE),
             (0, 0, -2, DONE),
             (0, 0x8000_0000, LOWEST, DONE),
-            (0x7FFF_FFF8, 0, HIGHEST, (13, 0)),
+            (0x7FFF_FFF8, 0, HIGHEST, (13, 0, 0)),
             (0x7FFF_FFF8, 1, HIGHEST, DONE),
             (0x8000_0000, 0, LOWEST, DONE),
         ];
@@ -206,7 +206,7 @@ fn calls(kind: u32) -> Vec<Case> {
     });
     let broken = rows.map(|(p, t, _, _)| {
         let name = format!("type {kind}, from {p:x} to {t:x} + 1");
-        Case::new(name, &one(kind, &code, p, t + 1), (13, 0))
+        Case::new(name, &one(kind, &code, p, t + 1), (13, 0, 0))
     });
     kept.into_iter().chain(broken).collect()
 }

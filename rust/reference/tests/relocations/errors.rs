@@ -42,10 +42,10 @@ fn jumps() -> Vec<Case> {
             PLACE + 1_048_574,
             DONE,
         ),
-        to("jal 1,048,576", JAL, 0xEF, PLACE + 1_048_576, (13, 0)),
+        to("jal 1,048,576", JAL, 0xEF, PLACE + 1_048_576, (13, 0, 0)),
         word("branch -4", BRANCH, 0x63, PLACE - 4, 0xFE00_0EE3),
         to("branch 4,094, bit 0 set", BRANCH, 0x63, PLACE + 4_094, DONE),
-        to("branch 4,096", BRANCH, 0x63, PLACE + 4_096, (13, 0)),
+        to("branch 4,096", BRANCH, 0x63, PLACE + 4_096, (13, 0, 0)),
         short("c.j -2, bit 0 set", RVC_JUMP, 0xA001, PLACE - 2, 0xBFFD),
         short("c.beqz 8, bit 0 set", RVC_BRANCH, 0xC101, PLACE + 8, 0xC501),
     ]
@@ -68,10 +68,10 @@ fn jumps_without_compressed() -> Vec<Case> {
         Case::done("call, bit 0 clear", &call, &call_after),
         Case::done("jal 8, bit 0 clear", &jal_8, &words(&[0x0080_00EF])),
         Case::done("branch -4, bit 0 clear", &branch_4, &words(&[0xFE00_0EE3])),
-        Case::new("jal 1,048,574, bit 0 clear", &long_jal, (13, 0)),
-        Case::new("branch 4,094, bit 0 clear", &long_branch, (13, 0)),
-        Case::new("c.j -2, bit 0 clear", &jump, (9, 0)),
-        Case::new("c.beqz 8, bit 0 clear", &short, (9, 0)),
+        Case::new("jal 1,048,574, bit 0 clear", &long_jal, (13, 0, 0)),
+        Case::new("branch 4,094, bit 0 clear", &long_branch, (13, 0, 0)),
+        Case::new("c.j -2, bit 0 clear", &jump, (9, 0, 0)),
+        Case::new("c.beqz 8, bit 0 clear", &short, (9, 0, 0)),
     ]
 }
 
@@ -103,7 +103,7 @@ fn data_and_padding() -> Vec<Case> {
         Case::done("ADD8", &one(ADD8, &[0xF0], PLACE, 0x20), &[0x10]),
         Case::done("SUB6", &one(SUB6, &[0xC1], PLACE, 2), &[0xFF]),
         Case::done("ALIGN at 0x1002", &align(0x1002), &[0; 8]),
-        Case::new("ALIGN at 0x1000", &align(0x1000), (14, 0)),
+        Case::new("ALIGN at 0x1000", &align(0x1000), (14, 0, 0)),
     ]
 }
 
@@ -139,7 +139,7 @@ fn strong_symbol_without_value() -> Vec<Case> {
     };
     let weak = undefined(WEAK);
     vec![
-        Case::new("strong without a value", &undefined(GLOBAL), (10, 0)),
+        Case::new("strong without a value", &undefined(GLOBAL), (10, 0, 5)),
         Case::done("weak without a value", &weak, &words(&[0x44])),
     ]
 }

@@ -61,18 +61,26 @@ fn places() -> Vec<Case> {
         case("no relocation", &[], DONE),
         case("empty sections", &[(1, &[]), (4, &[]), (7, &[])], DONE),
         case("none broken", &[first_two, second_two, (7, &[KEPT])], DONE),
-        case("the first", &[(1, &[FAR]), shape], (13, 0)),
-        case("the second", &[(1, &[KEPT, FAR]), shape], (13, 1)),
-        case("third", &[(1, &[KEPT, KEPT_NEXT, FORM]), shape], (11, 2)),
-        case("in the next", &[one, (4, &[FAR]), (7, &[SHAPE])], (13, 1)),
-        case("its second", &[one, (4, &[KEPT, SYMBOL])], (10, 2)),
+        case("the first", &[(1, &[FAR]), shape], (13, 0, 0)),
+        case("the second", &[(1, &[KEPT, FAR]), shape], (13, 1, 0)),
+        case("third", &[(1, &[KEPT, KEPT_NEXT, FORM]), shape], (11, 2, 0)),
+        case(
+            "in the next",
+            &[one, (4, &[FAR]), (7, &[SHAPE])],
+            (13, 1, 0),
+        ),
+        case("its second", &[one, (4, &[KEPT, SYMBOL])], (10, 2, 1)),
         case(
             "in the last",
             &[one, second_two, (7, &[KEPT, OFF])],
-            (14, 4),
+            (14, 4, 0),
         ),
-        case("behind an empty one", &[(1, &[]), (4, &[FORM])], (11, 0)),
-        case("behind two", &[one, (4, &[]), (7, &[KEPT, FORM])], (11, 2)),
+        case("behind an empty one", &[(1, &[]), (4, &[FORM])], (11, 0, 0)),
+        case(
+            "behind two",
+            &[one, (4, &[]), (7, &[KEPT, FORM])],
+            (11, 2, 0),
+        ),
     ]
 }
 
@@ -82,7 +90,7 @@ fn sections() -> Vec<Case> {
     let late: List = (1, &[(12, NONE, 0, 0)]);
     let one: List = (7, &[KEPT]);
     vec![
-        case("does not count", &[note, (4, &[KEPT, FAR])], (13, 1)),
+        case("does not count", &[note, (4, &[KEPT, FAR])], (13, 1, 0)),
         case(
             "none counts",
             &[note, note, (31, &[OFF]), (32, &[FAR])],
@@ -91,9 +99,13 @@ fn sections() -> Vec<Case> {
         case(
             "by RELA section",
             &[one, (1, &[KEPT, FORM]), (4, &[FAR])],
-            (11, 2),
+            (11, 2, 0),
         ),
-        case("higher one first", &[(7, &[FAR]), (1, &[SHAPE])], (13, 0)),
+        case(
+            "higher one first",
+            &[(7, &[FAR]), (1, &[SHAPE])],
+            (13, 0, 0),
+        ),
         case("offsets start anew", &[late, (4, &[KEPT]), one], DONE),
         case(
             "overlap starts anew",
@@ -106,11 +118,11 @@ fn sections() -> Vec<Case> {
 /// "each through 9 to 14 before the next"
 fn two_relocations() -> Vec<Case> {
     let broken = [
-        ((9, 0), (0, 3, 1, 0)),
-        ((10, 0), (0, JAL, 9, 0)),
-        ((11, 0), (0, BRANCH, 1, 0)),
-        ((13, 0), (0, JAL, 1, 1)),
-        ((14, 0), (0, ALIGN, 1, 2)),
+        ((9, 0, 0), (0, 3, 1, 0)),
+        ((10, 0, 1), (0, JAL, 9, 0)),
+        ((11, 0, 0), (0, BRANCH, 1, 0)),
+        ((13, 0, 0), (0, JAL, 1, 1)),
+        ((14, 0, 0), (0, ALIGN, 1, 2)),
     ];
     let mut cases = Vec::new();
     for (answer, first) in broken {
@@ -125,27 +137,29 @@ fn two_relocations() -> Vec<Case> {
 
 /// Two faults of one relocation: the lower number.
 fn two_faults() -> Vec<Case> {
-    let rows: [(Entry, u32); 13] = [
-        ((1, JAL, 9, 0), 10),
-        ((14, JAL, 9, 0), 9),
-        ((13, JAL, 1, 1), 9),
-        ((0, BRANCH, 9, 1), 10),
-        ((0, BRANCH, 1, 1), 11),
-        ((1, JAL, 1, 0), 11),
-        ((0, JAL, 1, 1), 13),
-        ((0, PCREL_LO12_I, 9, 1), 9),
-        ((0, PCREL_LO12_I, 9, 0), 10),
-        ((0, PCREL_LO12_I, 2, 0), 11),
-        ((1, ALIGN, 1, 1), 9),
-        ((15, ALIGN, 1, 2), 9),
-        ((1, ALIGN, 1, 2), 14),
+    let rows: [(Entry, Answer); 15] = [
+        ((1, JAL, 9, 0), (10, 0, 1)),
+        ((14, JAL, 9, 0), (9, 0, 0)),
+        ((13, JAL, 1, 1), (9, 0, 0)),
+        ((0, BRANCH, 9, 1), (10, 0, 1)),
+        ((0, BRANCH, 1, 1), (11, 0, 0)),
+        ((1, JAL, 1, 0), (11, 0, 0)),
+        ((0, JAL, 1, 1), (13, 0, 0)),
+        ((0, PCREL_LO12_I, 9, 1), (9, 0, 0)),
+        ((0, PCREL_LO12_I, 9, 0), (10, 0, 1)),
+        ((0, PCREL_LO12_I, 1, 1), (9, 0, 0)),
+        ((0, PCREL_LO12_I, 1, 0), (10, 0, 7)),
+        ((0, PCREL_LO12_I, 2, 0), (11, 0, 0)),
+        ((1, ALIGN, 1, 1), (9, 0, 0)),
+        ((15, ALIGN, 1, 2), (9, 0, 0)),
+        ((1, ALIGN, 1, 2), (14, 0, 0)),
     ];
-    let case = |(entry, number): (Entry, u32)| {
+    let case = |(entry, answer): (Entry, Answer)| {
         let mut fit = with(&[(1, &[entry])]);
         let label = Symbol::new(0, 1, 4);
         let symbols = [Symbol::default(), Symbol::absolute(PLACE), label];
         fit.sections[2] = Section::symbols(&symbols);
-        Case::new(format!("{entry:?} alone"), &fit, (number, 0))
+        Case::new(format!("{entry:?} alone"), &fit, answer)
     };
     rows.map(case).into_iter().collect()
 }
@@ -176,7 +190,7 @@ fn many() -> Vec<Case> {
     };
     vec![
         Case::done("32,768 relocations", &with(ADD8), &[0x6A]),
-        Case::new("the last of 32,768", &with(ADD16), (9, 32_767)),
+        Case::new("the last of 32,768", &with(ADD16), (9, 32_767, 0)),
     ]
 }
 

@@ -58,7 +58,11 @@ impl Jump {
     fn over(&self, class: Class, place: u64, distance: i64) -> Vec<Case> {
         let fit = self.fit(class, place, distance);
         let case = |(flags, step): (u32, i64)| {
-            let answer = if distance % step == 0 { DONE } else { (13, 0) };
+            let answer = if distance % step == 0 {
+                DONE
+            } else {
+                (13, 0, 0)
+            };
             let kind = self.kind;
             let name = format!("e_flags {flags:x}, type {kind} from {place:x} over {distance}");
             Case::new(name, &fit.clone().with_flags(flags), answer).only_in_class_1()
@@ -114,7 +118,7 @@ fn ends() -> Vec<Case> {
     let far = far.map(|(which, distance)| {
         let fit = JUMPS[which].fit(Class::Elf32, MIDDLE, distance);
         let name = format!("bit 0 clear, type {} over {distance}", JUMPS[which].kind);
-        Case::new(name, &fit.with_flags(0), (13, 0))
+        Case::new(name, &fit.with_flags(0), (13, 0, 0))
     });
     done.into_iter().chain(far).collect()
 }
@@ -122,13 +126,13 @@ fn ends() -> Vec<Case> {
 /// In class 2 the ends of a call are multiples of 4, or two bytes beside one.
 fn ends_of_a_call() -> Vec<Case> {
     let rows: [(i64, Answer); 7] = [
-        (-2_147_485_700, (13, 0)),
+        (-2_147_485_700, (13, 0, 0)),
         (-2_147_485_696, DONE),
-        (-2_147_485_694, (13, 0)),
+        (-2_147_485_694, (13, 0, 0)),
         (-2_147_485_692, DONE),
         (2_147_481_596, DONE),
-        (2_147_481_598, (13, 0)),
-        (2_147_481_600, (13, 0)),
+        (2_147_481_598, (13, 0, 0)),
+        (2_147_481_600, (13, 0, 0)),
     ];
     let mut cases = Vec::new();
     for jump in &JUMPS[2..] {
@@ -152,7 +156,7 @@ fn types() -> Vec<Case> {
         let is_short = kind == RVC_BRANCH || kind == RVC_JUMP;
         let is_storing = STORING.iter().any(|(number, _, _)| *number == kind);
         let is_taken = (is_storing && !is_short) || MARKERS.contains(&kind);
-        let stated = if is_taken { DONE } else { (9, 1) };
+        let stated = if is_taken { DONE } else { (9, 1, 0) };
         let fit = of_type(kind).with_flags(0);
         let case = Case::new(format!("bit 0 clear, type {kind}"), &fit, stated);
         match kind {
@@ -169,13 +173,18 @@ fn short_and_broken() -> Vec<Case> {
     for (kind, word) in [(RVC_BRANCH, 0xC101), (RVC_JUMP, 0xA001)] {
         let rows: [(&str, Relocation, u32, Answer); 8] = [
             ("alone", Relocation::new(8, kind, 1, 0), word, DONE),
-            ("falls", Relocation::new(2, kind, 1, 0), word, (9, 1)),
-            ("overlaps", Relocation::new(6, kind, 1, 0), word, (9, 1)),
-            ("outside", Relocation::new(11, kind, 1, 0), word, (9, 1)),
-            ("symbol", Relocation::new(8, kind, 9, 0), word, (10, 1)),
-            ("form", Relocation::new(8, kind, 1, 0), 0xA002, (11, 1)),
-            ("odd", Relocation::new(8, kind, 1, 1), word, (13, 1)),
-            ("too far", Relocation::new(8, kind, 1, 8_192), word, (13, 1)),
+            ("falls", Relocation::new(2, kind, 1, 0), word, (9, 1, 0)),
+            ("overlaps", Relocation::new(6, kind, 1, 0), word, (9, 1, 0)),
+            ("outside", Relocation::new(11, kind, 1, 0), word, (9, 1, 0)),
+            ("symbol", Relocation::new(8, kind, 9, 0), word, (10, 1, 1)),
+            ("form", Relocation::new(8, kind, 1, 0), 0xA002, (11, 1, 0)),
+            ("odd", Relocation::new(8, kind, 1, 1), word, (13, 1, 0)),
+            (
+                "too far",
+                Relocation::new(8, kind, 1, 8_192),
+                word,
+                (13, 1, 0),
+            ),
         ];
         for (name, short, word, before) in rows {
             let code = words(&[0, 0, word]);
@@ -185,7 +194,7 @@ fn short_and_broken() -> Vec<Case> {
             cases.push(Case::new(name(RVC), &fit, before));
             for flags in [0, OTHERS] {
                 let fit = fit.clone().with_flags(flags);
-                cases.push(Case::new(name(flags), &fit, (9, 1)));
+                cases.push(Case::new(name(flags), &fit, (9, 1, 0)));
             }
         }
     }
@@ -200,29 +209,29 @@ fn turns() -> Vec<Case> {
     let branch = |offset| Relocation::new(offset, RVC_BRANCH, 1, 0);
     let code = words(&[0x6F, 0xC101_A001, 0x6F]);
     let rows: [(&str, Vec<Relocation>, Answer); 8] = [
-        ("between", vec![jal(0, 0), short(4), jal(8, 0)], (9, 1)),
-        ("two", vec![jal(0, 0), short(4), branch(6)], (9, 1)),
-        ("behind 13", vec![jal(0, 2), short(4)], (13, 0)),
+        ("between", vec![jal(0, 0), short(4), jal(8, 0)], (9, 1, 0)),
+        ("two", vec![jal(0, 0), short(4), branch(6)], (9, 1, 0)),
+        ("behind 13", vec![jal(0, 2), short(4)], (13, 0, 0)),
         (
             "behind 10",
             vec![Relocation::new(0, JAL, 9, 0), short(4)],
-            (10, 0),
+            (10, 0, 1),
         ),
         (
             "behind 11",
             vec![Relocation::new(0, BRANCH, 1, 0), short(4)],
-            (11, 0),
+            (11, 0, 0),
         ),
         (
             "behind 14",
             vec![Relocation::new(0, ALIGN, 0, 2), short(4)],
-            (14, 0),
+            (14, 0, 0),
         ),
-        ("before 13", vec![short(4), jal(8, 2)], (9, 0)),
+        ("before 13", vec![short(4), jal(8, 2)], (9, 0, 0)),
         (
             "before 9",
             vec![branch(6), Relocation::new(8, 3, 1, 0)],
-            (9, 0),
+            (9, 0, 0),
         ),
     ];
     let mut cases: Vec<Case> = rows
@@ -237,7 +246,11 @@ fn turns() -> Vec<Case> {
     let list = [jal(0, 0), jal(8, 2), short(12)];
     fit.sections.push(Section::relocations(4, 2, &list));
     fit.placements.push((4, PLACE + 16));
-    cases.push(Case::new("the second section", &fit.with_flags(0), (13, 2)));
+    cases.push(Case::new(
+        "the second section",
+        &fit.with_flags(0),
+        (13, 2, 0),
+    ));
     cases
 }
 
@@ -248,7 +261,7 @@ fn other_bits() -> Vec<Case> {
     let mut cases = Vec::new();
     for bit in 1..32 {
         for (fit, number) in [(&jump, 13), (&short, 9)] {
-            for (flags, answer) in [(1 << bit, (number, 0)), (1 << bit | RVC, DONE)] {
+            for (flags, answer) in [(1 << bit, (number, 0, 0)), (1 << bit | RVC, DONE)] {
                 let name = format!("e_flags {flags:x}, number {number}");
                 let fit = fit.clone().with_flags(flags);
                 cases.push(Case::new(name, &fit, answer));
@@ -262,7 +275,7 @@ fn other_bits() -> Vec<Case> {
 /// class 2 the upper half of e_phoff.
 fn other_places() -> Vec<Case> {
     let mut cases = Vec::new();
-    for (flags, answer) in [(0, (13, 0)), (RVC, DONE)] {
+    for (flags, answer) in [(0, (13, 0, 0)), (RVC, DONE)] {
         for count in [4, 5] {
             let mut fit = JUMPS[1].fit(Class::Elf32, MIDDLE, 2).with_flags(flags);
             fit.sections.resize(count, Section::default());
@@ -286,14 +299,14 @@ fn others() -> Vec<Case> {
     let mut cases = Vec::new();
     for (kind, word, width) in STORING {
         let is_short = kind == RVC_BRANCH || kind == RVC_JUMP;
-        let odd = if word == 0 { DONE } else { (11, 0) };
+        let odd = if word == 0 { DONE } else { (11, 0, 0) };
         for (address, answer) in [(0x1002, DONE), (0x1001, odd)] {
             let mut fit = forms::on(kind, word, width, address).with_flags(0);
             if address == 0x1001 {
                 // The pair behind it would stand at an odd address too.
                 fit.sections[3].relocations_mut().truncate(1);
             }
-            let answer = if is_short { (9, 0) } else { answer };
+            let answer = if is_short { (9, 0, 0) } else { answer };
             let name = format!("bit 0 clear, type {kind} at {address:x}");
             cases.push(Case::new(name, &fit, answer));
         }

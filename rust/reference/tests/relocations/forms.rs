@@ -21,7 +21,7 @@ pub fn on(kind: u32, word: u64, width: usize, address: u64) -> Fit {
 }
 
 fn case(kind: u32, word: u64, width: usize, is_right: bool) -> Case {
-    let answer = if is_right { DONE } else { (11, 0) };
+    let answer = if is_right { DONE } else { (11, 0, 0) };
     let name = format!("type {kind} on {word:x}");
     Case::new(name, &on(kind, word, width, PLACE), answer)
 }
@@ -118,7 +118,7 @@ fn addresses() -> Vec<Case> {
     let mut cases = Vec::new();
     for (kind, word, width) in STORING {
         let is_data = word == 0;
-        let odd = if is_data { DONE } else { (11, 0) };
+        let odd = if is_data { DONE } else { (11, 0, 0) };
         let name = |what: &str| format!("type {kind} {what}");
         let even_fit = on(kind, word, width, 0x1002);
         cases.push(Case::new(name("at 0x1002"), &even_fit, DONE));

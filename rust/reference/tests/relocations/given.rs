@@ -2,13 +2,13 @@
 //! that a linker lays.
 
 use crate::lines::{loaded_sections, starts_in_image};
-use crate::{Case, Laid};
+use crate::{Case, Laid, DONE};
 use testing::given::{histories, objects, vectors, Given};
 
 /// What the image has for each loaded section after a done fit.
 fn bytes(given: &Given) -> Vec<Laid> {
     match (&given.image, given.answer) {
-        (Some(image), (0, 0)) => {
+        (Some(image), DONE) => {
             let starts = starts_in_image(&given.object, &given.order);
             let sections = loaded_sections(&given.object).into_iter();
             sections

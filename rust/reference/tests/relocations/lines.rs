@@ -4,8 +4,9 @@ use reference::object::{Header, Object};
 use reference::order::Order;
 use reference::placement::{addresses, has_loaded_bytes};
 use reference::Class;
+use testing::numbers;
 
-use crate::{Answer, Case, Laid};
+use crate::{Answer, Case, Laid, DONE};
 
 /// The number and size of each loaded section of size above 0.
 pub fn loaded_sections(object: &[u8]) -> Vec<(usize, usize)> {
@@ -18,11 +19,10 @@ pub fn loaded_sections(object: &[u8]) -> Vec<(usize, usize)> {
         .collect()
 }
 
-/// Those sections with their bytes after relocation, or number and place of the
-/// first broken check of 2 to 14.
+/// Those sections with their bytes after relocation, or number, place and reason
+/// of the first broken check of 2 to 14.
 pub fn relocate(case: &Case) -> Result<Vec<Laid>, Answer> {
-    let plan = reference::judge(&case.object, &case.order, case.image_length)
-        .map_err(|answer| (answer.number, answer.place))?;
+    let plan = reference::judge(&case.object, &case.order, case.image_length).map_err(numbers)?;
     let numbers = loaded_sections(&case.object).into_iter();
     let pieces = plan.pieces.into_iter();
     Ok(numbers
@@ -50,17 +50,17 @@ pub fn starts(case: &Case) -> Vec<usize> {
 }
 
 pub fn answer(case: &Case) -> Answer {
-    relocate(case).err().unwrap_or((0, 0))
+    relocate(case).err().unwrap_or(DONE)
 }
 
 pub fn line(case: &Case) -> String {
     let digits = |bytes: &[u8]| -> String { bytes.iter().map(|b| format!("{b:02x}")).collect() };
     match relocate(case) {
-        Err((number, place)) => format!("{number} {place}"),
+        Err((number, place, reason)) => format!("{number} {place} {reason}"),
         Ok(sections) => {
             let words = sections.iter();
             let words = words.map(|(index, bytes)| format!(" {index} {}", digits(bytes)));
-            format!("0 0{}", words.collect::<String>())
+            format!("0 0 0{}", words.collect::<String>())
         }
     }
 }

@@ -28,14 +28,11 @@ use reference::install;
 use testing::build::{journal, Class, Fit};
 use testing::commands::Commands;
 use testing::compared::{assert_stated, Compared};
+use testing::counts::Counts;
+use testing::numbers;
+pub use testing::{Numbers as Answer, DONE};
 
 const PROGRAM: Compared = Compared("tests_relocations");
-
-/// Number and place.
-pub type Answer = (u32, u32);
-
-/// Document 01: "done".
-pub const DONE: Answer = (0, 0);
 
 /// A loaded section and its bytes after relocation.
 pub type Laid = (usize, Vec<u8>);
@@ -48,7 +45,7 @@ pub struct Case {
     pub object: Vec<u8>,
     pub order: Vec<u8>,
     pub image_length: usize,
-    /// Number and place of the first broken check of 2 to 14.
+    /// Number, place and reason of the first broken check of 2 to 14.
     pub stated: Option<Answer>,
     pub bytes: Vec<Laid>,
     /// What it was made of, if it is the same in class 2.
@@ -141,15 +138,15 @@ fn stated_bytes() {
     }
 }
 
-/// An install by the whole fitter gives the same number and place, and lays the
-/// same bytes one section after the other, by address.
+/// An install by the whole fitter gives the same answer, and lays the same bytes
+/// one section after the other, by address.
 #[test]
 fn answers_of_the_whole() {
     for case in cases().iter().filter(|case| case.image_length <= 1_048_576) {
         let mut image = vec![0; case.image_length];
         let mut journal = journal(case.image_length);
         let whole = install(&case.object, &case.order, &mut image, &mut journal);
-        assert_eq!(answer(case), (whole.number, whole.place), "{}", case.name);
+        assert_eq!(answer(case), numbers(whole), "{}", case.name);
         let sections = relocate(case).unwrap_or_default();
         let mut laid = vec![0; case.image_length];
         for (start, (_, bytes)) in lines::starts(case).into_iter().zip(sections) {
@@ -169,13 +166,26 @@ fn lines() {
     PROGRAM.assert_lines(cases().iter().map(|case| (&case.name, line(case))));
 }
 
+/// Every reason occurs often, in random pairs too.
+#[test]
+fn many_reasons() {
+    for (cases, often) in [(cases(), 20), (random::cases(), 1)] {
+        let mut counts = Counts::default();
+        for case in &cases {
+            counts.add(answer(case));
+        }
+        println!("{counts:?}");
+        assert!(counts.rarest_reason() >= often, "{:?}", counts.reasons);
+    }
+}
+
 /// Every answer of 9 to 14 occurs often, and at many places.
 #[test]
 fn many_answers() {
     let mut numbers = BTreeMap::new();
     let mut places = BTreeMap::new();
     for case in cases() {
-        let (number, place) = answer(&case);
+        let (number, place, _) = answer(&case);
         *numbers.entry(number).or_insert(0) += 1;
         *places.entry((number, place)).or_insert(0) += 1;
     }

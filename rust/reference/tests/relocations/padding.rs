@@ -52,7 +52,7 @@ fn offsets() -> Vec<Case> {
             let answer = if end.is_multiple_of(boundary) {
                 DONE
             } else {
-                (14, 0)
+                (14, 0, 0)
             };
             cases.push(case(PLACE, offset + addend, offset, addend, answer));
         }
@@ -66,9 +66,9 @@ fn long() -> Vec<Case> {
     for (addend, boundary) in LONG {
         let rows = [
             (boundary, DONE),
-            (boundary + 2, (14, 0)),
-            (boundary + boundary / 2, (14, 0)),
-            (boundary + 1, (14, 0)),
+            (boundary + 2, (14, 0, 0)),
+            (boundary + boundary / 2, (14, 0, 0)),
+            (boundary + 1, (14, 0, 0)),
         ];
         for (end, answer) in rows {
             cases.push(case(0x8000, end, end - addend, addend, answer));
@@ -81,21 +81,21 @@ fn long() -> Vec<Case> {
 fn addresses() -> Vec<Case> {
     let rows: [(u64, u64, u64, Answer); 16] = [
         (0x1002, 0, 6, DONE),
-        (0x1000, 0, 6, (14, 0)),
+        (0x1000, 0, 6, (14, 0, 0)),
         (0x1001, 1, 6, DONE),
-        (0x1001, 2, 6, (14, 0)),
+        (0x1001, 2, 6, (14, 0, 0)),
         (0x1000, 0, 0, DONE),
-        (0x1001, 0, 0, (14, 0)),
+        (0x1001, 0, 0, (14, 0, 0)),
         (0x1001, 1, 0, DONE),
         (0x1006, 0, 2, DONE),
-        (0x1004, 0, 2, (14, 0)),
-        (0x1005, 0, 2, (14, 0)),
+        (0x1004, 0, 2, (14, 0, 0)),
+        (0x1005, 0, 2, (14, 0, 0)),
         (0, 0, 0, DONE),
-        (0, 0, 2, (14, 0)),
+        (0, 0, 2, (14, 0, 0)),
         (0, 2, 6, DONE),
         (0x7FFF_FFFC, 0, 4, DONE),
         (0x7FFF_FFFE, 0, 2, DONE),
-        (0x7FFF_FFFE, 0, 4, (14, 0)),
+        (0x7FFF_FFFE, 0, 4, (14, 0, 0)),
     ];
     rows.map(|(address, offset, addend, answer)| case(address, 12, offset, addend, answer))
         .into_iter()
@@ -108,9 +108,9 @@ fn top() -> Vec<Case> {
         (0xFFFF_FFF0, 16, 0, DONE),
         (0xFFFF_FFF0, 14, 2, DONE),
         (0xFFFF_FFF0, 2, 14, DONE),
-        (0xFFFF_FFF0, 1, 14, (14, 0)),
-        (0xFFFF_FFF0, 0, 14, (14, 0)),
-        (0xFFFF_FFF0, 16, 2, (9, 0)),
+        (0xFFFF_FFF0, 1, 14, (14, 0, 0)),
+        (0xFFFF_FFF0, 0, 14, (14, 0, 0)),
+        (0xFFFF_FFF0, 16, 2, (9, 0, 0)),
     ];
     rows.map(|(address, offset, addend, answer)| case(address, 16, offset, addend, answer))
         .into_iter()
@@ -132,7 +132,7 @@ fn several() -> Vec<Case> {
     };
     vec![
         with("ALIGN around a word", 6, DONE),
-        with("the fourth ALIGN is off", 4, (14, 4)),
+        with("the fourth ALIGN is off", 4, (14, 4, 0)),
     ]
 }
 

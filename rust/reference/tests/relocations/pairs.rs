@@ -107,16 +107,16 @@ fn no_pair() -> Vec<Case> {
     let at_lui = [(4, PCREL_LO12_I, 6, 0), (16, HI20, 1, 0)];
     let crossed = (12, PCREL_LO12_S, 2, 0);
     vec![
-        refused("none", &[LOW], (12, 0)),
-        refused("elsewhere", &[LOW, NEXT_HIGH], (12, 0)),
-        refused("one word off", &[HIGH, off], (12, 1)),
-        refused("its own pair", &[off], (12, 0)),
-        refused("a marker instead", &[(0, RELAX, 1, 0), LOW], (12, 1)),
-        refused("a word instead", &[(0, WORD, 1, 0), LOW], (12, 1)),
-        refused("ADD32 instead", &[(0, ADD32, 1, 0), LOW], (12, 1)),
-        refused("HI20 instead", &at_lui, (12, 0)),
-        refused("not for the second", &[HIGH, LOW, STORE], (12, 2)),
-        refused("for neither", &[EARLY, crossed], (12, 0)),
+        refused("none", &[LOW], (12, 0, 0)),
+        refused("elsewhere", &[LOW, NEXT_HIGH], (12, 0, 0)),
+        refused("one word off", &[HIGH, off], (12, 1, 0)),
+        refused("its own pair", &[off], (12, 0, 0)),
+        refused("a marker instead", &[(0, RELAX, 1, 0), LOW], (12, 1, 0)),
+        refused("a word instead", &[(0, WORD, 1, 0), LOW], (12, 1, 0)),
+        refused("ADD32 instead", &[(0, ADD32, 1, 0), LOW], (12, 1, 0)),
+        refused("HI20 instead", &at_lui, (12, 0, 0)),
+        refused("not for the second", &[HIGH, LOW, STORE], (12, 2, 0)),
+        refused("for neither", &[EARLY, crossed], (12, 0, 0)),
     ]
 }
 
@@ -128,13 +128,13 @@ fn two_at_one_offset() -> Vec<Case> {
     let marked = [EARLY, NEXT_HIGH, marker, NEXT_HIGH];
     let unused = [HIGH, LOW, NEXT_HIGH, NEXT_HIGH];
     vec![
-        refused("two", &[EARLY, NEXT_HIGH, NEXT_HIGH], (12, 0)),
-        refused("two symbols", &[EARLY, NEXT_HIGH, other], (12, 0)),
-        refused("three", &three, (12, 0)),
-        refused("a marker between two", &marked, (12, 0)),
-        refused("the second far behind", &far, (12, 0)),
-        refused("two before", &[HIGH, HIGH, LOW], (9, 1)),
-        refused("two that no one asks for", &unused, (9, 3)),
+        refused("two", &[EARLY, NEXT_HIGH, NEXT_HIGH], (12, 0, 0)),
+        refused("two symbols", &[EARLY, NEXT_HIGH, other], (12, 0, 0)),
+        refused("three", &three, (12, 0, 0)),
+        refused("a marker between two", &marked, (12, 0, 0)),
+        refused("the second far behind", &far, (12, 0, 0)),
+        refused("two before", &[HIGH, HIGH, LOW], (9, 1, 0)),
+        refused("two that no one asks for", &unused, (9, 3, 0)),
     ]
 }
 
@@ -143,10 +143,10 @@ fn broken_pairs() -> Vec<Case> {
     let at_lui = [(4, PCREL_LO12_I, 6, 0), (16, PCREL_HI20, 1, 0)];
     let overlap = [EARLY, (8, WORD, 1, 0), NEXT_HIGH];
     vec![
-        refused("unresolved", &[EARLY, (8, PCREL_HI20, 99, 0)], (10, 1)),
-        refused("the pair falls", &[LOW, HIGH], (9, 1)),
-        refused("the pair's form", &at_lui, (11, 1)),
-        refused("the pair overlaps", &overlap, (9, 2)),
+        refused("unresolved", &[EARLY, (8, PCREL_HI20, 99, 0)], (10, 1, 1)),
+        refused("the pair falls", &[LOW, HIGH], (9, 1, 0)),
+        refused("the pair's form", &at_lui, (11, 1, 0)),
+        refused("the pair overlaps", &overlap, (9, 2, 0)),
     ]
 }
 
@@ -154,19 +154,19 @@ fn broken_pairs() -> Vec<Case> {
 fn label_values() -> Vec<Case> {
     let rows: [(u64, u64, Answer); 14] = [
         (0, 0, DONE),
-        (0, 1, (12, 1)),
-        (0, 2, (12, 1)),
-        (0, 0x100, (12, 1)),
-        (0, 0x1_0000, (12, 1)),
-        (0, PLACE, (12, 1)),
-        (0, u64::MAX, (12, 1)),
-        (0, 0_u64.wrapping_sub(PLACE), (12, 1)),
+        (0, 1, (12, 1, 0)),
+        (0, 2, (12, 1, 0)),
+        (0, 0x100, (12, 1, 0)),
+        (0, 0x1_0000, (12, 1, 0)),
+        (0, PLACE, (12, 1, 0)),
+        (0, u64::MAX, (12, 1, 0)),
+        (0, 0_u64.wrapping_sub(PLACE), (12, 1, 0)),
         (8, 8, DONE),
-        (8, 0, (12, 1)),
-        (16, 16, (11, 1)),
-        (17, 17, (9, 1)),
-        (20, 20, (9, 1)),
-        (u64::MAX, u64::MAX, (9, 1)),
+        (8, 0, (12, 1, 0)),
+        (16, 16, (11, 1, 0)),
+        (17, 17, (9, 1, 0)),
+        (20, 20, (9, 1, 0)),
+        (u64::MAX, u64::MAX, (9, 1, 0)),
     ];
     let case = |(high, label, answer): (u64, u64, Answer)| {
         let symbols = [Symbol::absolute(TARGET), Symbol::new(0, 1, label)];
@@ -212,11 +212,11 @@ fn other_sections() -> Vec<Case> {
     ];
     vec![
         each,
-        case("the pair in a later one", &[LOW], &[HIGH], (12, 0)),
-        case("the pair in an earlier one", &[HIGH], &[low], (12, 1)),
-        case("the other's label", &[HIGH, LOW], &[HIGH, LOW], (10, 3)),
-        case("the later one's label", &[HIGH, low], &[HIGH], (10, 1)),
-        case("none in the second", &[HIGH, LOW], &[low], (12, 2)),
+        case("the pair in a later one", &[LOW], &[HIGH], (12, 0, 0)),
+        case("the pair in an earlier one", &[HIGH], &[low], (12, 1, 0)),
+        case("the other's label", &[HIGH, LOW], &[HIGH, LOW], (10, 3, 7)),
+        case("the later one's label", &[HIGH, low], &[HIGH], (10, 1, 7)),
+        case("none in the second", &[HIGH, LOW], &[low], (12, 2, 0)),
         case("one in each", &[HIGH, LOW], &[HIGH, low], DONE),
     ]
 }

@@ -28,15 +28,20 @@ fn offsets() -> Vec<Row> {
     let row = |name, first, second, answer| (name, 12, vec![first, second], answer);
     vec![
         row("rises", (0, WORD, 0), (4, WORD, 0), DONE),
-        row("falls", (4, WORD, 0), (0, WORD, 0), (9, 1)),
-        row("falls by one", (5, WORD, 0), (4, WORD, 0), (9, 1)),
+        row("falls", (4, WORD, 0), (0, WORD, 0), (9, 1, 0)),
+        row("falls by one", (5, WORD, 0), (4, WORD, 0), (9, 1, 0)),
         row("markers stay", (4, RELAX, 0), (4, NONE, 0), DONE),
-        row("markers fall", (4, RELAX, 0), (3, RELAX, 0), (9, 1)),
-        row("NONE falls", (4, NONE, 0), (3, NONE, 0), (9, 1)),
-        row("ALIGN falls", (4, RELAX, 0), (2, ALIGN, 0), (9, 1)),
-        row("falls after ALIGN", (4, ALIGN, 0), (2, RELAX, 0), (9, 1)),
-        row("falls after a marker", (4, RELAX, 0), (0, WORD, 0), (9, 1)),
-        row("a marker falls", (4, WORD, 0), (3, NONE, 0), (9, 1)),
+        row("markers fall", (4, RELAX, 0), (3, RELAX, 0), (9, 1, 0)),
+        row("NONE falls", (4, NONE, 0), (3, NONE, 0), (9, 1, 0)),
+        row("ALIGN falls", (4, RELAX, 0), (2, ALIGN, 0), (9, 1, 0)),
+        row("falls after ALIGN", (4, ALIGN, 0), (2, RELAX, 0), (9, 1, 0)),
+        row(
+            "falls after a marker",
+            (4, RELAX, 0),
+            (0, WORD, 0),
+            (9, 1, 0),
+        ),
+        row("a marker falls", (4, WORD, 0), (3, NONE, 0), (9, 1, 0)),
         row("marker at a word", (4, WORD, 0), (4, RELAX, 0), DONE),
         row("marker in a word", (4, WORD, 0), (6, RELAX, 0), DONE),
         row("word at a marker", (4, RELAX, 0), (4, WORD, 0), DONE),
@@ -47,15 +52,15 @@ fn offsets() -> Vec<Row> {
 /// "a marker's offset is at most the row size"
 fn marker_offsets() -> Vec<Row> {
     let row = |name, size, offset, kind, answer| (name, size, vec![(offset, kind, 0)], answer);
-    let mut rows = vec![row("ALIGN far off", 8, u64::MAX - 1, ALIGN, (9, 0))];
+    let mut rows = vec![row("ALIGN far off", 8, u64::MAX - 1, ALIGN, (9, 0, 0))];
     for kind in MARKERS {
         rows.push(row("marker at the size", 8, 8, kind, DONE));
-        rows.push(row("marker one past the size", 8, 9, kind, (9, 0)));
-        rows.push(row("marker two past the size", 8, 10, kind, (9, 0)));
+        rows.push(row("marker one past the size", 8, 9, kind, (9, 0, 0)));
+        rows.push(row("marker two past the size", 8, 10, kind, (9, 0, 0)));
         rows.push(row("marker in an empty section", 0, 0, kind, DONE));
-        rows.push(row("marker past an empty section", 0, 1, kind, (9, 0)));
-        rows.push(row("marker far off", 8, u64::MAX, kind, (9, 0)));
-        rows.push(row("marker at 2^31", 8, 1 << 31, kind, (9, 0)));
+        rows.push(row("marker past an empty section", 0, 1, kind, (9, 0, 0)));
+        rows.push(row("marker far off", 8, u64::MAX, kind, (9, 0, 0)));
+        rows.push(row("marker at 2^31", 8, 1 << 31, kind, (9, 0, 0)));
     }
     rows
 }
@@ -79,11 +84,11 @@ fn ends() -> Vec<Case> {
         };
         let size = code.len();
         add(16, size, DONE);
-        add(16, size - 1, (9, 1));
-        add(17, size, (9, 1));
-        add(end, size, (9, 1));
-        add(u64::MAX, size, (9, 1));
-        add(0_u64.wrapping_sub(width as u64), size, (9, 1));
+        add(16, size - 1, (9, 1, 0));
+        add(17, size, (9, 1, 0));
+        add(end, size, (9, 1, 0));
+        add(u64::MAX, size, (9, 1, 0));
+        add(0_u64.wrapping_sub(width as u64), size, (9, 1, 0));
     }
     cases
 }
@@ -94,7 +99,7 @@ fn overlaps() -> Vec<Case> {
     for (first, width) in [(ADD8, 1), (SET16, 2), (WORD, 4), (SUB64, 8)] {
         for second in [WORD, WORD_PCREL, ADD8, SUB16, SET32, ADD64, SUB6] {
             for offset in 1..=width {
-                let answer = if offset < width { (9, 1) } else { DONE };
+                let answer = if offset < width { (9, 1, 0) } else { DONE };
                 let fit = zeros(16, &[(0, first, 0), (offset, second, 0)]);
                 let name = format!("type {first}, and type {second} {offset} behind");
                 cases.push(Case::new(name, &fit, answer));
@@ -116,7 +121,7 @@ fn data_in_instructions() -> Vec<Case> {
             for offset in 1..=width {
                 let code = [low_bytes(word, width), vec![0; 4]].concat();
                 let fit = two((first, 0), (second, offset as u64), &code);
-                let answer = if offset < width { (9, 1) } else { DONE };
+                let answer = if offset < width { (9, 1, 0) } else { DONE };
                 let name = format!("type {first}, and data {second} {offset} behind");
                 cases.push(Case::new(name, &fit, answer));
             }
@@ -137,32 +142,32 @@ type Overlap = (u32, (u32, u64), &'static [u32], Answer);
 
 /// Both relocations find the instruction that they ask for.
 const INSTRUCTIONS: [Overlap; 26] = [
-    (CALL, (LO12_I, 4), &[0x97, 0x80E7], (9, 1)),
+    (CALL, (LO12_I, 4), &[0x97, 0x80E7], (9, 1, 0)),
     (CALL, (LO12_I, 8), &[0x97, 0x80E7, 0x13], DONE),
-    (CALL_PLT, (LO12_I, 4), &[0x97, 0x80E7], (9, 1)),
+    (CALL_PLT, (LO12_I, 4), &[0x97, 0x80E7], (9, 1, 0)),
     (CALL_PLT, (LO12_I, 8), &[0x97, 0x80E7, 0x13], DONE),
-    (CALL, (PCREL_HI20, 2), &[0x0017_0097, 0x80E7], (9, 1)),
-    (CALL, (JAL, 2), &[0x006F_0097, 0x80E7], (9, 1)),
+    (CALL, (PCREL_HI20, 2), &[0x0017_0097, 0x80E7], (9, 1, 0)),
+    (CALL, (JAL, 2), &[0x006F_0097, 0x80E7], (9, 1, 0)),
     (CALL, (JAL, 8), &[0x97, 0x80E7, 0x6F], DONE),
-    (CALL, (RVC_JUMP, 2), &[0xA001_0097, 0x80E7], (9, 1)),
+    (CALL, (RVC_JUMP, 2), &[0xA001_0097, 0x80E7], (9, 1, 0)),
     // Through x3: bit 16 belongs to rs1, and to the jump's quadrant.
-    (CALL, (RVC_JUMP, 6), &[0x197, 0xA001_80E7], (9, 1)),
+    (CALL, (RVC_JUMP, 6), &[0x197, 0xA001_80E7], (9, 1, 0)),
     (CALL, (RVC_JUMP, 8), &[0x97, 0x80E7, 0xA001], DONE),
-    (JAL, (RVC_JUMP, 2), &[0xA001_006F], (9, 1)),
+    (JAL, (RVC_JUMP, 2), &[0xA001_006F], (9, 1, 0)),
     (JAL, (RVC_JUMP, 4), &[0x6F, 0xA001], DONE),
-    (JAL, (JAL, 2), &[0x006F_006F, 0], (9, 1)),
+    (JAL, (JAL, 2), &[0x006F_006F, 0], (9, 1, 0)),
     (JAL, (JAL, 4), &[0x6F, 0x6F], DONE),
-    (BRANCH, (RVC_BRANCH, 2), &[0xC101_0063], (9, 1)),
+    (BRANCH, (RVC_BRANCH, 2), &[0xC101_0063], (9, 1, 0)),
     (BRANCH, (RVC_BRANCH, 4), &[0x63, 0xC101], DONE),
     (RVC_BRANCH, (RVC_JUMP, 2), &[0xA001_C101], DONE),
     (RVC_JUMP, (JAL, 2), &[0x006F_A001, 0], DONE),
-    (HI20, (LO12_I, 2), &[0x0013_0037, 0], (9, 1)),
+    (HI20, (LO12_I, 2), &[0x0013_0037, 0], (9, 1, 0)),
     (HI20, (LO12_I, 4), &[0x37, 0x13], DONE),
-    (PCREL_HI20, (LO12_S, 2), &[0x0023_0017, 0], (9, 1)),
+    (PCREL_HI20, (LO12_S, 2), &[0x0023_0017, 0], (9, 1, 0)),
     (PCREL_HI20, (LO12_S, 4), &[0x17, 0x23], DONE),
-    (WORD, (JAL, 2), &[0x006F_0000, 0], (9, 1)),
+    (WORD, (JAL, 2), &[0x006F_0000, 0], (9, 1, 0)),
     (SET16, (JAL, 2), &[0x006F_0000, 0], DONE),
-    (ADD64, (CALL, 4), &[0, 0x97, 0x80E7], (9, 1)),
+    (ADD64, (CALL, 4), &[0, 0x97, 0x80E7], (9, 1, 0)),
     (ADD64, (CALL, 8), &[0, 0, 0x97, 0x80E7], DONE),
 ];
 
@@ -183,7 +188,7 @@ fn overlapping_instructions() -> Vec<Case> {
     }
     // No word is both a jalr and a jal, so that 11 is broken too: 9 is first.
     let fit = two((CALL, 0), (JAL, 4), &words(&[0x97, 0x80E7]));
-    cases.push(Case::new("JAL at a call's jalr", &fit, (9, 1)));
+    cases.push(Case::new("JAL at a call's jalr", &fit, (9, 1, 0)));
     cases
 }
 
@@ -196,12 +201,12 @@ fn markers_between() -> Vec<Row> {
     };
     let many = [(1, NONE, 0), (2, RELAX, 0), (2, ALIGN, 0), (3, NONE, 0)];
     vec![
-        over("overlap past RELAX", &[(2, RELAX, 0)], 3, (9, 2)),
-        over("overlap past NONE", &[(3, NONE, 0)], 3, (9, 2)),
-        over("overlap past ALIGN", &[(2, ALIGN, 0)], 3, (9, 2)),
-        over("overlap past many", &many, 3, (9, 5)),
+        over("overlap past RELAX", &[(2, RELAX, 0)], 3, (9, 2, 0)),
+        over("overlap past NONE", &[(3, NONE, 0)], 3, (9, 2, 0)),
+        over("overlap past ALIGN", &[(2, ALIGN, 0)], 3, (9, 2, 0)),
+        over("overlap past many", &many, 3, (9, 5, 0)),
         over("no overlap past many", &many, 4, DONE),
-        over("equal offset past a marker", &[(0, RELAX, 0)], 0, (9, 2)),
+        over("equal offset past a marker", &[(0, RELAX, 0)], 0, (9, 2, 0)),
     ]
 }
 
@@ -228,7 +233,7 @@ fn equal_offsets() -> Vec<Case> {
     pairs
         .map(|((first, width), (second, other))| {
             let may_share = *width > 0 && width == other;
-            let answer = if may_share { DONE } else { (9, 1) };
+            let answer = if may_share { DONE } else { (9, 1, 0) };
             let fit = zeros(8, &[(0, *first, 0), (0, *second, 0)]);
             Case::new(format!("{first} and {second} at one offset"), &fit, answer)
         })
@@ -252,7 +257,11 @@ fn equal_instructions() -> Vec<Case> {
         let list = [first, second].map(|kind| Relocation::new(0, kind, 1, 0));
         let symbols = [Symbol::absolute(PLACE)];
         let fit = at(PLACE, &low_bytes(word, width), &symbols, &list);
-        Case::new(format!("{first} and {second} at one offset"), &fit, (9, 1))
+        Case::new(
+            format!("{first} and {second} at one offset"),
+            &fit,
+            (9, 1, 0),
+        )
     };
     rows.map(case).into_iter().collect()
 }
@@ -269,7 +278,7 @@ fn low_half_addends() -> Vec<Case> {
             ];
             let symbols = [Symbol::absolute(PLACE), Symbol::new(0, 1, 0)];
             let fit = at(PLACE, &words(&[0x17, opcode]), &symbols, &list);
-            let answer = if addend == 0 { DONE } else { (9, 1) };
+            let answer = if addend == 0 { DONE } else { (9, 1, 0) };
             cases.push(Case::new(format!("type {kind}, A {addend}"), &fit, answer));
         }
     }
@@ -283,20 +292,20 @@ fn align_addends() -> Vec<Case> {
         (0, 0, DONE),
         (2, 2, DONE),
         (2, 3, DONE),
-        (2, 1, (9, 0)),
-        (2, 0, (9, 0)),
-        (1, 8, (9, 0)),
-        (3, 8, (9, 0)),
+        (2, 1, (9, 0, 0)),
+        (2, 0, (9, 0, 0)),
+        (1, 8, (9, 0, 0)),
+        (3, 8, (9, 0, 0)),
         (6, 6, DONE),
-        (6, 5, (9, 0)),
-        (-1, 8, (9, 0)),
-        (-2, 8, (9, 0)),
+        (6, 5, (9, 0, 0)),
+        (-1, 8, (9, 0, 0)),
+        (-2, 8, (9, 0, 0)),
         (4_094, 4_094, DONE),
-        (4_094, 4_093, (9, 0)),
-        (4_095, 4_096, (9, 0)),
-        (4_096, 4_096, (9, 0)),
-        (HIGHEST - 1, 8, (9, 0)),
-        (LOWEST, 8, (9, 0)),
+        (4_094, 4_093, (9, 0, 0)),
+        (4_095, 4_096, (9, 0, 0)),
+        (4_096, 4_096, (9, 0, 0)),
+        (HIGHEST - 1, 8, (9, 0, 0)),
+        (LOWEST, 8, (9, 0, 0)),
     ];
     let case = |(addend, room, answer): (i64, usize, Answer)| {
         let offset = 4_096 - addend.clamp(0, 4_096) as u64;

@@ -1,18 +1,16 @@
-//! Check 10: symbols that resolve and symbols that do not, for words, for the
-//! two PCREL_LO12 and for every type.
+//! Check 10: symbols that resolve and symbols that do not, with the reason, for
+//! words, for the two PCREL_LO12 and for every type.
 
 use crate::fits::*;
 use crate::types::of_type;
 use crate::{Answer, Case, DONE};
 use testing::build::*;
 
-const TLS: u8 = 6;
-const IFUNC: u8 = 10;
 const NOBITS_AT: u64 = 0xFFFF_FFF0;
-const COMMON: u16 = 0xFFF2;
 
 /// A word at 4 of section 1 against a symbol. Section 4 is NOBITS, section 5 is
-/// not allocated, section 6 is loaded and empty.
+/// not allocated, section 6 is loaded and empty, and section 7, the last, is NULL
+/// with the flag of an allocated one.
 fn word_of(symbols: &[Symbol], which: u32, addend: i64) -> Fit {
     let list = [Relocation::new(4, WORD, which, addend)];
     let mut fit = at(PLACE, &[0xEE; 8], symbols, &list);
@@ -22,6 +20,10 @@ fn word_of(symbols: &[Symbol], which: u32, addend: i64) -> Fit {
         ..Section::loaded(1, &[1; 4])
     });
     fit.sections.push(Section::loaded(1, &[]));
+    fit.sections.push(Section {
+        kind: NULL,
+        ..Section::loaded(1, &[])
+    });
     fit.placements.extend([(4, NOBITS_AT), (6, 0x77)]);
     fit
 }
@@ -68,38 +70,56 @@ fn resolved() -> Vec<Case> {
     rows.map(case).into_iter().collect()
 }
 
+/// Sections of [`word_of`] in which no symbol resolves, and the reason.
+const OTHERS: [(u16, u32); 15] = [
+    (2, 2),
+    (3, 2),
+    (5, 2),
+    (7, 2),
+    (8, 2),
+    (127, 2),
+    (128, 2),
+    (0x101, 2),
+    (0xFEFF, 2),
+    (0xFF00, 4),
+    (0xFFF0, 4),
+    (COMMON, 3),
+    (0xFFF3, 4),
+    (0xFFFE, 4),
+    (0xFFFF, 4),
+];
+
+/// "the first that applies, in this order"
 fn unresolved() -> Vec<Case> {
-    let mut rows = vec![
-        ("strong without a value", Symbol::new(GLOBAL, 0, 5), None),
-        ("local without a value", Symbol::new(0, 0, 5), None),
-        ("binding 3", Symbol::new(0x30, 0, 5), None),
-        ("binding 10", Symbol::new(0xA0, 0, 5), None),
-        ("type 2", Symbol::new(2, 0, 5), None),
-        ("not allocated", Symbol::new(GLOBAL, 5, 0), None),
-        ("the symbol table", Symbol::new(GLOBAL, 2, 0), None),
-        ("the RELA section", Symbol::new(GLOBAL, 3, 0), None),
-        ("one past the sections", Symbol::new(GLOBAL, 7, 0), None),
-        ("section 128", Symbol::new(GLOBAL, 128, 0), None),
-        ("section 0x101", Symbol::new(GLOBAL, 0x101, 0), None),
-        ("section 0xFF00", Symbol::new(GLOBAL, 0xFF00, 0), None),
-        ("section 0xFFF0", Symbol::new(GLOBAL, 0xFFF0, 0), None),
-        ("common", Symbol::new(GLOBAL, COMMON, 4), None),
-        ("section 0xFFFF", Symbol::new(GLOBAL, 0xFFFF, 0), None),
-    ];
-    for kind in [TLS, IFUNC] {
-        rows.push(("defined", Symbol::new(GLOBAL + kind, 1, 0), None));
-        rows.push(("NOBITS", Symbol::new(kind, 4, 0), None));
-        rows.push(("absolute", Symbol::new(kind, ABSOLUTE, 0), None));
-        rows.push(("with a value", Symbol::new(GLOBAL + kind, 0, 0), Some(3)));
-        rows.push(("weak", Symbol::new(WEAK + kind, 0, 0), None));
-        rows.push(("weak with a value", Symbol::new(WEAK + kind, 0, 0), Some(3)));
-    }
-    let case = |(name, symbol, value): (&str, Symbol, Option<u64>)| {
+    let mut cases = Vec::new();
+    let mut add = |name: String, symbol: Symbol, value: Option<u64>, reason| {
         let mut fit = word_of(&[symbol], 1, 0);
         fit.external_values = value.map(|value| (1, value)).into_iter().collect();
-        Case::new(name, &fit, (10, 0))
+        cases.push(Case::new(name, &fit, (10, 0, reason)));
     };
-    rows.into_iter().map(case).collect()
+    for info in [0, GLOBAL, 0x30, 0xA0, 2] {
+        let name = format!("undefined, info {info:#x}");
+        add(name, Symbol::new(info, 0, 5), None, 5);
+    }
+    for kind in [0, TLS, IFUNC] {
+        for (section, reason) in OTHERS {
+            let name = format!("section {section:#x}, type {kind}");
+            add(name, Symbol::new(GLOBAL + kind, section, 4), None, reason);
+        }
+    }
+    for kind in [TLS, IFUNC] {
+        for section in [1, 4, 6, ABSOLUTE] {
+            let name = format!("section {section:#x}, type {kind}");
+            add(name, Symbol::new(GLOBAL + kind, section, 0), None, 6);
+        }
+        for (binding, reason) in [(0, 5), (GLOBAL, 5), (WEAK, 6)] {
+            let name = |with: &str| format!("undefined, {binding:#x}, type {kind}, {with} a value");
+            let symbol = Symbol::new(binding + kind, 0, 0);
+            add(name("without"), symbol, None, reason);
+            add(name("with"), symbol, Some(3), 6);
+        }
+    }
+    cases
 }
 
 /// "an index past the table", and symbol 0, "whatever its entry holds and even
@@ -108,13 +128,16 @@ fn indexes() -> Vec<Case> {
     let some = [Symbol::absolute(1)];
     let past = [2, 3, 256, 0x1_0000, 0xFF_FFFF];
     let case = |index| {
-        Case::new(
-            format!("symbol {index}"),
-            &word_of(&some, index, 0),
-            (10, 0),
-        )
+        let name = format!("symbol {index}");
+        Case::new(name, &word_of(&some, index, 0), (10, 0, 1))
     };
     let mut cases: Vec<Case> = past.map(case).into_iter().collect();
+    for (last, answer) in [(some[0], DONE), (Symbol::new(TLS, 1, 0), (10, 0, 6))] {
+        let fit = word_of(&[some[0], last], 2, 0);
+        cases.push(Case::new("the last symbol", &fit, answer));
+        let fit = word_of(&[some[0], last], 3, 0);
+        cases.push(Case::new("past the last symbol", &fit, (10, 0, 1)));
+    }
     let after = [vec![0xEE; 4], words(&[0x12])].concat();
     cases.push(Case::done("symbol 0", &word_of(&some, 0, 0x12), &after));
     let mut odd = word_of(&some, 0, 0x12);
@@ -125,16 +148,16 @@ fn indexes() -> Vec<Case> {
     cases.push(Case::done("symbol 0, empty table", &empty, &after));
     let mut empty = word_of(&[], 1, 0x12);
     empty.sections[2].symbols_mut().clear();
-    cases.push(Case::new("symbol 1, empty table", &empty, (10, 0)));
+    cases.push(Case::new("symbol 1, empty table", &empty, (10, 0, 1)));
     cases
 }
 
 /// "Markers skip 10", and no other type does.
 fn every_type() -> Vec<Case> {
-    let stores = STORING.map(|(kind, _, _)| (kind, (10, 1)));
-    let markers = MARKERS.map(|kind| (kind, DONE));
+    let stores = STORING.map(|(kind, _, _)| (kind, (10, 1, 1), (10, 1, 5)));
+    let markers = MARKERS.map(|kind| (kind, DONE, DONE));
     let mut cases = Vec::new();
-    for (kind, answer) in stores.into_iter().chain(markers) {
+    for (kind, answer, of_strong) in stores.into_iter().chain(markers) {
         let mut past = of_type(kind);
         past.sections[3].relocations_mut()[1].symbol = 3;
         cases.push(Case::new(format!("type {kind}, past"), &past, answer));
@@ -143,43 +166,72 @@ fn every_type() -> Vec<Case> {
         strong.sections[3].relocations_mut()[1].symbol = 2;
         let all = [&[Symbol::default()], &symbols[..]].concat();
         strong.sections[2] = Section::symbols(&all);
-        cases.push(Case::new(format!("type {kind}, strong"), &strong, answer));
+        cases.push(Case::new(
+            format!("type {kind}, strong"),
+            &strong,
+            of_strong,
+        ));
     }
     cases
+}
+
+/// What a PCREL_LO12 names, and the answer: "not in the target row (24 and 25 only)"
+/// is the last reason.
+fn label_rows() -> [(&'static str, Symbol, Answer); 22] {
+    [
+        ("its own section", Symbol::new(0, 1, 0), DONE),
+        ("a section symbol", Symbol::new(3, 1, 0), DONE),
+        ("a weak label", Symbol::new(WEAK, 1, 0), DONE),
+        ("absolute", Symbol::absolute(0), (10, 1, 7)),
+        ("weak, undefined", Symbol::new(WEAK, 0, 0), (10, 1, 7)),
+        ("strong, undefined", Symbol::new(GLOBAL, 0, 0), (10, 1, 5)),
+        ("a NOBITS section", Symbol::new(0, 4, 0), (10, 1, 7)),
+        ("another loaded section", Symbol::new(0, 5, 0), (10, 1, 7)),
+        ("the symbol table", Symbol::new(0, 2, 0), (10, 1, 2)),
+        ("past the sections", Symbol::new(0, 6, 0), (10, 1, 2)),
+        ("section 0xFEFF", Symbol::new(0, 0xFEFF, 0), (10, 1, 2)),
+        ("section 0xFF00", Symbol::new(0, 0xFF00, 0), (10, 1, 4)),
+        ("common", Symbol::new(0, COMMON, 0), (10, 1, 3)),
+        ("TLS", Symbol::new(TLS, 1, 0), (10, 1, 6)),
+        ("IFUNC", Symbol::new(IFUNC, 1, 0), (10, 1, 6)),
+        ("another, TLS", Symbol::new(TLS, 5, 0), (10, 1, 6)),
+        (
+            "absolute, IFUNC",
+            Symbol::new(IFUNC, ABSOLUTE, 0),
+            (10, 1, 6),
+        ),
+        ("weak, TLS", Symbol::new(WEAK + TLS, 0, 0), (10, 1, 6)),
+        ("strong, TLS", Symbol::new(GLOBAL + TLS, 0, 0), (10, 1, 5)),
+        ("the symbol table, TLS", Symbol::new(TLS, 2, 0), (10, 1, 2)),
+        ("common, TLS", Symbol::new(TLS, COMMON, 0), (10, 1, 3)),
+        ("0xFFFF, IFUNC", Symbol::new(IFUNC, 0xFFFF, 0), (10, 1, 4)),
+    ]
 }
 
 /// "A PCREL_LO12 symbol is above 0 and defined in the record's own target row".
 /// The pair is at 0, and all labels have value 0.
 fn labels() -> Vec<Case> {
-    let rows: [(&str, Symbol, Answer); 12] = [
-        ("its own section", Symbol::new(0, 1, 0), DONE),
-        ("a section symbol", Symbol::new(3, 1, 0), DONE),
-        ("a weak label", Symbol::new(WEAK, 1, 0), DONE),
-        ("absolute", Symbol::absolute(0), (10, 1)),
-        ("weak, undefined", Symbol::new(WEAK, 0, 0), (10, 1)),
-        ("strong, undefined", Symbol::new(GLOBAL, 0, 0), (10, 1)),
-        ("a NOBITS section", Symbol::new(0, 4, 0), (10, 1)),
-        ("another loaded section", Symbol::new(0, 5, 0), (10, 1)),
-        ("the symbol table", Symbol::new(0, 2, 0), (10, 1)),
-        ("past the sections", Symbol::new(0, 6, 0), (10, 1)),
-        ("TLS", Symbol::new(TLS, 1, 0), (10, 1)),
-        ("IFUNC", Symbol::new(IFUNC, 1, 0), (10, 1)),
-    ];
     let mut cases = Vec::new();
     for kind in [PCREL_LO12_I, PCREL_LO12_S] {
         let name = |what: &str| format!("type {kind}, label in {what}");
-        for (what, label, answer) in rows {
+        for (what, label, answer) in label_rows() {
             cases.push(Case::new(name(what), &label_fit(kind, label, 2), answer));
         }
         let label = Symbol::new(0, 1, 0);
+        let past = label_fit(kind, label, 3);
+        cases.push(Case::new(name("no symbol"), &past, (10, 1, 1)));
         let zero = label_fit(kind, label, 0);
-        cases.push(Case::new(name("symbol 0"), &zero, (10, 1)));
-        let mut odd = label_fit(kind, label, 0);
-        odd.sections[2].symbols_mut()[0].section = 1;
-        cases.push(Case::new(name("odd symbol 0"), &odd, (10, 1)));
-        let mut valued = label_fit(kind, Symbol::new(GLOBAL, 0, 0), 2);
-        valued.external_values = vec![(2, PLACE)];
-        cases.push(Case::new(name("the order"), &valued, (10, 1)));
+        cases.push(Case::new(name("symbol 0"), &zero, (10, 1, 7)));
+        for entry in [label, Symbol::new(TLS, 1, 0), Symbol::new(0, COMMON, 0)] {
+            let mut odd = label_fit(kind, label, 0);
+            odd.sections[2].symbols_mut()[0] = entry;
+            cases.push(Case::new(name("odd symbol 0"), &odd, (10, 1, 7)));
+        }
+        for (info, reason) in [(GLOBAL, 7), (WEAK, 7), (GLOBAL + TLS, 6)] {
+            let mut valued = label_fit(kind, Symbol::new(info, 0, 0), 2);
+            valued.external_values = vec![(2, PLACE)];
+            cases.push(Case::new(name("the order"), &valued, (10, 1, reason)));
+        }
     }
     cases
 }

@@ -23,7 +23,7 @@ pub fn cases() -> Vec<Case> {
     let case = |kind: u32| {
         let is_storing = STORING.iter().any(|(number, _, _)| *number == kind);
         let is_taken = is_storing || MARKERS.contains(&kind);
-        let stated = if is_taken { DONE } else { (9, 1) };
+        let stated = if is_taken { DONE } else { (9, 1, 0) };
         let case = Case::new(format!("type {kind}"), &of_type(kind), stated);
         // "Type 2 (word64, T) is added for class 2 only".
         match kind {

@@ -2,10 +2,10 @@
 //! distance for 16 to 19 that isn't a multiple of 4 with 13 [...] e_flags refuses
 //! nothing else."
 
-use crate::DONE;
 use reference::fields::{extract, Layout, B, I, J, U};
 use reference::numbers::number_from;
 use testing::build::*;
+use testing::{numbers, Numbers, DONE};
 
 const CALL: u64 = 0x0000_80E7_0000_0097;
 
@@ -67,7 +67,7 @@ fn assert_distance(class: Class, kind: u32, word: u64, place: u64, distance: i64
     for (flags, step) in [(0, 4), (RVC, 2)] {
         let fit = fit.clone().with_flags(flags);
         if distance.rem_euclid(step) != 0 {
-            assert_eq!(fit.answer(), (13, 0), "{name}, {flags}");
+            assert_eq!(fit.answer(), (13, 0, 0), "{name}, {flags}");
             continue;
         }
         assert_eq!(fit.answer(), DONE, "{name}, {flags}");
@@ -117,19 +117,19 @@ fn distances_that_are_too_far() {
         for (kind, word, reach) in &JUMPS[..2] {
             for distance in [-reach - 4, -reach - 2, *reach, reach + 2, reach + 4] {
                 let fit = over(class, *kind, *word, 0x5000_0000, distance);
-                assert_eq!(fit.answer(), (13, 0), "type {kind}, {distance}");
+                assert_eq!(fit.answer(), (13, 0, 0), "type {kind}, {distance}");
             }
         }
     }
     let ends = [
-        (-2_147_485_700, (13, 0)),
-        (-2_147_485_698, (13, 0)),
+        (-2_147_485_700, (13, 0, 0)),
+        (-2_147_485_698, (13, 0, 0)),
         (-2_147_485_696, DONE),
-        (-2_147_485_694, (13, 0)),
+        (-2_147_485_694, (13, 0, 0)),
         (-2_147_485_692, DONE),
         (2_147_481_596, DONE),
-        (2_147_481_598, (13, 0)),
-        (2_147_481_600, (13, 0)),
+        (2_147_481_598, (13, 0, 0)),
+        (2_147_481_600, (13, 0, 0)),
     ];
     for kind in [18, 19] {
         for place in [0, 0x5000_0000, 1 << 63, u64::MAX - 7] {
@@ -147,22 +147,22 @@ fn distances_that_are_too_far() {
 fn short_types() {
     for class in Class::ALL {
         for (kind, word) in SHORT {
-            let rows: [(&str, u64, u64, u32, u64, u32); 7] = [
-                ("nothing else", 0x1000, 0, 1, word, 0),
-                ("at 2 modulo 4", 0x1002, 0, 1, word, 0),
-                ("outside the section", 0x1000, 7, 1, word, 9),
-                ("an unresolved symbol", 0x1000, 0, 2, word, 10),
-                ("a wrong form", 0x1000, 0, 1, word ^ 2, 11),
-                ("an odd address", 0x1001, 0, 1, word, 11),
-                ("too far", 0x9000, 0, 1, word, 13),
+            let rows: [(&str, u64, u64, u32, u64, Numbers); 7] = [
+                ("nothing else", 0x1000, 0, 1, word, DONE),
+                ("at 2 modulo 4", 0x1002, 0, 1, word, DONE),
+                ("outside the section", 0x1000, 7, 1, word, (9, 0, 0)),
+                ("an unresolved symbol", 0x1000, 0, 2, word, (10, 0, 1)),
+                ("a wrong form", 0x1000, 0, 1, word ^ 2, (11, 0, 0)),
+                ("an odd address", 0x1001, 0, 1, word, (11, 0, 0)),
+                ("too far", 0x9000, 0, 1, word, (13, 0, 0)),
             ];
             for (name, place, offset, symbol, word, before) in rows {
                 let list = [Relocation::new(offset, kind, symbol, 0)];
                 let symbols = [Symbol::absolute(0x1000)];
                 let fit = Fit::code(place, &word.to_le_bytes(), &symbols, &list).of(class);
-                assert_eq!(fit.answer(), (before, 0), "{name}, type {kind}, {class:?}");
+                assert_eq!(fit.answer(), before, "{name}, type {kind}, {class:?}");
                 let fit = fit.with_flags(0);
-                assert_eq!(fit.answer(), (9, 0), "{name}, type {kind}, {class:?}");
+                assert_eq!(fit.answer(), (9, 0, 0), "{name}, type {kind}, {class:?}");
             }
         }
     }
@@ -192,13 +192,16 @@ fn short_types_at_their_turn() {
         .iter()
         .flat_map(|word| word.to_le_bytes())
         .collect();
-    let rows: [([Relocation; 3], (u32, u32)); 6] = [
-        ([jal(0, 0), short(4), jal(8, 0)], (9, 1)),
-        ([jal(0, 2), short(4), jal(8, 0)], (13, 0)),
-        ([jal(0, 1), short(4), jal(8, 0)], (13, 0)),
-        ([jal(0, 0), short(4), jal(8, 2)], (9, 1)),
-        ([jal(0, 0), jal(8, 0), short(10)], (9, 2)),
-        ([Relocation::new(0, 17, 9, 0), short(4), jal(8, 0)], (10, 0)),
+    let rows: [([Relocation; 3], Numbers); 6] = [
+        ([jal(0, 0), short(4), jal(8, 0)], (9, 1, 0)),
+        ([jal(0, 2), short(4), jal(8, 0)], (13, 0, 0)),
+        ([jal(0, 1), short(4), jal(8, 0)], (13, 0, 0)),
+        ([jal(0, 0), short(4), jal(8, 2)], (9, 1, 0)),
+        ([jal(0, 0), jal(8, 0), short(10)], (9, 2, 0)),
+        (
+            [Relocation::new(0, 17, 9, 0), short(4), jal(8, 0)],
+            (10, 0, 1),
+        ),
     ];
     for (list, expected) in rows {
         let fit = Fit::code(0x1000, &code, &[Symbol::absolute(0x1000)], &list);
@@ -218,7 +221,7 @@ fn a_short_type_in_the_second_section() {
     fit.placements.push((4, 0x1010));
     fit.journal = journal(0x14);
     assert_eq!(fit.answer_of_both(), DONE);
-    assert_eq!(fit.with_flags(0).answer_of_both(), (9, 2));
+    assert_eq!(fit.with_flags(0).answer_of_both(), (9, 2, 0));
 }
 
 /// Bits 1 to 31 say nothing, whether bit 0 is set or clear.
@@ -231,10 +234,10 @@ fn other_flag_bits() {
         let short = over(class, 45, 0xA001, 0x1000, 2);
         for flags in clear() {
             let answer = |fit: &Fit| fit.clone().with_flags(flags).answer();
-            assert_eq!(answer(&jump), (13, 0), "{flags:#x}, {class:?}");
-            assert_eq!(answer(&call), (13, 0), "{flags:#x}, {class:?}");
+            assert_eq!(answer(&jump), (13, 0, 0), "{flags:#x}, {class:?}");
+            assert_eq!(answer(&call), (13, 0, 0), "{flags:#x}, {class:?}");
             assert_eq!(answer(&long), DONE, "{flags:#x}, {class:?}");
-            assert_eq!(answer(&short), (9, 0), "{flags:#x}, {class:?}");
+            assert_eq!(answer(&short), (9, 0, 0), "{flags:#x}, {class:?}");
         }
         for flags in set() {
             for fit in [&jump, &call, &long, &short] {
@@ -255,15 +258,14 @@ fn only_its_own_place_counts() {
             let mut fit = over(class, 17, 0x6F, 0x1000, 2);
             let count = fit.sections.len() + extra;
             fit.sections.resize(count, Section::default());
-            for (flags, fill, expected) in [(0, 0xFF, (13, 0)), (RVC, 0, DONE)] {
+            for (flags, fill, expected) in [(0, 0xFF, (13, 0, 0)), (RVC, 0, DONE)] {
                 let mut file = fit.clone().with_flags(flags).object();
                 for at in free_places(class) {
                     file[at] = fill;
                 }
                 let (mut image, mut journal) = (fit.image.clone(), fit.journal.clone());
                 let answer = reference::install(&file, &fit.order(), &mut image, &mut journal);
-                let answer = (answer.number, answer.place);
-                assert_eq!(answer, expected, "{count} sections, {class:?}");
+                assert_eq!(numbers(answer), expected, "{count} sections, {class:?}");
             }
         }
     }
@@ -299,7 +301,7 @@ fn nothing_else_is_refused() {
         for (kind, word) in words {
             let fit = |place| at(class, kind, word, place, place);
             assert_eq!(fit(0x1002).answer(), DONE, "type {kind}, a row at 2");
-            assert_eq!(fit(0x1001).answer(), (11, 0), "type {kind}, odd");
+            assert_eq!(fit(0x1001).answer(), (11, 0, 0), "type {kind}, odd");
         }
         // Any other distance or target is laid as before.
         for kind in [1, 23, 26, 27, 28, 33, 34, 35, 36, 52, 56, 57] {

@@ -1,15 +1,15 @@
 //! Instruction forms (check 11) and distances (check 13).
 
-use crate::DONE;
 use reference::fields::{extract, Layout, B, CB, CJ, J};
 use reference::numbers::number_from;
 use testing::build::*;
+use testing::{Numbers, DONE};
 
 const PLACE: u64 = 0x1000;
 
 /// One relocation with distance 0 on this word; symbol 2 is a label with a
 /// pair behind the word.
-fn on(class: Class, kind: u32, word: u64, width: usize) -> (u32, u32) {
+fn on(class: Class, kind: u32, word: u64, width: usize) -> Numbers {
     let mut code = word.to_le_bytes()[..width].to_vec();
     code.extend(0x17_u32.to_le_bytes());
     let end = width as u64;
@@ -27,7 +27,11 @@ fn on(class: Class, kind: u32, word: u64, width: usize) -> (u32, u32) {
 fn opcodes(class: Class, kind: u32, taken: impl Fn(u64, u64) -> bool) {
     for opcode in 0..128 {
         for funct3 in 0..8 {
-            let expected = if taken(opcode, funct3) { DONE } else { (11, 0) };
+            let expected = if taken(opcode, funct3) {
+                DONE
+            } else {
+                (11, 0, 0)
+            };
             let word = 0xABCD_8F80 | (funct3 << 12) | opcode;
             let answer = on(class, kind, word, 4);
             assert_eq!(answer, expected, "{class:?}, {kind}: {word:X}");
@@ -65,7 +69,7 @@ fn compressed_forms() {
             let branch = quadrant == 1 && (funct3 == 6 || funct3 == 7);
             // In class 2, "RVC_JUMP funct3 1 gives 11"
             let is_jump = funct3 == 5 || (funct3 == 1 && class == Class::Elf32);
-            let expected = |holds| if holds { DONE } else { (11, 0) };
+            let expected = |holds| if holds { DONE } else { (11, 0, 0) };
             let (on_44, on_45) = (on(class, 44, half, 2), on(class, 45, half, 2));
             assert_eq!(on_44, expected(branch), "{class:?}, {half:X}");
             assert_eq!(
@@ -90,13 +94,13 @@ fn call_forms() {
         answer
     };
     for register in 0..32 {
-        let expected = if register == 0 { (11, 0) } else { DONE };
+        let expected = if register == 0 { (11, 0, 0) } else { DONE };
         assert_eq!(call(register, register, 0x17, 0x67), expected);
-        assert_eq!(call(register, (register + 1) % 32, 0x17, 0x67), (11, 0));
+        assert_eq!(call(register, (register + 1) % 32, 0x17, 0x67), (11, 0, 0));
     }
-    assert_eq!(call(1, 1, 0x37, 0x67), (11, 0));
-    assert_eq!(call(1, 1, 0x17, 0x13), (11, 0));
-    assert_eq!(call(1, 1, 0x17, 0x1067), (11, 0), "funct3 1");
+    assert_eq!(call(1, 1, 0x37, 0x67), (11, 0, 0));
+    assert_eq!(call(1, 1, 0x17, 0x13), (11, 0, 0));
+    assert_eq!(call(1, 1, 0x17, 0x1067), (11, 0, 0), "funct3 1");
 }
 
 /// A relocation at a place whose T is given.
@@ -110,7 +114,7 @@ fn at(kind: u32, word: u64, place: u64, target: u64) -> Fit {
 }
 
 /// The answer to it, the same in both classes.
-fn towards(kind: u32, word: u64, place: u64, target: u64) -> (u32, u32) {
+fn towards(kind: u32, word: u64, place: u64, target: u64) -> Numbers {
     at(kind, word, place, target).answer_of_both()
 }
 
@@ -133,7 +137,11 @@ fn instructions_lie_at_even_addresses() {
     for (kind, word) in words {
         assert_eq!(towards(kind, word, 0x1000, 0x1000), DONE, "type {kind}");
         assert_eq!(towards(kind, word, 0x1002, 0x1000), DONE, "type {kind}");
-        assert_eq!(towards(kind, word, 0x1001, 0x1001), (11, 0), "type {kind}");
+        assert_eq!(
+            towards(kind, word, 0x1001, 0x1001),
+            (11, 0, 0),
+            "type {kind}"
+        );
     }
     for kind in [1, 57, 33, 34, 35, 36, 52, 56] {
         assert_eq!(towards(kind, 0, 0x1001, 0x1001), DONE, "data, type {kind}");
@@ -165,7 +173,7 @@ fn distances_at_both_ends() {
             reach,
             reach + 2,
         ] {
-            assert_eq!(to(broken), (13, 0), "type {kind}, distance {broken}");
+            assert_eq!(to(broken), (13, 0, 0), "type {kind}, distance {broken}");
         }
     }
 }
@@ -193,7 +201,7 @@ fn distances_across_the_top() {
                 }
                 for distance in broken {
                     let answer = over(place, distance).answer();
-                    assert_eq!(answer, (13, 0), "type {kind}, {distance}, {class:?}");
+                    assert_eq!(answer, (13, 0, 0), "type {kind}, {distance}, {class:?}");
                 }
             }
         }
@@ -210,7 +218,7 @@ fn distances_at_half_the_range() {
             assert_eq!(to(half - 8, half), DONE, "type {kind}");
             assert_eq!(to(half, half - 8), DONE, "type {kind}");
             for (place, target) in [(0, half), (half, 0), (0, half - 2), (half - 2, 0)] {
-                assert_eq!(to(place, target), (13, 0), "type {kind}");
+                assert_eq!(to(place, target), (13, 0, 0), "type {kind}");
             }
         }
     }
@@ -223,7 +231,7 @@ fn no_top_at_2_32_in_class_2() {
         for (place, target) in [(0, 0xFFFF_FFF8), (0xFFFF_FFF8, 0)] {
             let fit = at(kind, word, place, target);
             assert_eq!(fit.answer(), DONE, "type {kind}");
-            assert_eq!(fit.of(Class::Elf64).answer(), (13, 0), "type {kind}");
+            assert_eq!(fit.of(Class::Elf64).answer(), (13, 0, 0), "type {kind}");
         }
     }
 }
@@ -234,7 +242,7 @@ fn calls_reach_everything_even() {
         let to = |kind, word, place, target| at(kind, word, place, target).answer();
         assert_eq!(to(18, CALL, 0x1000, target), DONE);
         assert_eq!(to(19, CALL, 0xFFFF_FFF0, target), DONE);
-        assert_eq!(to(18, CALL, 0x1000, target + 1), (13, 0));
+        assert_eq!(to(18, CALL, 0x1000, target + 1), (13, 0, 0));
         assert_eq!(to(23, 0x17, 0x1000, target + 1), DONE, "PCREL_HI20");
         assert_eq!(to(26, 0x37, 0x1000, target + 1), DONE, "HI20");
     }
@@ -254,7 +262,7 @@ fn halves_reach_so_far_in_class_2() {
                 at(kind, word, place, target).of(Class::Elf64).answer()
             };
             let is_call = kind < 20;
-            let odd = if is_call { (13, 0) } else { DONE };
+            let odd = if is_call { (13, 0, 0) } else { DONE };
             let kept = [LOWEST, LOWEST + 2, -2, 0, 2, 2_046, 2_048, HIGHEST - 1];
             for distance in kept {
                 assert_eq!(over(distance), DONE, "type {kind}, {distance}");
@@ -272,7 +280,7 @@ fn halves_reach_so_far_in_class_2() {
             ];
             let beside = [LOWEST - 2, LOWEST - 1, HIGHEST + 1, HIGHEST + 3];
             for distance in far.into_iter().chain(beside) {
-                assert_eq!(over(distance), (13, 0), "type {kind}, {distance}");
+                assert_eq!(over(distance), (13, 0, 0), "type {kind}, {distance}");
             }
         }
     }

@@ -1,10 +1,10 @@
 //! The ledger: soundness (check 1), room (15), nothing stands (16), what a fit
 //! appends and what a taking-back writes.
 
-use crate::DONE;
 use reference::journal::{Span, Standing};
 use reference::{install, rollback, Answer};
 use testing::build::*;
+use testing::{numbers, DONE};
 
 const IMAGE: usize = 100;
 
@@ -101,11 +101,11 @@ fn room() {
         fit.answer()
     };
     assert_eq!(with(ledger(0, &[], 0, 4)), DONE);
-    assert_eq!(with(ledger(0, &[], 0, 3)), (15, 0));
+    assert_eq!(with(ledger(0, &[], 0, 3)), (15, 0, 0));
     assert_eq!(with(ledger(1, &[(0, 5)], 5, 9)), DONE);
-    assert_eq!(with(ledger(1, &[(0, 5)], 5, 8)), (15, 0));
+    assert_eq!(with(ledger(1, &[(0, 5)], 5, 8)), (15, 0, 0));
     assert_eq!(with(ledger(15, &[(0, 0); 15], 0, 4)), DONE);
-    assert_eq!(with(ledger(16, &[(0, 0); 16], 0, 4)), (15, 0));
+    assert_eq!(with(ledger(16, &[(0, 0); 16], 0, 4)), (15, 0, 0));
 }
 
 /// "A fit's span runs from the lowest to the end of the highest laid byte",
@@ -129,7 +129,7 @@ fn span() {
     };
     assert_eq!(standing.spans, [span]);
     fit.journal = journal(23);
-    assert_eq!(fit.answer(), (15, 0));
+    assert_eq!(fit.answer(), (15, 0, 0));
 }
 
 #[test]
@@ -142,7 +142,7 @@ fn a_fit_that_lays_nothing() {
     assert_eq!((answer, image), (Answer::DONE, fit.image.clone()));
     assert_eq!(after, ledger(1, &[(0, 0)], 0, 0));
     fit.journal = ledger(16, &[(0, 0); 16], 0, 0);
-    assert_eq!(fit.answer(), (15, 0), "it still takes an entry");
+    assert_eq!(fit.answer(), (15, 0, 0), "it still takes an entry");
 }
 
 #[test]
@@ -163,14 +163,22 @@ fn checks_of_a_taking_back() {
         let before = ledger.clone();
         let answer = rollback(&mut vec![0; length], &mut ledger);
         assert_eq!(ledger == before, answer != Answer::DONE);
-        (answer.number, answer.place)
+        numbers(answer)
     };
     let standing = ledger(1, &[(0, 0)], 0, 0);
     assert_eq!(call(1_048_576, standing.clone()), DONE);
-    assert_eq!(call(1_048_577, standing.clone()), (3, 0));
-    assert_eq!(call(1_048_577, ledger(0, &[], 0, 0)), (3, 0), "3 before 16");
-    assert_eq!(call(1_048_577, ledger(0, &[], 1, 1)), (1, 0), "1 before 3");
-    assert_eq!(call(0, ledger(0, &[], 0, 0)), (16, 0));
+    assert_eq!(call(1_048_577, standing.clone()), (3, 0, 0));
+    assert_eq!(
+        call(1_048_577, ledger(0, &[], 0, 0)),
+        (3, 0, 0),
+        "3 before 16"
+    );
+    assert_eq!(
+        call(1_048_577, ledger(0, &[], 1, 1)),
+        (1, 0, 0),
+        "1 before 3"
+    );
+    assert_eq!(call(0, ledger(0, &[], 0, 0)), (16, 0, 0));
     assert_eq!(call(0, standing), DONE);
 }
 
@@ -195,5 +203,5 @@ fn fifteen_is_last() {
     let list = [Relocation::new(0, 2, 0, 0)];
     let mut fit = Fit::code(0x1008, &[1, 2, 3, 4], &[], &list);
     fit.journal = ledger(16, &[(0, 0); 16], 0, 0);
-    assert_eq!(fit.answer(), (9, 0));
+    assert_eq!(fit.answer(), (9, 0, 0));
 }

@@ -7,8 +7,7 @@ mod instruction;
 mod journal;
 mod object;
 mod order;
+mod pair;
 mod placement;
 mod relocation;
 mod symbol;
-
-const DONE: (u32, u32) = (0, 0);

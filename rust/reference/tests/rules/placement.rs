@@ -1,7 +1,7 @@
 //! Placements (check 6), outside values (check 7) and placing (check 8).
 
-use crate::DONE;
 use testing::build::*;
+use testing::DONE;
 
 const BASE: u64 = 0x1000;
 
@@ -24,14 +24,14 @@ fn placements_name_exactly_the_allocated_rows() {
     };
     let (first, second) = (two.placements[0], two.placements[1]);
     assert_eq!(with(&[first, second]), DONE);
-    assert_eq!(with(&[]), (6, 1));
-    assert_eq!(with(&[first]), (6, 2));
-    assert_eq!(with(&[second]), (6, 1));
-    assert_eq!(with(&[(0, BASE), first, second]), (6, 0));
-    assert_eq!(with(&[first, second, (3, BASE)]), (6, 3), "no such row");
-    assert_eq!(with(&[first, second, (u32::MAX, 0)]), (6, u32::MAX));
-    assert_eq!(with(&[(0, BASE), first]), (6, 0), "the lowest of two");
-    assert_eq!(with(&[first, (77, BASE)]), (6, 2), "the lowest of two");
+    assert_eq!(with(&[]), (6, 1, 0));
+    assert_eq!(with(&[first]), (6, 2, 0));
+    assert_eq!(with(&[second]), (6, 1, 0));
+    assert_eq!(with(&[(0, BASE), first, second]), (6, 0, 0));
+    assert_eq!(with(&[first, second, (3, BASE)]), (6, 3, 0), "no such row");
+    assert_eq!(with(&[first, second, (u32::MAX, 0)]), (6, u32::MAX, 0));
+    assert_eq!(with(&[(0, BASE), first]), (6, 0, 0), "the lowest of two");
+    assert_eq!(with(&[first, (77, BASE)]), (6, 2, 0), "the lowest of two");
 }
 
 #[test]
@@ -43,14 +43,14 @@ fn rows_that_need_a_placement() {
         fit.placements.clear();
         fit.answer_of_both()
     };
-    assert_eq!(with_none(Section::nobits(1, 4)), (6, 1));
-    assert_eq!(with_none(bytes(0)), (6, 1), "an empty row too");
+    assert_eq!(with_none(Section::nobits(1, 4)), (6, 1, 0));
+    assert_eq!(with_none(bytes(0)), (6, 1, 0), "an empty row too");
     let unallocated = Section {
         flags: !ALLOCATED,
         ..bytes(3)
     };
     assert_eq!(with_none(unallocated.clone()), DONE);
-    assert_eq!(placed(&[(unallocated, BASE)]).answer_of_both(), (6, 1));
+    assert_eq!(placed(&[(unallocated, BASE)]).answer_of_both(), (6, 1, 0));
 }
 
 #[test]
@@ -69,15 +69,15 @@ fn outside_values_name_undefined_symbols() {
     };
     assert_eq!(with(&[(1, 9)]), DONE);
     assert_eq!(with(&[(1, 9), (4, 9)]), DONE, "undefined, even if TLS");
-    assert_eq!(with(&[(0, 9)]), (7, 0));
-    assert_eq!(with(&[(1, 9), (2, 9), (3, 9)]), (7, 2));
-    assert_eq!(with(&[(3, 9)]), (7, 3));
-    assert_eq!(with(&[(5, 9)]), (7, 5));
-    assert_eq!(with(&[(6, 9)]), (7, 6), "past the table");
-    assert_eq!(with(&[(u32::MAX, 9)]), (7, u32::MAX));
+    assert_eq!(with(&[(0, 9)]), (7, 0, 0));
+    assert_eq!(with(&[(1, 9), (2, 9), (3, 9)]), (7, 2, 0));
+    assert_eq!(with(&[(3, 9)]), (7, 3, 0));
+    assert_eq!(with(&[(5, 9)]), (7, 5, 0));
+    assert_eq!(with(&[(6, 9)]), (7, 6, 0), "past the table");
+    assert_eq!(with(&[(u32::MAX, 9)]), (7, u32::MAX, 0));
     let mut no_table = placed(&[]);
     no_table.external_values = vec![(1, 0)];
-    assert_eq!(no_table.answer_of_both(), (7, 1));
+    assert_eq!(no_table.answer_of_both(), (7, 1, 0));
 }
 
 #[test]
@@ -88,13 +88,13 @@ fn addresses_are_multiples_of_the_alignment() {
     assert_eq!(at(0, BASE + 3), DONE);
     assert_eq!(at(1, BASE + 3), DONE);
     assert_eq!(at(4, BASE + 4), DONE);
-    assert_eq!(at(4, BASE + 2), (8, 1));
+    assert_eq!(at(4, BASE + 2), (8, 1, 0));
     let empty = |address| placed(&[(Section::loaded(16, &[]), address)]).answer_of_both();
     assert_eq!(empty(0xFFFF_FFF0), DONE);
-    assert_eq!(empty(0xFFFF_FFF8), (8, 1), "an empty row too");
+    assert_eq!(empty(0xFFFF_FFF8), (8, 1, 0), "an empty row too");
     let top = |address| placed(&[(Section::nobits(1 << 31, 1), address)]).answer_of_both();
     assert_eq!(top(1 << 31), DONE);
-    assert_eq!(top(1 << 30), (8, 1));
+    assert_eq!(top(1 << 30), (8, 1, 0));
 }
 
 #[test]
@@ -108,10 +108,10 @@ fn rows_end_at_or_below_the_top() {
             fit.of(class).answer()
         };
         assert_eq!(at(16, top - 15), DONE, "{class:?}");
-        assert_eq!(at(17, top - 15), (8, 1), "{class:?}");
+        assert_eq!(at(17, top - 15), (8, 1, 0), "{class:?}");
         assert_eq!(at(top, 1), DONE, "{class:?}");
-        assert_eq!(at(top, 2), (8, 1), "{class:?}");
-        assert_eq!(at(top, top), (8, 1), "{class:?}");
+        assert_eq!(at(top, 2), (8, 1, 0), "{class:?}");
+        assert_eq!(at(top, top), (8, 1, 0), "{class:?}");
         assert_eq!(at(0, top), DONE, "{class:?}");
     }
 }
@@ -126,17 +126,17 @@ fn placing_in_class_2() {
         fit.of(Class::Elf64).answer()
     };
     assert_eq!(at(8, above(BASE)), DONE);
-    assert_eq!(at(8, above(BASE) + 92), (8, 1), "not aligned");
+    assert_eq!(at(8, above(BASE) + 92), (8, 1, 0), "not aligned");
     assert_eq!(at(4, above(BASE) + 92), DONE);
-    assert_eq!(at(1, above(BASE) + 93), (8, 1), "past the window");
-    assert_eq!(at(8, BASE), (8, 1), "the same modulo 2^32");
-    assert_eq!(at(1 << 63, above(BASE)), (8, 1));
+    assert_eq!(at(1, above(BASE) + 93), (8, 1, 0), "past the window");
+    assert_eq!(at(8, BASE), (8, 1, 0), "the same modulo 2^32");
+    assert_eq!(at(1 << 63, above(BASE)), (8, 1, 0));
     let far = |alignment, address| {
         let fit = placed(&[(Section::nobits(alignment, 1), address)]);
         fit.of(Class::Elf64).answer()
     };
     assert_eq!(far(1 << 63, 1 << 63), DONE);
-    assert_eq!(far(1 << 63, 1 << 62), (8, 1));
+    assert_eq!(far(1 << 63, 1 << 62), (8, 1, 0));
     assert_eq!(far(1 << 63, 0), DONE);
     let two = |first, second| {
         let sections = [
@@ -147,9 +147,9 @@ fn placing_in_class_2() {
     };
     assert_eq!(two(0, 1 << 32), DONE, "the same modulo 2^32");
     assert_eq!(two(1 << 32, (1 << 32) + 16), DONE);
-    assert_eq!(two(1 << 32, (1 << 32) + 15), (8, 2));
+    assert_eq!(two(1 << 32, (1 << 32) + 15), (8, 2, 0));
     assert_eq!(two(u64::MAX - 15, u64::MAX - 31), DONE);
-    assert_eq!(two(u64::MAX - 15, u64::MAX - 30), (8, 2));
+    assert_eq!(two(u64::MAX - 15, u64::MAX - 30), (8, 2, 0));
     assert_eq!(two(u64::MAX - 15, 0), DONE, "the last and the first");
 }
 
@@ -158,9 +158,9 @@ fn laid_rows_lie_in_the_window() {
     let at = |size, address| placed(&[(bytes(size), address)]).answer_of_both();
     assert_eq!(at(100, BASE), DONE);
     assert_eq!(at(1, BASE + 99), DONE);
-    assert_eq!(at(1, BASE - 1), (8, 1));
-    assert_eq!(at(2, BASE + 99), (8, 1));
-    assert_eq!(at(1, BASE + 100), (8, 1));
+    assert_eq!(at(1, BASE - 1), (8, 1, 0));
+    assert_eq!(at(2, BASE + 99), (8, 1, 0));
+    assert_eq!(at(1, BASE + 100), (8, 1, 0));
     assert_eq!(at(0, 5), DONE, "an empty row lies anywhere");
     assert_eq!(placed(&[(Section::nobits(1, 9), 5)]).answer_of_both(), DONE);
     let note = Section {
@@ -169,7 +169,7 @@ fn laid_rows_lie_in_the_window() {
     };
     assert_eq!(
         placed(&[(note, 5)]).answer_of_both(),
-        (8, 1),
+        (8, 1, 0),
         "any laid type"
     );
 }
@@ -181,15 +181,19 @@ fn rows_share_no_address() {
     };
     assert_eq!(two(bytes(4), 0, bytes(4), 4), DONE);
     assert_eq!(two(bytes(4), 4, bytes(4), 0), DONE);
-    assert_eq!(two(bytes(4), 0, bytes(4), 3), (8, 2));
-    assert_eq!(two(bytes(4), 3, bytes(4), 0), (8, 2));
-    assert_eq!(two(bytes(9), 0, bytes(1), 4), (8, 2), "one inside another");
+    assert_eq!(two(bytes(4), 0, bytes(4), 3), (8, 2, 0));
+    assert_eq!(two(bytes(4), 3, bytes(4), 0), (8, 2, 0));
+    assert_eq!(
+        two(bytes(9), 0, bytes(1), 4),
+        (8, 2, 0),
+        "one inside another"
+    );
     assert_eq!(two(bytes(9), 0, bytes(0), 4), DONE, "an empty row");
     assert_eq!(two(bytes(0), 4, bytes(9), 0), DONE, "an empty row");
-    assert_eq!(two(bytes(4), 0, Section::nobits(1, 4), 3), (8, 2));
-    assert_eq!(two(Section::nobits(1, 4), 3, bytes(4), 0), (8, 2));
+    assert_eq!(two(bytes(4), 0, Section::nobits(1, 4), 3), (8, 2, 0));
+    assert_eq!(two(Section::nobits(1, 4), 3, bytes(4), 0), (8, 2, 0));
     let far = Section::nobits(1, 4);
-    assert_eq!(two(far.clone(), 5_000, far.clone(), 5_003), (8, 2));
+    assert_eq!(two(far.clone(), 5_000, far.clone(), 5_003), (8, 2, 0));
     assert_eq!(two(far.clone(), 5_000, far, 5_004), DONE);
 }
 
@@ -200,7 +204,7 @@ fn the_lowest_row_is_named() {
         (bytes(4), BASE + 2),
         (bytes(4), BASE + 200),
     ]);
-    assert_eq!(three.answer_of_both(), (8, 2));
+    assert_eq!(three.answer_of_both(), (8, 2, 0));
 }
 
 /// Each check in turn is broken together with all later ones.
@@ -211,13 +215,13 @@ fn checks_5_to_9_in_order() {
     fit.sections[1].alignment = 3;
     fit.placements = vec![(2, 5)];
     fit.external_values = vec![(8, 0)];
-    assert_eq!(fit.answer_of_both(), (5, 1));
+    assert_eq!(fit.answer_of_both(), (5, 1, 0));
     fit.sections[1].alignment = 4;
-    assert_eq!(fit.answer_of_both(), (6, 1));
+    assert_eq!(fit.answer_of_both(), (6, 1, 0));
     fit.placements = vec![(1, 5)];
-    assert_eq!(fit.answer_of_both(), (7, 8));
+    assert_eq!(fit.answer_of_both(), (7, 8, 0));
     fit.external_values.clear();
-    assert_eq!(fit.answer_of_both(), (8, 1));
+    assert_eq!(fit.answer_of_both(), (8, 1, 0));
     fit.placements = vec![(1, BASE)];
-    assert_eq!(fit.answer_of_both(), (9, 0));
+    assert_eq!(fit.answer_of_both(), (9, 0, 0));
 }

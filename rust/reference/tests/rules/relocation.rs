@@ -1,7 +1,8 @@
-//! The rules of a record, checks 9 to 14 but for symbols and instruction forms.
+//! The rules of a record, checks 9 to 14 but for symbols, instruction forms and
+//! pairs.
 
-use crate::DONE;
 use testing::build::*;
+use testing::{Numbers, DONE};
 
 const PLACE: u64 = 0x1000;
 const MARKERS: [u32; 3] = [0, 43, 51];
@@ -17,12 +18,12 @@ fn fit(size: usize, relocations: &[(u64, u32, i64)]) -> Fit {
 }
 
 /// The answer to such relocations, the same in both classes.
-fn list(size: usize, relocations: &[(u64, u32, i64)]) -> (u32, u32) {
+fn list(size: usize, relocations: &[(u64, u32, i64)]) -> Numbers {
     fit(size, relocations).answer_of_both()
 }
 
 /// The answer to such relocations in class 2.
-fn list_64(size: usize, relocations: &[(u64, u32, i64)]) -> (u32, u32) {
+fn list_64(size: usize, relocations: &[(u64, u32, i64)]) -> Numbers {
     fit(size, relocations).of(Class::Elf64).answer()
 }
 
@@ -33,7 +34,7 @@ fn every_type_has_a_line() {
         51, 52, 53, 54, 55, 56, 57,
     ];
     for kind in (0..=255).filter(|kind| *kind != 2) {
-        let (number, _) = list(8, &[(0, kind, 0)]);
+        let (number, _, _) = list(8, &[(0, kind, 0)]);
         assert_eq!(number == 9, !SUPPORTED.contains(&kind), "type {kind}");
     }
 }
@@ -41,19 +42,19 @@ fn every_type_has_a_line() {
 /// "Type 2 (word64, T) is added for class 2 only"
 #[test]
 fn type_2_is_of_class_2() {
-    assert_eq!(fit(8, &[(0, 2, 0)]).answer(), (9, 0));
+    assert_eq!(fit(8, &[(0, 2, 0)]).answer(), (9, 0, 0));
     assert_eq!(list_64(8, &[(0, 2, 0)]), DONE);
-    assert_eq!(list_64(8, &[(1, 2, 0)]), (9, 0), "eight bytes");
+    assert_eq!(list_64(8, &[(1, 2, 0)]), (9, 0, 0), "eight bytes");
     assert_eq!(list_64(9, &[(1, 2, 0)]), DONE, "at any address");
     assert_eq!(list_64(16, &[(0, 2, 0), (8, 2, 0)]), DONE);
-    assert_eq!(list_64(16, &[(0, 2, 0), (7, 2, 0)]), (9, 1));
+    assert_eq!(list_64(16, &[(0, 2, 0), (7, 2, 0)]), (9, 1, 0));
     assert_eq!(
         list_64(8, &[(0, 2, 0), (0, 2, 0)]),
-        (9, 1),
+        (9, 1, 0),
         "it shares nothing"
     );
-    assert_eq!(list_64(8, &[(0, 2, 0), (0, 36, 0)]), (9, 1));
-    assert_eq!(list_64(8, &[(0, 36, 0), (0, 2, 0)]), (9, 1));
+    assert_eq!(list_64(8, &[(0, 2, 0), (0, 36, 0)]), (9, 1, 0));
+    assert_eq!(list_64(8, &[(0, 36, 0), (0, 2, 0)]), (9, 1, 0));
 }
 
 /// "Type numbers above 255 give 9": the whole number counts.
@@ -62,11 +63,11 @@ fn types_above_255() {
     for low in 0..=255 {
         for high in [1, 2, 255, 256, 1 << 16, (1 << 24) - 1] {
             let kind = high << 8 | low;
-            assert_eq!(list_64(8, &[(0, kind, 0)]), (9, 0), "type {kind:#x}");
+            assert_eq!(list_64(8, &[(0, kind, 0)]), (9, 0, 0), "type {kind:#x}");
         }
     }
     let late = [(0, 1, 0), (4, 256, 0)];
-    assert_eq!(list_64(8, &late), (9, 1), "at its turn");
+    assert_eq!(list_64(8, &late), (9, 1, 0), "at its turn");
 }
 
 /// Offsets of class 2 that class 1 does not have.
@@ -83,11 +84,11 @@ fn offsets_count_whole() {
     ] {
         for kind in [1, 2, 17, 18, 23, 36, 0, 43, 51] {
             let answer = list_64(8, &[(offset, kind, 0)]);
-            assert_eq!(answer, (9, 0), "type {kind} at {offset:#x}");
+            assert_eq!(answer, (9, 0, 0), "type {kind} at {offset:#x}");
         }
     }
-    assert_eq!(list_64(8, &[(ABOVE, 1, 0), (0, 1, 0)]), (9, 0));
-    assert_eq!(list_64(8, &[(4, 1, 0), (ABOVE, 1, 0)]), (9, 1));
+    assert_eq!(list_64(8, &[(ABOVE, 1, 0), (0, 1, 0)]), (9, 0, 0));
+    assert_eq!(list_64(8, &[(4, 1, 0), (ABOVE, 1, 0)]), (9, 1, 0));
 }
 
 /// Addends of class 2 that class 1 does not have.
@@ -95,19 +96,20 @@ fn offsets_count_whole() {
 fn addends_count_whole() {
     const ABOVE: i64 = 1 << 32;
     for addend in [ABOVE, ABOVE + 6, i64::MIN, i64::MAX - 1, -ABOVE] {
-        assert_eq!(list_64(8, &[(0, 43, addend)]), (9, 0), "ALIGN, {addend:#x}");
-        let low = (4, 24, 2, addend);
-        let pair = pair(Symbol::new(0, 1, 0), &[HIGH, low]);
-        assert_eq!(pair.of(Class::Elf64).answer(), (9, 1), "{addend:#x}");
+        assert_eq!(
+            list_64(8, &[(0, 43, addend)]),
+            (9, 0, 0),
+            "ALIGN, {addend:#x}"
+        );
     }
 }
 
 #[test]
 fn record_offsets_never_fall() {
-    assert_eq!(list(8, &[(4, 1, 0), (0, 1, 0)]), (9, 1));
-    assert_eq!(list(8, &[(4, 51, 0), (3, 51, 0)]), (9, 1), "markers too");
-    assert_eq!(list(8, &[(4, 51, 0), (0, 1, 0)]), (9, 1));
-    assert_eq!(list(8, &[(4, 1, 0), (3, 0, 0)]), (9, 1));
+    assert_eq!(list(8, &[(4, 1, 0), (0, 1, 0)]), (9, 1, 0));
+    assert_eq!(list(8, &[(4, 51, 0), (3, 51, 0)]), (9, 1, 0), "markers too");
+    assert_eq!(list(8, &[(4, 51, 0), (0, 1, 0)]), (9, 1, 0));
+    assert_eq!(list(8, &[(4, 1, 0), (3, 0, 0)]), (9, 1, 0));
     assert_eq!(list(8, &[(4, 1, 0), (4, 51, 0)]), DONE);
     assert_eq!(list(8, &[(4, 51, 0), (4, 1, 0)]), DONE);
     assert_eq!(list(8, &[(4, 1, 0), (6, 51, 0)]), DONE, "inside a field");
@@ -124,23 +126,23 @@ fn bytes_touched_lie_in_the_row() {
     for (width, kinds) in widths {
         for kind in kinds {
             assert_eq!(list(9, &[(9 - width, *kind, 0)]), DONE, "type {kind}");
-            assert_eq!(list(9, &[(10 - width, *kind, 0)]), (9, 0), "type {kind}");
+            assert_eq!(list(9, &[(10 - width, *kind, 0)]), (9, 0, 0), "type {kind}");
         }
     }
     for kind in [16, 17, 23, 26, 27, 28, 24, 25] {
-        assert_eq!(list(8, &[(6, kind, 0)]), (9, 0), "type {kind}");
+        assert_eq!(list(8, &[(6, kind, 0)]), (9, 0, 0), "type {kind}");
     }
     for (kind, offset) in [(18, 2), (19, 2), (44, 8), (45, 8)] {
-        assert_eq!(list(8, &[(offset, kind, 0)]), (9, 0), "type {kind}");
+        assert_eq!(list(8, &[(offset, kind, 0)]), (9, 0, 0), "type {kind}");
     }
-    assert_eq!(list(8, &[(0xFFFF_FFFF, 1, 0)]), (9, 0));
+    assert_eq!(list(8, &[(0xFFFF_FFFF, 1, 0)]), (9, 0, 0));
 }
 
 #[test]
 fn a_marker_starts_at_most_at_the_row_size() {
     for kind in MARKERS {
         assert_eq!(list(8, &[(8, kind, 0)]), DONE, "type {kind}");
-        assert_eq!(list(8, &[(9, kind, 0)]), (9, 0), "type {kind}");
+        assert_eq!(list(8, &[(9, kind, 0)]), (9, 0, 0), "type {kind}");
         assert_eq!(list(0, &[(0, kind, 0)]), DONE, "type {kind}");
     }
 }
@@ -148,12 +150,16 @@ fn a_marker_starts_at_most_at_the_row_size() {
 #[test]
 fn non_markers_do_not_overlap() {
     assert_eq!(list(9, &[(0, 1, 0), (4, 1, 0)]), DONE);
-    assert_eq!(list(9, &[(0, 1, 0), (3, 1, 0)]), (9, 1));
-    assert_eq!(list(9, &[(0, 1, 0), (0, 1, 0)]), (9, 1), "1 shares nothing");
-    assert_eq!(list(9, &[(0, 57, 0), (0, 35, 0)]), (9, 1));
-    assert_eq!(list(9, &[(0, 35, 0), (0, 1, 0)]), (9, 1));
+    assert_eq!(list(9, &[(0, 1, 0), (3, 1, 0)]), (9, 1, 0));
+    assert_eq!(
+        list(9, &[(0, 1, 0), (0, 1, 0)]),
+        (9, 1, 0),
+        "1 shares nothing"
+    );
+    assert_eq!(list(9, &[(0, 57, 0), (0, 35, 0)]), (9, 1, 0));
+    assert_eq!(list(9, &[(0, 35, 0), (0, 1, 0)]), (9, 1, 0));
     let over_marker = [(0, 1, 0), (2, 51, 0), (3, 1, 0)];
-    assert_eq!(list(9, &over_marker), (9, 2), "the previous non-marker");
+    assert_eq!(list(9, &over_marker), (9, 2, 0), "the previous non-marker");
 }
 
 #[test]
@@ -167,7 +173,7 @@ fn records_that_share_a_place() {
     ];
     for (at, first) in widths.iter().enumerate() {
         for (also_at, second) in widths.iter().enumerate() {
-            let expected = if at == also_at { DONE } else { (9, 1) };
+            let expected = if at == also_at { DONE } else { (9, 1, 0) };
             for (one, two) in first
                 .iter()
                 .flat_map(|a| second.iter().map(move |b| (a, b)))
@@ -177,7 +183,11 @@ fn records_that_share_a_place() {
             }
         }
     }
-    assert_eq!(list(8, &[(0, 35, 0), (1, 35, 0)]), (9, 1), "another offset");
+    assert_eq!(
+        list(8, &[(0, 35, 0), (1, 35, 0)]),
+        (9, 1, 0),
+        "another offset"
+    );
     let three = [(0, 35, 0), (0, 51, 0), (0, 39, 0), (0, 56, 0)];
     assert_eq!(list(4, &three), DONE);
 }
@@ -191,12 +201,12 @@ fn align_addend() {
     };
     assert_eq!(with(0, 0), DONE);
     assert_eq!(with(2, 2), DONE);
-    assert_eq!(with(2, 1), (9, 0), "offset + A past the row");
-    assert_eq!(with(3, 3), (9, 0), "odd");
+    assert_eq!(with(2, 1), (9, 0, 0), "offset + A past the row");
+    assert_eq!(with(3, 3), (9, 0, 0), "odd");
     assert_eq!(with(4_094, 4_094), DONE);
-    assert_eq!(with(4_096, 4_096), (9, 0));
-    assert_eq!(with(-2, 8), (9, 0));
-    assert_eq!(with(i64::from(i32::MIN), 8), (9, 0));
+    assert_eq!(with(4_096, 4_096), (9, 0, 0));
+    assert_eq!(with(-2, 8), (9, 0, 0));
+    assert_eq!(with(i64::from(i32::MIN), 8), (9, 0, 0));
 }
 
 #[test]
@@ -205,12 +215,12 @@ fn align_boundary() {
     for (addend, boundary) in [(0, 2), (2, 4), (4, 8), (6, 8), (8, 16), (14, 16), (16, 32)] {
         for offset in 0..64 {
             let reached = (PLACE + offset + addend).is_multiple_of(boundary);
-            let expected = if reached { DONE } else { (14, 0) };
+            let expected = if reached { DONE } else { (14, 0, 0) };
             let given = list(128, &[(offset, 43, addend as i64)]);
             assert_eq!(given, expected, "A {addend} at {offset}");
         }
     }
-    for (offset, expected) in [(2, DONE), (4, (14, 0)), (0, (14, 0)), (4_098, DONE)] {
+    for (offset, expected) in [(2, DONE), (4, (14, 0, 0)), (0, (14, 0, 0)), (4_098, DONE)] {
         assert_eq!(list(9_000, &[(offset, 43, 4_094)]), expected);
     }
 }
@@ -226,115 +236,6 @@ fn markers_skip_10() {
     }
 }
 
-/// auipc a0 at 0, addi a0, a0 at 4; symbol 1 is absolute, symbol 2 the label.
-fn pair(label: Symbol, relocations: &[(u64, u32, u32, i64)]) -> Fit {
-    let code = [0x517_u32, 0x50513, 0x517, 0x50513].map(u32::to_le_bytes);
-    let list: Vec<Relocation> = relocations
-        .iter()
-        .map(|(offset, kind, symbol, addend)| Relocation::new(*offset, *kind, *symbol, *addend))
-        .collect();
-    let symbols = [Symbol::absolute(0x2345_6FFF), label];
-    Fit::code(PLACE, &code.concat(), &symbols, &list)
-}
-
-const HIGH: (u64, u32, u32, i64) = (0, 23, 1, 0);
-const LOW: (u64, u32, u32, i64) = (4, 24, 2, 0);
-
-#[test]
-fn exactly_one_pair() {
-    let label = Symbol::new(0, 1, 0);
-    assert_eq!(pair(label, &[HIGH, LOW]).answer_of_both(), DONE);
-    assert_eq!(pair(label, &[LOW]).answer_of_both(), (12, 0), "none");
-    let other = (8, 23, 1, 0);
-    assert_eq!(
-        pair(label, &[LOW, other]).answer_of_both(),
-        (12, 0),
-        "elsewhere"
-    );
-    let absolute_high = (0, 26, 1, 0);
-    assert_eq!(
-        pair(label, &[absolute_high, LOW]).answer_of_both(),
-        (11, 0),
-        "HI20 is no pair, and auipc no lui"
-    );
-    // Two at one offset overlap, so that the second comes behind the low half.
-    let at_8 = Symbol::new(0, 1, 8);
-    let twice = [LOW, other, other];
-    assert_eq!(pair(at_8, &twice).answer_of_both(), (12, 0), "two");
-    assert_eq!(
-        pair(at_8, &[LOW, other]).answer_of_both(),
-        DONE,
-        "it may come later"
-    );
-}
-
-#[test]
-fn the_low_half_is_the_pairs() {
-    let laid = pair(Symbol::new(0, 1, 0), &[HIGH, LOW]).laid_of_both();
-    let distance = 0x2345_6FFF - PLACE;
-    let high = u32::from_le_bytes([laid[0], laid[1], laid[2], laid[3]]) & 0xFFFF_F000;
-    let low = u32::from_le_bytes([laid[4], laid[5], laid[6], laid[7]]) as i32 >> 20;
-    assert_eq!(u64::from(high.wrapping_add(low as u32)), distance);
-    let with_addend = (0, 23, 1, -0x7FF);
-    let laid = pair(Symbol::new(0, 1, 0), &[with_addend, LOW]).laid_of_both();
-    let low = u32::from_le_bytes([laid[4], laid[5], laid[6], laid[7]]) as i32 >> 20;
-    assert_eq!(low, -2_048, "with the pair's addend");
-}
-
-#[test]
-fn symbol_of_a_low_half() {
-    let with = |label| pair(label, &[HIGH, LOW]).answer_of_both();
-    assert_eq!(with(Symbol::absolute(0)), (10, 1));
-    assert_eq!(with(Symbol::new(0, 2, 0)), (10, 1), "another row");
-    assert_eq!(with(Symbol::new(WEAK, 0, 0)), (10, 1), "undefined");
-    assert_eq!(with(Symbol::new(6, 1, 0)), (10, 1), "TLS");
-    assert_eq!(with(Symbol::new(10, 1, 0)), (10, 1), "IFUNC");
-    assert_eq!(with(Symbol::new(3, 1, 0)), DONE, "a section symbol");
-    let symbol_0 = (4, 24, 0, 0);
-    let mut fit = pair(Symbol::new(0, 1, 0), &[HIGH, symbol_0]);
-    assert_eq!(fit.answer_of_both(), (10, 1), "symbol 0");
-    fit.sections[2].symbols_mut()[0].section = 1;
-    assert_eq!(
-        fit.answer_of_both(),
-        (10, 1),
-        "symbol 0, whatever its entry holds"
-    );
-    let mut two_rows = pair(Symbol::new(0, 4, 0), &[HIGH, LOW]);
-    two_rows.sections.push(Section::nobits(1, 8));
-    two_rows.placements.push((4, 0x9000));
-    assert_eq!(two_rows.answer_of_both(), (10, 1), "another allocated row");
-}
-
-#[test]
-fn addend_of_a_low_half_is_0() {
-    for addend in [1, -1, 4] {
-        let low = (4, 24, 2, addend);
-        assert_eq!(
-            pair(Symbol::new(0, 1, 0), &[HIGH, low]).answer_of_both(),
-            (9, 1)
-        );
-    }
-}
-
-/// The pair is looked for in the same RELA row only.
-#[test]
-fn a_pair_in_another_row_is_none() {
-    let mut fit = pair(Symbol::new(0, 1, 0), &[LOW]);
-    let code = fit.sections[1].clone();
-    fit.sections.push(code);
-    let high = [Relocation::new(0, 23, 1, 0)];
-    fit.sections.push(Section::relocations(4, 2, &high));
-    fit.placements.push((4, PLACE + 16));
-    assert_eq!(fit.answer_of_both(), (12, 0));
-}
-
-#[test]
-fn a_broken_pair_is_named_in_its_own_turn() {
-    let label = Symbol::new(0, 1, 8);
-    let unresolved = (8, 23, 99, 0);
-    assert_eq!(pair(label, &[LOW, unresolved]).answer_of_both(), (10, 1));
-}
-
 /// "each through 9 to 14 before the next", counted over all RELA rows.
 #[test]
 fn records_go_one_by_one() {
@@ -344,14 +245,14 @@ fn records_go_one_by_one() {
     let refused = Relocation::new(4, 3, 1, 0);
     let symbols = [Symbol::absolute(PLACE)];
     let fit = Fit::code(PLACE, &code, &symbols, &[far, refused]);
-    assert_eq!(fit.answer_of_both(), (13, 0));
+    assert_eq!(fit.answer_of_both(), (13, 0, 0));
     let near = Relocation::new(0, 17, 1, 0);
     let mut fit = Fit::code(PLACE, &code, &symbols, &[near]);
     fit.sections.push(Section::loaded(1, &code));
     fit.placements.push((4, PLACE + 8));
     let list = [near, Relocation::new(4, 17, 1, 1)];
     fit.sections.push(Section::relocations(4, 2, &list));
-    assert_eq!(fit.answer_of_both(), (13, 2));
+    assert_eq!(fit.answer_of_both(), (13, 2, 0));
 }
 
 /// Each check in turn is broken together with all later ones that can be.
@@ -365,10 +266,12 @@ fn checks_9_to_12_in_order() {
         ];
         Fit::code(PLACE, &code, &[Symbol::new(0, 1, 4)], &list).answer_of_both()
     };
-    assert_eq!(with(1, 9, 0x33, 51), (9, 0));
-    assert_eq!(with(0, 9, 0x33, 51), (10, 0));
-    assert_eq!(with(0, 1, 0x33, 51), (11, 0));
-    assert_eq!(with(0, 1, 0x13, 51), (12, 0));
+    assert_eq!(with(1, 9, 0x33, 51), (9, 0, 0));
+    assert_eq!(with(0, 9, 0x33, 51), (10, 0, 1));
+    assert_eq!(with(1, 0, 0x33, 51), (9, 0, 0));
+    assert_eq!(with(0, 0, 0x33, 51), (10, 0, 7));
+    assert_eq!(with(0, 1, 0x33, 51), (11, 0, 0));
+    assert_eq!(with(0, 1, 0x13, 51), (12, 0, 0));
     assert_eq!(with(0, 1, 0x13, 23), DONE);
 }
 
@@ -379,46 +282,16 @@ fn checks_9_to_13_in_order() {
         let list = [Relocation::new(offset, 17, symbol, 0)];
         Fit::code(PLACE, &code, &[Symbol::absolute(target)], &list).answer_of_both()
     };
-    assert_eq!(with(1, 9, 0x33, PLACE + 1), (9, 0));
-    assert_eq!(with(0, 9, 0x33, PLACE + 1), (10, 0));
-    assert_eq!(with(0, 1, 0x33, PLACE + 1), (11, 0));
-    assert_eq!(with(0, 1, 0x6F, PLACE + 1), (13, 0));
+    assert_eq!(with(1, 9, 0x33, PLACE + 1), (9, 0, 0));
+    assert_eq!(with(0, 9, 0x33, PLACE + 1), (10, 0, 1));
+    assert_eq!(with(0, 1, 0x33, PLACE + 1), (11, 0, 0));
+    assert_eq!(with(0, 1, 0x6F, PLACE + 1), (13, 0, 0));
     assert_eq!(with(0, 1, 0x6F, PLACE + 2), DONE);
 }
 
 /// "A even" is 9, and the boundary 14.
 #[test]
 fn align_9_before_14() {
-    assert_eq!(list(8, &[(1, 43, 1)]), (9, 0));
-    assert_eq!(list(8, &[(1, 43, 2)]), (14, 0));
-}
-
-/// A label and an offset are compared with all their bits.
-#[test]
-fn pairs_in_class_2() {
-    const ABOVE: u64 = 1 << 32;
-    let with = |label, list: &[(u64, u32, u32, i64)]| {
-        let fit = pair(Symbol::new(0, 1, label), list);
-        fit.of(Class::Elf64).answer()
-    };
-    assert_eq!(with(0, &[HIGH, LOW]), DONE);
-    assert_eq!(with(ABOVE, &[HIGH, LOW]), (12, 1));
-    let far = (ABOVE, 23, 1, 0);
-    assert_eq!(with(0, &[LOW, far]), (12, 0));
-    assert_eq!(
-        with(ABOVE, &[LOW, far]),
-        (9, 1),
-        "a pair, but outside the row"
-    );
-    assert_eq!(with(ABOVE, &[LOW, far, far]), (12, 0));
-    let last = (u64::MAX, 23, 1, 0);
-    assert_eq!(with(u64::MAX, &[LOW, last]), (9, 1));
-    assert_eq!(with(u64::MAX - 1, &[LOW, last]), (12, 0));
-    let no_high = (0, 23 + 256, 1, 0);
-    assert_eq!(
-        with(8, &[LOW, (8, 23 + 256, 1, 0)]),
-        (12, 0),
-        "type 279 is no pair"
-    );
-    assert_eq!(with(0, &[no_high, LOW]), (9, 0));
+    assert_eq!(list(8, &[(1, 43, 1)]), (9, 0, 0));
+    assert_eq!(list(8, &[(1, 43, 2)]), (14, 0, 0));
 }

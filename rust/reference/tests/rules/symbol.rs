@@ -1,8 +1,8 @@
 //! S, seen through a 32 relocation (T is S + A modulo 2^32).
 
-use crate::DONE;
 use reference::numbers::number_from;
 use testing::build::*;
+use testing::DONE;
 
 const PLACE: u64 = 0x1000;
 
@@ -39,14 +39,20 @@ fn symbol_of_an_allocated_row() {
     assert_eq!(value(&nobits), 0x900C);
 }
 
+/// "row missing or not allocated (sections 1 to 0xFEFF), common (section 0xFFF2),
+/// reserved section (0xFF00 and up, but for 0xFFF1 and 0xFFF2)", each before "wrong
+/// type (TLS or IFUNC)". There are rows 0 to 3, and row 1 is allocated.
 #[test]
 fn symbol_of_another_row() {
-    for row in [2, 3, 4, 127, 128, 0xFF00, 0xFFF0, 0xFFF2, 0xFFFF] {
-        assert_eq!(
-            against(Symbol::new(0, row, 0), 0).answer_of_both(),
-            (10, 0),
-            "section {row}"
-        );
+    let missing = [2, 3, 4, 127, 128, 0xFE01, 0xFEFF].map(|row| (row, 2));
+    let reserved = [0xFF00, 0xFF01, 0xFFF0, 0xFFF3, 0xFFFE, 0xFFFF].map(|row| (row, 4));
+    let common = [(0xFFF2, 3)];
+    for (row, reason) in missing.into_iter().chain(reserved).chain(common) {
+        for kind in [0, TLS, IFUNC] {
+            let fit = against(Symbol::new(kind, row, 0), 0);
+            let name = format!("section {row:#x}, type {kind}");
+            assert_eq!(fit.answer_of_both(), (10, 0, reason), "{name}");
+        }
     }
     assert_eq!(value(&against(Symbol::new(0, 0xFFF1, 5), 0)), 5);
 }
@@ -61,23 +67,19 @@ fn undefined_symbols() {
     };
     assert_eq!(value(&undefined(GLOBAL, true)), 0x8765_4321);
     assert_eq!(value(&undefined(WEAK, true)), 0x8765_4321);
-    assert_eq!(undefined(GLOBAL, false).answer_of_both(), (10, 0));
-    assert_eq!(undefined(0, false).answer_of_both(), (10, 0));
-    assert_eq!(
-        undefined(0x30, false).answer_of_both(),
-        (10, 0),
-        "binding 3"
-    );
+    for binding in [0, GLOBAL, 0x30, 0xA0, 0xF0] {
+        let fit = undefined(binding, false);
+        assert_eq!(fit.answer_of_both(), (10, 0, 5), "binding {binding:#x}");
+    }
     assert_eq!(value(&undefined(WEAK, false)), 0, "and not its value");
 }
 
 #[test]
 fn tls_and_ifunc() {
     for kind in 0..16 {
-        let expected = if matches!(kind, 6 | 10) {
-            (10, 0)
-        } else {
-            DONE
+        let expected = match kind {
+            TLS | IFUNC => (10, 0, 6),
+            _ => DONE,
         };
         for section in [1, ABSOLUTE] {
             let fit = against(Symbol::new(GLOBAL + kind, section, 0), 0);
@@ -87,6 +89,10 @@ fn tls_and_ifunc() {
         assert_eq!(fit.answer_of_both(), expected, "weak, type {kind}");
         fit.external_values = vec![(1, 3)];
         assert_eq!(fit.answer_of_both(), expected, "named, type {kind}");
+        let mut strong = against(Symbol::new(GLOBAL + kind, 0, 0), 0);
+        assert_eq!(strong.answer_of_both(), (10, 0, 5), "strong, type {kind}");
+        strong.external_values = vec![(1, 3)];
+        assert_eq!(strong.answer_of_both(), expected, "strong, type {kind}");
     }
 }
 
@@ -97,8 +103,8 @@ fn index_past_the_table() {
         Fit::code(PLACE, &[0; 4], &[Symbol::absolute(0)], &list).answer_of_both()
     };
     assert_eq!(with(1), DONE);
-    assert_eq!(with(2), (10, 0));
-    assert_eq!(with(0xFF_FFFF), (10, 0));
+    assert_eq!(with(2), (10, 0, 1));
+    assert_eq!(with(0xFF_FFFF), (10, 0, 1));
 }
 
 #[test]
@@ -138,6 +144,6 @@ fn index_past_the_table_in_class_2() {
     for symbol in [2, 255, 256, 8_192, 1 << 24, (1 << 24) + 1, u32::MAX] {
         let list = [Relocation::new(0, 1, symbol, 0)];
         let fit = Fit::code(PLACE, &[0; 4], &[Symbol::absolute(0)], &list);
-        assert_eq!(fit.of(Class::Elf64).answer(), (10, 0), "symbol {symbol}");
+        assert_eq!(fit.of(Class::Elf64).answer(), (10, 0, 1), "symbol {symbol}");
     }
 }

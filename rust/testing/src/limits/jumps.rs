@@ -1,7 +1,8 @@
 //! How far jumps, branches and calls go, with bit 0 of e_flags set and clear.
 
-use super::{Limits, DONE, HI20, JAL, PCREL_HI20, RVC_JUMP};
+use super::{Limits, HI20, JAL, PCREL_HI20, RVC_JUMP};
 use crate::build::*;
+use crate::{Numbers, DONE};
 
 const BRANCH: u32 = 16;
 const CALL: u32 = 18;
@@ -41,10 +42,10 @@ impl Limits {
             for place in places {
                 for (distance, answer) in [
                     (back(reach), DONE),
-                    (back(reach + 2), (13, 0)),
+                    (back(reach + 2), (13, 0, 0)),
                     (reach - 2, DONE),
-                    (reach, (13, 0)),
-                    (half, (13, 0)),
+                    (reach, (13, 0, 0)),
+                    (half, (13, 0, 0)),
                 ] {
                     self.over(RVC, place, kind, bytes, distance, answer);
                 }
@@ -61,17 +62,17 @@ impl Limits {
             for place in places {
                 for (distance, answer) in [
                     (back(reach), DONE),
-                    (back(reach - 2), (13, 0)),
-                    (back(reach + 4), (13, 0)),
+                    (back(reach - 2), (13, 0, 0)),
+                    (back(reach + 4), (13, 0, 0)),
                     (back(4), DONE),
-                    (2, (13, 0)),
+                    (2, (13, 0, 0)),
                     (4, DONE),
                     (reach - 4, DONE),
-                    (reach - 2, (13, 0)),
-                    (reach, (13, 0)),
-                    (half, (13, 0)),
+                    (reach - 2, (13, 0, 0)),
+                    (reach, (13, 0, 0)),
+                    (half, (13, 0, 0)),
                 ] {
-                    let answer = if is_short { (9, 0) } else { answer };
+                    let answer = if is_short { (9, 0, 0) } else { answer };
                     self.over(0, place, kind, bytes, distance, answer);
                 }
             }
@@ -80,11 +81,11 @@ impl Limits {
             for place in [0, half, self.top - 7] {
                 for (distance, answer) in [
                     (0, DONE),
-                    (2, (13, 0)),
+                    (2, (13, 0, 0)),
                     (0x7FFC, DONE),
-                    (0x7FFE, (13, 0)),
+                    (0x7FFE, (13, 0, 0)),
                     (back(4), DONE),
-                    (back(6), (13, 0)),
+                    (back(6), (13, 0, 0)),
                 ] {
                     self.over(0, place, kind, &AUIPC_JALR, distance, answer);
                 }
@@ -112,8 +113,8 @@ impl Limits {
                 for (distance, answer) in [
                     (lowest, DONE),
                     (highest, DONE),
-                    (lowest.wrapping_sub(step), (13, 0)),
-                    (highest.wrapping_add(step), (13, 0)),
+                    (lowest.wrapping_sub(step), (13, 0, 0)),
+                    (highest.wrapping_add(step), (13, 0, 0)),
                 ] {
                     self.over(flags, place, kind, bytes, distance, answer);
                 }
@@ -130,7 +131,7 @@ impl Limits {
         kind: u32,
         bytes: &[u8],
         distance: u64,
-        answer: (u32, u32),
+        answer: Numbers,
     ) {
         let target = place.wrapping_add(distance) & self.top;
         let list = [Relocation::new(0, kind, 1, 0)];

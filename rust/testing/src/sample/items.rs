@@ -232,14 +232,16 @@ impl Sampler<'_> {
 
     /// Breaks one relocation or the bytes under it.
     pub(super) fn spoil(&mut self, item: &mut Item) {
-        let unresolved = self.values.iter().position(Option::is_none).unwrap_or(0);
+        let unresolved = self.random.pick(&self.unresolved);
+        let (elsewhere, _) = self.symbol();
         let any = self.random.u32();
         let Some(last) = item.relocations.last_mut() else {
             return;
         };
         match any % 8 {
             0 => last.kind = (any >> 8) % 512,
-            1 => last.symbol = unresolved as u32,
+            1 if any >> 31 == 0 && matches!(last.kind, 24 | 25) => last.symbol = elsewhere,
+            1 => last.symbol = unresolved,
             2 => last.symbol = any >> 8,
             3 => last.addend = last.addend.wrapping_add(1 + i64::from(any >> 31)),
             4 => last.addend = last.addend.wrapping_add(8_192),
