@@ -224,7 +224,7 @@ fn write_beside(i: usize, bytes: &[u8], name: &mut [u8]) -> usize
     let mut given = io::buffer();
     let g = os::arg(i, &mut given);
     let mut path = io::buffer();
-    let old = target(&given[..g], &mut path);
+    let old = find_target(&given[..g], &mut path);
     let n = old.len;
     if n == 0 {
         return 0;
@@ -278,7 +278,7 @@ struct Replaced {
 }
 
 // Puts the path of the file that is to be replaced into `path`, or says why there is none.
-fn target(given: &[u8], path: &mut [u8]) -> Replaced
+fn find_target(given: &[u8], path: &mut [u8]) -> Replaced
     ensures { λ r. ⌜ Counts (r .len) (now (path .exit)) ⌝ }
 {
     let fd = os::open_read(given);
