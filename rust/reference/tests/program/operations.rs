@@ -5,6 +5,7 @@ use std::process::{Command, Output};
 
 use crate::bench::{good, line, on_both, Bench, Program, FIT, TAKE_BACK};
 use crate::cuts::{before_and_after, bench_with, disturbed_with, named, pair, Pair};
+use testing::build::{journal, Fit, Section};
 
 /// Each call with what its files hold before it and after it, and the names of
 /// the files that it replaces, in their order.
@@ -154,6 +155,64 @@ fn answers_that_are_lost() {
             bench.says(&output, "standard output: ");
             assert_eq!(message(&output).lines().count(), 1);
             assert_eq!(bench.files(), files);
+        }
+    });
+}
+
+/// What the two commands of README say of the files: n, and whether a
+/// taking-back is the repair.
+fn told(bench: &Bench) -> String {
+    let readme = concat!(env!("CARGO_MANIFEST_DIR"), "/../../README.md");
+    let readme = std::fs::read_to_string(readme).expect("README");
+    let commands = readme.split_once("    e=($(od").expect("the commands").1;
+    let commands = commands.split_once("\n\n").expect("their end").0;
+    let mut bash = Command::new("bash");
+    bash.arg("-c").arg(format!("e=($(od{commands}"));
+    let output = bash
+        .current_dir(bench.path(""))
+        .output()
+        .expect("bash starts");
+    assert_eq!(message(&output), "");
+    String::from_utf8(output.stdout).expect("plain text")
+}
+
+/// They tell a cut fit from one that is not made and one that is done, also
+/// where another fit stands already.
+#[test]
+fn the_commands_that_tell_of_a_cut() {
+    on_both(|program| {
+        let mut fit = good();
+        fit.journal = journal(8);
+        let bench = Bench::new(program, &fit);
+        assert_eq!(told(&bench), "0\n");
+        for n in 1..3 {
+            let image = bench.read("image");
+            line(&bench.fit());
+            assert_eq!(told(&bench), format!("{n}\n"), "done");
+            let done = bench.read("image");
+            bench.write("image", &image);
+            assert_eq!(told(&bench), format!("{n}\nstill the old bytes\n"), "cut");
+            bench.write("image", &done);
+            fit.placements[0].1 += 8;
+            bench.write("order", &fit.order());
+        }
+    });
+}
+
+/// The longest span that the program can save: a ledger has 65,536 bytes, and 136
+/// are its own.
+#[test]
+fn the_longest_span() {
+    on_both(|program| {
+        for (length, is_saved) in [(65_400, true), (65_401, false)] {
+            let ends = [0x1000, 0x1000 + length - 4];
+            let sections = ends.map(|address| (Section::loaded(1, &[7; 4]), address));
+            let mut fit = Fit::placed(0x1000, length as usize, &sections);
+            fit.journal = journal(65_400);
+            let bench = Bench::new(program, &fit);
+            let expected = if is_saved { "0 " } else { "15 " };
+            let answer = line(&bench.fit());
+            assert!(answer.starts_with(expected), "{length}: {answer}");
         }
     });
 }
