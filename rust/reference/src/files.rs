@@ -72,9 +72,8 @@ pub fn read(path: &Path) -> Result<Contents, String> {
 /// the old". Both new files are written out before either is renamed, and both
 /// names are then still those of the files that were read.
 pub fn replace_both(first: (&Contents, &[u8]), second: (&Contents, &[u8])) -> Result<(), String> {
-    let new = [first, second].map(|(file, bytes)| Replacement::write(&file.path, bytes, "new"));
-    let [new_first, new_second] = new;
-    let (new_first, new_second) = (new_first?, new_second?);
+    let new_first = Replacement::write(&first.0.path, first.1, "new")?;
+    let new_second = Replacement::write(&second.0.path, second.1, "new")?;
     let old = [read(&first.0.path)?, read(&second.0.path)?];
     new_first.is_still(&first.0.seen)?;
     new_second.is_still(&second.0.seen)?;
