@@ -9,6 +9,8 @@
  *   - Each buffer has its whole length, and its bytes can be read: of image, ledger and answers also written.
  *   - The buffers of one call must not overlap.
  *   - No other thread uses image, ledger or answers, or writes object, order or calls, during the call.
+ *   - One process at a time works on an image and its ledger, from reading them until both are stored again: there is no lock,
+ *     and of two at once one loses its fit without a word. The same holds for the program `aktinoph`.
  *
  * Lengths: any length is answered. A call can be done with an object of at most AKTINOPH_LONGEST bytes, which has at
  * most 128 sections, 8,192 symbols and 32,768 relocations; an order of at most 128 placements and 8,192 outside values; an

@@ -5,13 +5,16 @@
 //
 // Number, place and reason go to standard output. If a file cannot be read, or the result cannot be kept, a message on standard
 // error names the file, nothing goes to standard output, and no file is changed. If a file is longer than 65,536 bytes,
-// `too long` goes to standard output. The exit status is always 0: Rattle has no other.
+// `too long` goes to standard output, and a message names the file. If the answer of a done call cannot be written, a
+// message says that the files are new. The exit status is always 0: Rattle has no other.
 ghost use mathlib.Core.Path.{_≡_};
 ghost use mathlib.Core.Bool.{_||_};
 ghost use lib.Dec.{ltb};
+use program_files::File;
 use program_files::MAX_FILE;
 use program_files::ROOM;
-use program_files::replace_both;
+use program_files::read;
+use program_replace::replace_both;
 use program_text::Command;
 use program_text::LINE;
 
@@ -21,20 +24,27 @@ fn main() {
     match program_text::asked(&word[..n], os::arg_count()) {
         Command::Fit => fit(),
         Command::TakeBack => take_back(),
-        Command::Unknown => usage(),
+        Command::Help => usage(libc::STDOUT_FILENO),
+        Command::Version => version(),
+        Command::Unknown => usage(libc::STDERR_FILENO),
     }
 }
 
-fn usage() {
-    io::write_all(
-        libc::STDERR_FILENO,
-        b"usage: aktinoph fit OBJECT ORDER IMAGE LEDGER\n       aktinoph take-back IMAGE LEDGER\n",
-    );
+fn usage(fd: i32) {
+    let line =
+        b"usage: aktinoph fit OBJECT ORDER IMAGE LEDGER\n       aktinoph take-back IMAGE LEDGER\n       aktinoph --help\n       aktinoph --version\n";
+    if !io::write_all(fd, line) {
+        os::fail(b"standard output");
+    }
+}
+
+fn version() {
+    print(b"aktinoph 0.1.0\n");
 }
 
 fn fit() {
     let mut object = [0u8; ROOM];
-    let a = program_files::read(2, &mut object);
+    let a = read(2, &mut object);
     let n = a.len;
     if a.is_read {
         fit_object(&object[..n]);
@@ -43,7 +53,7 @@ fn fit() {
 
 fn fit_object(object: &[u8]) {
     let mut order = [0u8; ROOM];
-    let a = program_files::read(3, &mut order);
+    let a = read(3, &mut order);
     let n = a.len;
     if a.is_read {
         over_files(true, object, &order[..n], 4, 5);
@@ -57,10 +67,10 @@ fn take_back() {
 // Makes a call over the files of image and ledger, which the arguments `image_at` and `ledger_at` name.
 fn over_files(is_fit: bool, object: &[u8], order: &[u8], image_at: usize, ledger_at: usize) {
     let mut image = [0u8; ROOM];
-    let a = program_files::read(image_at, &mut image);
+    let a = read(image_at, &mut image);
     let n = a.len;
     if a.is_read {
-        over_image(is_fit, object, order, image_at, &mut image[..n], ledger_at);
+        over_image(is_fit, object, order, a, &mut image[..n], ledger_at);
     }
 }
 
@@ -68,24 +78,32 @@ fn over_image(
     is_fit: bool,
     object: &[u8],
     order: &[u8],
-    image_at: usize,
+    image_file: File,
     image: &mut [u8],
     ledger_at: usize,
 ) {
     let mut ledger = [0u8; ROOM];
-    let a = program_files::read(ledger_at, &mut ledger);
+    let a = read(ledger_at, &mut ledger);
     let n = a.len;
     if !a.is_read {
         return;
     }
     if any_long(object.len(), order.len(), image.len(), n) {
+        let long = first_long(
+            object.len(),
+            order.len(),
+            image.len(),
+            image_file.at,
+            ledger_at,
+        );
+        program_files::say_long(long);
         print(b"too long\n");
         return;
     }
     if is_fit {
-        fit_bytes(object, order, image_at, image, ledger_at, &mut ledger[..n]);
+        fit_bytes(object, order, image_file, image, a, &mut ledger[..n]);
     } else {
-        take_back_bytes(image_at, image, ledger_at, &mut ledger[..n]);
+        take_back_bytes(image_file, image, a, &mut ledger[..n]);
     }
 }
 
@@ -94,29 +112,36 @@ fn over_image(
 fn fit_bytes(
     object: &[u8],
     order: &[u8],
-    image_at: usize,
+    image_file: File,
     image: &mut [u8],
-    ledger_at: usize,
+    ledger_file: File,
     ledger: &mut [u8],
 ) {
     let code = fitter::aktinoph_fit(object, order, image, ledger);
-    keep(code, ledger_at, ledger, image_at, image);
+    keep(code, ledger_file, ledger, image_file, image);
 }
 
 // The image is replaced first. If the program is cut off between the two, the fit can be taken back once more.
-fn take_back_bytes(image_at: usize, image: &mut [u8], ledger_at: usize, ledger: &mut [u8]) {
+fn take_back_bytes(image_file: File, image: &mut [u8], ledger_file: File, ledger: &mut [u8]) {
     let code = fitter::aktinoph_take_back(image, ledger);
-    keep(code, image_at, image, ledger_at, ledger);
+    keep(code, image_file, image, ledger_file, ledger);
 }
 
 // Replaces both files if the call was done, and then prints its answer.
-fn keep(code: u64, first: usize, new: &[u8], second: usize, other: &[u8]) {
+fn keep(code: u64, first: File, new: &[u8], second: File, other: &[u8]) {
     if code == 0 {
         if !replace_both(first, new, second, other) {
             return;
         }
     }
-    print_answer(code);
+    if !print_answer(code) {
+        if code == 0 {
+            io::write_all(
+                libc::STDERR_FILENO,
+                b"the call is done, image and ledger are new\n",
+            );
+        }
+    }
 }
 
 // "files of at most 65,536 bytes": whether one of them is longer.
@@ -126,14 +151,36 @@ fn any_long(object: usize, order: usize, image: usize, ledger: usize) -> bool
     (object > MAX_FILE) | (order > MAX_FILE) | (image > MAX_FILE) | (ledger > MAX_FILE)
 }
 
-fn print_answer(code: u64) {
-    let mut line = [0u8; LINE];
-    let n = program_text::line_of(code, &mut line);
-    print(&line[..n]);
+// The number of the first argument whose file is longer, if one is. Only a fit has an object and an order, which are its
+// arguments 2 and 3.
+fn first_long(
+    object: usize,
+    order: usize,
+    image: usize,
+    image_at: usize,
+    ledger_at: usize,
+) -> usize {
+    if object > MAX_FILE {
+        2
+    } else if order > MAX_FILE {
+        3
+    } else if image > MAX_FILE {
+        image_at
+    } else {
+        ledger_at
+    }
 }
 
-fn print(line: &[u8]) {
-    if !io::write_all(libc::STDOUT_FILENO, line) {
-        os::fail(b"standard output");
+fn print_answer(code: u64) -> bool {
+    let mut line = [0u8; LINE];
+    let n = program_text::line_of(code, &mut line);
+    print(&line[..n])
+}
+
+fn print(line: &[u8]) -> bool {
+    if io::write_all(libc::STDOUT_FILENO, line) {
+        return true;
     }
+    os::fail(b"standard output");
+    false
 }

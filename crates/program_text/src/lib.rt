@@ -11,6 +11,8 @@ ghost use Rattle.program_text.specs.Lines.{Appended, decimal, line};
 pub enum Command {
     Fit,
     TakeBack,
+    Help,
+    Version,
     Unknown,
 }
 
@@ -29,6 +31,22 @@ pub fn asked(word: &[u8], count: usize) -> Command
             return Command::TakeBack;
         }
         return Command::Unknown;
+    }
+    if count == 2 {
+        return asked_alone(word);
+    }
+    Command::Unknown
+}
+
+// The command of a word that no file follows.
+fn asked_alone(word: &[u8]) -> Command
+    ensures { λ r. ⌜ Asks (now (word .entry)) 2 r ⌝ }
+{
+    if check::same(word, b"--help") {
+        return Command::Help;
+    }
+    if check::same(word, b"--version") {
+        return Command::Version;
     }
     Command::Unknown
 }

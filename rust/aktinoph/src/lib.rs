@@ -12,6 +12,10 @@
 //! bytes for RV32 and of eight for RV64. The ledger is the same for both, so that
 //! fits of both classes can stand in one image.
 //!
+//! One process at a time may work on an image and its ledger, from reading them
+//! until both are stored again: there is no lock, and of two at once one loses
+//! its fit without a word.
+//!
 //! ```
 //! # fn main() -> Result<(), Box<dyn std::error::Error>> {
 //! let object = std::fs::read("../../objects/clang-switch/clang-switch.o")?;

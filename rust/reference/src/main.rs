@@ -1,8 +1,9 @@
 //! The program: one call over files.
 //!
 //! A done or refused call writes its number, place and reason and exits with 0,
-//! and so does a file that is too long. Anything else gives a line on standard
-//! error, changes no file and exits with 1.
+//! and so does a file that is too long, which a line on standard error then names.
+//! Anything else gives a line on standard error, changes no file and exits with 1;
+//! only where the answer itself cannot be written are the files of a done call new.
 
 #![forbid(unsafe_code)]
 
@@ -20,12 +21,57 @@ use files::{read, replace_both, Contents};
 use reference::Answer;
 
 const USAGE: &str = "usage: reference fit OBJECT ORDER IMAGE LEDGER\n       \
-                     reference take-back IMAGE LEDGER";
+                     reference take-back IMAGE LEDGER\n       \
+                     reference --help\n       \
+                     reference --version";
+const VERSION: &str = concat!("reference ", env!("CARGO_PKG_VERSION"));
+
+/// A line for standard output, and what is said beside it on standard error:
+/// why a file is too long, or that files are new if the line cannot be written.
+struct Said {
+    line: String,
+    beside: Option<String>,
+    lost: &'static str,
+}
+
+impl Said {
+    fn line(line: impl Into<String>) -> Said {
+        Said {
+            line: line.into(),
+            beside: None,
+            lost: "",
+        }
+    }
+
+    fn answer(answer: Answer) -> Said {
+        let is_done = answer == Answer::DONE;
+        Said {
+            lost: if is_done {
+                "\nthe call is done, image and ledger are new"
+            } else {
+                ""
+            },
+            ..Said::line(line(answer))
+        }
+    }
+
+    /// "A longer file gives the line `too long`, and no file changes."
+    fn too_long(why: String) -> Said {
+        Said {
+            beside: Some(why),
+            ..Said::line("too long")
+        }
+    }
+}
 
 fn main() -> ExitCode {
     let arguments: Vec<OsString> = env::args_os().skip(1).collect();
-    let done = run(&arguments).and_then(|line| {
-        print(&format!("{line}\n")).map_err(|error| format!("standard output: {error}"))
+    let done = run(&arguments).and_then(|said| {
+        if let Some(why) = &said.beside {
+            let _ = writeln!(io::stderr(), "{why}");
+        }
+        print(&format!("{}\n", said.line))
+            .map_err(|error| format!("standard output: {error}{}", said.lost))
     });
     match done {
         Ok(()) => ExitCode::SUCCESS,
@@ -42,8 +88,8 @@ fn print(line: &str) -> io::Result<()> {
     output.write_all(line.as_bytes())
 }
 
-/// The line for standard output, or the message for standard error.
-fn run(arguments: &[OsString]) -> Result<String, String> {
+/// What is said of a call that is answered, or the message of one that is not made.
+fn run(arguments: &[OsString]) -> Result<Said, String> {
     let words: Vec<&Path> = arguments.iter().map(Path::new).collect();
     match words.split_first() {
         Some((command, [object, order, image, ledger])) if *command == Path::new("fit") => {
@@ -52,48 +98,46 @@ fn run(arguments: &[OsString]) -> Result<String, String> {
         Some((command, [image, ledger])) if *command == Path::new("take-back") => {
             take_back(image, ledger)
         }
+        Some((command, [])) if *command == Path::new("--help") => Ok(Said::line(USAGE)),
+        Some((command, [])) if *command == Path::new("--version") => Ok(Said::line(VERSION)),
         _ => Err(USAGE.to_string()),
     }
 }
 
-fn fit(object: &Path, order: &Path, image: &Path, ledger: &Path) -> Result<String, String> {
-    let contents = [read(object)?, read(order)?, read(image)?, read(ledger)?];
-    let Some([object, order, mut new_image, mut new_ledger]) = all_short(contents) else {
-        return Ok(TOO_LONG.to_string());
-    };
-    let answer = reference::install(&object, &order, &mut new_image, &mut new_ledger);
+fn fit(object: &Path, order: &Path, image: &Path, ledger: &Path) -> Result<Said, String> {
+    let files = [read(object)?, read(order)?, read(image)?, read(ledger)?];
+    if let Some(why) = files.iter().find_map(Contents::too_long) {
+        return Ok(Said::too_long(why));
+    }
+    let [object, order, image, ledger] = files;
+    let (mut new_image, mut new_ledger) = (image.bytes.clone(), ledger.bytes.clone());
+    let answer = reference::install(&object.bytes, &order.bytes, &mut new_image, &mut new_ledger);
     // The ledger first: a cut between the two leaves a ledger that still holds
     // the image's old bytes.
     if answer == Answer::DONE {
-        replace_both((ledger, &new_ledger), (image, &new_image))?;
+        replace_both((&ledger, &new_ledger), (&image, &new_image))?;
     }
-    Ok(line(answer))
+    Ok(Said::answer(answer))
 }
 
-fn take_back(image: &Path, ledger: &Path) -> Result<String, String> {
-    let Some([mut new_image, mut new_ledger]) = all_short([read(image)?, read(ledger)?]) else {
-        return Ok(TOO_LONG.to_string());
-    };
+fn take_back(image: &Path, ledger: &Path) -> Result<Said, String> {
+    let files = [read(image)?, read(ledger)?];
+    if let Some(why) = files.iter().find_map(Contents::too_long) {
+        return Ok(Said::too_long(why));
+    }
+    let [image, ledger] = files;
+    let (mut new_image, mut new_ledger) = (image.bytes.clone(), ledger.bytes.clone());
     let answer = reference::rollback(&mut new_image, &mut new_ledger);
     // The image first: a cut between the two leaves a fit that can be taken
     // back again.
     if answer == Answer::DONE {
-        replace_both((image, &new_image), (ledger, &new_ledger))?;
+        replace_both((&image, &new_image), (&ledger, &new_ledger))?;
     }
-    Ok(line(answer))
+    Ok(Said::answer(answer))
 }
-
-/// "A longer file gives the line `too long`, and no file changes."
-const TOO_LONG: &str = "too long";
 
 /// "number and place in decimal, a space between, then a line end"; the reason:
 /// "the program writes it third".
 fn line(answer: Answer) -> String {
     format!("{} {} {}", answer.number, answer.place, answer.reason)
-}
-
-/// The bytes of all files, or `None` if one is too long.
-fn all_short<const N: usize>(contents: [Contents; N]) -> Option<[Vec<u8>; N]> {
-    let bytes: Option<Vec<Vec<u8>>> = contents.into_iter().map(Contents::bytes).collect();
-    bytes?.try_into().ok()
 }

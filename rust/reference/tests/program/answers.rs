@@ -3,7 +3,7 @@
 use std::fs;
 use std::os::unix::fs::MetadataExt;
 
-use crate::bench::{good, line, on_both, Bench};
+use crate::bench::{good, is_too_long, line, on_both, Bench};
 use reference::install;
 use testing::build::{journal, Class, Symbol, COMMON, GLOBAL, TLS};
 use testing::damage::Input;
@@ -100,7 +100,7 @@ fn too_long() {
             let bench = Bench::new(program, &good());
             bench.write(name, &vec![0; 65_537]);
             let before = bench.files();
-            assert_eq!(line(&bench.fit()), "too long\n", "{name}");
+            is_too_long(&bench.fit(), name);
             assert_eq!(bench.files(), before);
             bench.write(name, &vec![0; 65_536]);
             assert_ne!(line(&bench.fit()), "too long\n", "{name}");
@@ -109,9 +109,16 @@ fn too_long() {
             let bench = Bench::new(program, &good());
             bench.write(name, &vec![0; 65_537]);
             let before = bench.files();
-            assert_eq!(line(&bench.take_back()), "too long\n", "{name}");
+            is_too_long(&bench.take_back(), name);
             assert_eq!(bench.files(), before);
         }
+        // Of several, the first is named.
+        let bench = Bench::new(program, &good());
+        for (name, first) in [("ledger", "ledger"), ("image", "image"), ("order", "order")] {
+            bench.write(name, &vec![0; 65_537]);
+            is_too_long(&bench.fit(), first);
+        }
+        is_too_long(&bench.take_back(), "image");
     });
 }
 
@@ -141,7 +148,11 @@ fn too_long_for_the_program_alone() {
             .symbols_mut()
             .resize(8_192, Symbol::default());
         fit.external_values = (2..8_192).map(|symbol| (symbol, 7)).collect();
-        inputs.push((format!("values, {class:?}"), DONE, Input::from(&fit)));
+        inputs.push((
+            format!("object, {class:?}, of symbols with values"),
+            DONE,
+            Input::from(&fit),
+        ));
     }
     for (name, answer, input) in &inputs {
         let (mut image, mut journal) = (input.image.clone(), input.journal.clone());
@@ -156,19 +167,10 @@ fn too_long_for_the_program_alone() {
             bench.write("image", &input.image);
             bench.write("ledger", &input.journal);
             let before = bench.files();
-            assert_eq!(line(&bench.fit()), "too long\n", "{name}");
+            let (file, _) = name.split_once(',').expect("the longer file's name");
+            is_too_long(&bench.fit(), file);
             assert_eq!(bench.files(), before, "{name}");
         }
-    });
-}
-
-/// A file without an end is too long too.
-#[test]
-fn endless() {
-    on_both(|program| {
-        let bench = Bench::new(program, &good());
-        let endless = ["fit", "/dev/zero", "order", "image", "ledger"];
-        assert_eq!(line(&bench.run(&endless)), "too long\n");
     });
 }
 

@@ -102,6 +102,12 @@ impl Bench {
         self.run(&TAKE_BACK)
     }
 
+    /// The path of a file, with every link followed.
+    pub fn real_path(&self, name: &str) -> String {
+        let path = fs::canonicalize(self.path(name)).expect("the file is there");
+        path.to_str().expect("plain text").to_string()
+    }
+
     pub fn files(&self) -> Files {
         let entries = fs::read_dir(&self.directory).expect("the directory is there");
         let mut files: Files = entries
@@ -150,6 +156,15 @@ pub fn line(output: &Output) -> String {
     assert_eq!(message, "");
     assert_eq!(output.status.code(), Some(0));
     String::from_utf8(output.stdout.clone()).expect("plain text")
+}
+
+/// The line `too long`, and beside it a message that names the file.
+pub fn is_too_long(output: &Output, named: &str) {
+    let message = String::from_utf8_lossy(&output.stderr);
+    let why = "longer than 65,536 bytes, the most that this program takes";
+    assert_eq!(message, format!("{named}: {why}\n"));
+    assert_eq!(output.stdout, b"too long\n");
+    assert_eq!(output.status.code(), Some(0));
 }
 
 /// A fit that is done: four bytes over an image of zeros.

@@ -25,8 +25,19 @@ fn preload() -> &'static Path {
 /// Runs a call that ends or fails at its `at`-th call of the system. `None` if
 /// there was no such call, and so nothing was disturbed.
 fn disturbed(bench: &Bench, arguments: &[&str], act: &str, call: &str, at: u32) -> Option<Output> {
+    disturbed_with(bench, arguments, act, (call, at), [])
+}
+
+/// The same with more variables for the preloaded library.
+pub fn disturbed_with<const N: usize>(
+    bench: &Bench,
+    arguments: &[&str],
+    act: &str,
+    (call, at): (&str, u32),
+    more: [(&str, &str); N],
+) -> Option<Output> {
     let mut command = bench.command(arguments);
-    command.env("LD_PRELOAD", preload());
+    command.env("LD_PRELOAD", preload()).envs(more);
     command.env("PRELOAD_ACT", act).env("PRELOAD_CALL", call);
     command.env("PRELOAD_AT", at.to_string());
     let output = command.output().expect("the program starts");
@@ -35,14 +46,14 @@ fn disturbed(bench: &Bench, arguments: &[&str], act: &str, call: &str, at: u32) 
 }
 
 /// The image and the ledger.
-type Pair = (Vec<u8>, Vec<u8>);
+pub type Pair = (Vec<u8>, Vec<u8>);
 
-fn pair(bench: &Bench) -> Pair {
+pub fn pair(bench: &Bench) -> Pair {
     (bench.read("image"), bench.read("ledger"))
 }
 
 /// The files of a fit, with this image and ledger.
-fn bench_with(program: Program, (image, ledger): &Pair) -> Bench {
+pub fn bench_with(program: Program, (image, ledger): &Pair) -> Bench {
     let bench = Bench::new(program, &good());
     bench.write("image", image);
     bench.write("ledger", ledger);
@@ -50,7 +61,7 @@ fn bench_with(program: Program, (image, ledger): &Pair) -> Bench {
 }
 
 /// The files before a fit, and after it.
-fn before_and_after() -> (Pair, Pair) {
+pub fn before_and_after() -> (Pair, Pair) {
     let fit = good();
     let (_, image, ledger) = fit.run();
     ((fit.image, fit.journal), (image, ledger))
@@ -102,16 +113,12 @@ fn folder_synced_after_each_rename() {
     on_both(|program| {
         let (old, new) = before_and_after();
         let cut = (old.0.clone(), new.1.clone());
-        let files = match program {
-            Program::Reference => 3,
-            Program::Aktinoph => 2,
-        };
         let calls = [
             (&FIT[..], [&old, &cut, &new]),
             (&TAKE_BACK[..], [&new, &cut, &old]),
         ];
         for (arguments, states) in calls {
-            for (at, state) in (files..).zip(states) {
+            for (at, state) in (2..).zip(states) {
                 let bench = bench_with(program, states[0]);
                 let output = disturbed(&bench, arguments, "end", "fsync", at);
                 assert_eq!(output.expect("a sync").status.code(), Some(99));
@@ -142,7 +149,7 @@ fn new_files_are_private() {
 }
 
 /// What the message is about: the last part of the path before ": ".
-fn named(output: &Output) -> String {
+pub fn named(output: &Output) -> String {
     let message = String::from_utf8(output.stderr.clone()).expect("plain text");
     let (path, _) = message.split_once(": ").expect("a name and what is wrong");
     path.rsplit('/').next().expect("a name").to_string()
@@ -185,27 +192,26 @@ fn failed_in_turn(
 }
 
 /// Each call of the system that can fail, and what the messages name: the files
-/// in the order in which they are read, written and renamed. Where a file is
-/// closed or given to its owner, and after the last rename, a failure changes
-/// nothing.
+/// in the order in which they are read, read once more for their old bytes,
+/// written and renamed, and their folders in that order. Where a file is closed or
+/// given to its owner, a failure changes nothing.
 #[test]
 fn failed_at_every_call() {
     let fit: [(&str, &[&str]); 7] = [
-        ("read", &["object", "order", "image", "ledger"]),
+        ("read", &["object", "order", "image", "ledger", "image"]),
         ("fchown", &[]),
         ("fchmod", &["ledger", "image"]),
         ("write", &["ledger", "image", "standard output"]),
-        ("fsync", &["ledger", "image"]),
+        ("fsync", &["ledger", "image", "ledger", "image"]),
         ("close", &[]),
         ("rename", &["ledger", "image"]),
     ];
-    // The file that is replaced first is read once more before that.
     let take_back: [(&str, &[&str]); 7] = [
-        ("read", &["image", "ledger", "image"]),
+        ("read", &["image", "ledger", "image", "ledger"]),
         ("fchown", &[]),
         ("fchmod", &["image", "ledger"]),
         ("write", &["image", "ledger", "standard output"]),
-        ("fsync", &["image", "ledger"]),
+        ("fsync", &["image", "ledger", "image", "ledger"]),
         ("close", &[]),
         ("rename", &["image", "ledger"]),
     ];

@@ -5,9 +5,10 @@
 use std::fs;
 use std::io::Write;
 use std::os::unix::fs::{chown, symlink, FileTypeExt, MetadataExt, PermissionsExt};
+use std::os::unix::net::UnixListener;
 use std::os::unix::process::CommandExt;
 use std::path::Path;
-use std::process::{Command, Output, Stdio};
+use std::process::{Command, Stdio};
 
 use crate::bench::{empty, good, line, on_both, Bench, Program, FIT, TAKE_BACK};
 use testing::build::{journal, Fit};
@@ -84,7 +85,7 @@ fn directories() {
 
 #[test]
 fn wrong_arguments() {
-    let wrong: [&[&str]; 12] = [
+    let wrong: [&[&str]; 16] = [
         &[],
         &[""],
         &["fit"],
@@ -97,6 +98,10 @@ fn wrong_arguments() {
         &["fit ", "object", "order", "image", "ledger"],
         &["take-backs", "image", "ledger"],
         &["fit", "image", "ledger"],
+        &["--help", "fit"],
+        &["--version", "--version"],
+        &["help"],
+        &["-version"],
     ];
     on_both(|program| {
         for (bench, call) in calls(program, &good()) {
@@ -192,7 +197,7 @@ fn unreadable_files() {
                 set_mode(&bench.path(name), 0);
                 let mut command = unprivileged(&bench, &programs, call);
                 bench.command_fails(&mut command, &format!("{name}: "));
-                set_mode(&bench.path(name), 0o644);
+                set_mode(&bench.path(name), 0o666);
             }
             set_mode(&bench.path(""), 0o777);
             command_is_done(&mut unprivileged(&bench, &programs, call));
@@ -207,6 +212,8 @@ fn unwritable_directories() {
         let programs = Bench::new(program, &good());
         let first = ["ledger", "image"];
         for ((bench, call), first) in calls(program, &good()).into_iter().zip(first) {
+            set_mode(&bench.path("image"), 0o666);
+            set_mode(&bench.path("ledger"), 0o666);
             set_mode(&bench.path(""), 0o555);
             let mut command = unprivileged(&bench, &programs, call);
             bench.command_fails(&mut command, &format!("{first}: "));
@@ -232,6 +239,7 @@ fn files_of_others() {
                 let owner = if *name == second { 0 } else { NOBODY };
                 chown(bench.path(name), Some(owner), None).expect("an owner");
             }
+            set_mode(&bench.path(second), 0o666);
             let mut command = unprivileged(&bench, &programs, call);
             bench.command_fails(&mut command, &format!("/{second}: "));
             chown(bench.path(second), Some(NOBODY), None).expect("an owner");
@@ -263,18 +271,22 @@ fn owners() {
     });
 }
 
-/// The mode of a file itself does not keep it from being replaced.
+/// A rename could replace a file that the user may not write: it is refused.
 #[test]
 fn read_only_files() {
     on_both(|program| {
         let programs = Bench::new(program, &good());
-        let laid = [[1, 2, 3, 4], [0x5A; 4]];
-        for ((bench, call), after) in calls(program, &good()).into_iter().zip(laid) {
+        for (bench, call) in calls(program, &good()) {
             set_mode(&bench.path(""), 0o777);
-            set_mode(&bench.path("image"), 0o444);
-            set_mode(&bench.path("ledger"), 0o444);
+            set_mode(&bench.path("image"), 0o666);
+            set_mode(&bench.path("ledger"), 0o666);
+            for name in ["image", "ledger"] {
+                set_mode(&bench.path(name), 0o444);
+                let mut command = unprivileged(&bench, &programs, call);
+                bench.command_fails(&mut command, &format!("{name}: Permission denied"));
+                set_mode(&bench.path(name), 0o666);
+            }
             command_is_done(&mut unprivileged(&bench, &programs, call));
-            assert_eq!(bench.read("image")[64..68], after);
         }
     });
 }
@@ -292,18 +304,34 @@ fn unwritable_places() {
     });
 }
 
-/// A device is not replaced by a file. As a ledger, the one is empty and so not
-/// sound, and the other has no end.
+const FILES: [&str; 4] = ["object", "order", "image", "ledger"];
+
+/// The call is refused at once, and the files stay: a program that waits is
+/// ended. Other files of the directory may be such that nobody can read them.
+fn refused_at_once(bench: &Bench, call: &[&str], input: Stdio, name: &str) {
+    let kept = FILES.map(|name| bench.read(name));
+    let mut command = Command::new("timeout");
+    command.arg("20").arg(bench.program.path()).args(call);
+    command.current_dir(bench.path("")).stdin(input);
+    let output = command.output().expect("the program starts");
+    bench.says(&output, &format!("{name}: not a plain file\n"));
+    assert_eq!(FILES.map(|name| bench.read(name)), kept);
+}
+
+/// Only plain files are read: not a device, a pipe whose other end nobody has
+/// opened, or a socket.
 #[test]
-fn devices() {
+fn devices_pipes_and_sockets() {
     on_both(|program| {
         for (bench, call) in calls(program, &empty()) {
-            bench.fails(&with(call, IMAGE, "/dev/null"), "/dev/null: ");
-            let files = bench.files();
-            let with_ledger = |device| line(&bench.run(&with(call, LEDGER, device)));
-            assert_eq!(with_ledger("/dev/null"), "1 0 0\n");
-            assert_eq!(with_ledger("/dev/zero"), "too long\n");
-            assert_eq!(bench.files(), files);
+            let made = Command::new("mkfifo").arg(bench.path("pipe")).status();
+            assert!(made.expect("mkfifo starts").success());
+            let _socket = UnixListener::bind(bench.path("socket")).expect("a socket");
+            for name in ["/dev/null", "/dev/zero", "pipe", "socket"] {
+                for place in 1..call.len() {
+                    refused_at_once(&bench, &with(call, place, name), Stdio::null(), name);
+                }
+            }
             for device in ["/dev/null", "/dev/zero"] {
                 let device = fs::metadata(device).expect("the device is there");
                 assert!(device.file_type().is_char_device());
@@ -313,28 +341,16 @@ fn devices() {
     });
 }
 
-/// Runs a command with these bytes in a pipe.
-fn piped(mut command: Command, bytes: &[u8]) -> Output {
-    command.stdin(Stdio::piped());
-    command.stdout(Stdio::piped()).stderr(Stdio::piped());
-    let mut child = command.spawn().expect("the program starts");
-    let mut pipe = child.stdin.take().expect("a pipe");
-    pipe.write_all(bytes).expect("the pipe takes the bytes");
-    drop(pipe);
-    child.wait_with_output().expect("the program ends")
-}
-
-/// What comes through a pipe is read, and cannot be replaced.
+/// What comes through a pipe is not read: here its other end stays open.
 #[test]
 fn pipes() {
     on_both(|program| {
         for (bench, call) in calls(program, &good()) {
-            for place in [IMAGE, LEDGER] {
-                let files = bench.files();
-                let bytes = bench.read(call[call.len() - place]);
-                let command = bench.command(&with(call, place, "/dev/stdin"));
-                bench.says(&piped(command, &bytes), "/dev/stdin: ");
-                assert_eq!(bench.files(), files);
+            for place in 1..call.len() {
+                let (read_end, write_end) = std::io::pipe().expect("a pipe");
+                let name = "/dev/stdin";
+                refused_at_once(&bench, &with(call, place, name), read_end.into(), name);
+                drop(write_end);
             }
             is_done(&bench, call);
         }

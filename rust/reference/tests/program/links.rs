@@ -46,7 +46,7 @@ fn modes() {
             let file = fs::metadata(bench.path(name)).expect("the file is there");
             file.permissions().mode() & 0o7777
         };
-        for (image, ledger) in [(0o640, 0o600), (0o444, 0o666), (0o1775, 0o707)] {
+        for (image, ledger) in [(0o640, 0o600), (0o644, 0o666), (0o1775, 0o707)] {
             for (name, bits) in [("image", image), ("ledger", ledger)] {
                 let kept = fs::Permissions::from_mode(bits);
                 fs::set_permissions(bench.path(name), kept).expect("permissions");

@@ -7,4 +7,5 @@ mod bench;
 mod cuts;
 mod errors;
 mod links;
+mod operations;
 mod vectors;

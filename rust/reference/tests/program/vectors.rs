@@ -3,7 +3,7 @@
 
 use std::collections::BTreeSet;
 
-use crate::bench::{empty, line, on_both, Bench, FIT, TAKE_BACK};
+use crate::bench::{empty, is_too_long, line, on_both, Bench, FIT, TAKE_BACK};
 use testing::vectors::{bytes, bytes_after, lines};
 
 /// Runs a call over the bench's files and compares its line. A file that is
@@ -18,10 +18,13 @@ fn call(bench: &Bench, at: usize, command: &str, inputs: &[&str], expected: &[&s
         bench.write(name, &bytes(input));
     }
     let output = bench.run(if command == "fit" { &FIT } else { &TAKE_BACK });
-    let too_long = names.iter().any(|name| bench.read(name).len() > 65_536);
-    let answer = expected.join(" ") + "\n";
-    let asked = if too_long { "too long\n" } else { &answer };
-    assert_eq!(line(&output), asked, "line {at}");
+    let is_long = |name: &&&str| bench.read(name).len() > 65_536;
+    if let Some(long) = names.iter().find(is_long) {
+        is_too_long(&output, long);
+    } else {
+        let answer = expected.join(" ") + "\n";
+        assert_eq!(line(&output), answer, "line {at}");
+    }
     assert_eq!(bench.files().len(), 4, "line {at}");
 }
 

@@ -1,4 +1,4 @@
--- `program_files::descriptor` is safe and ends.
+-- `program_replace::descriptor` is safe and ends.
 use mathlib.Core.Path.{_≡_, sym, subst, ap}
 use native.Mathlib.Nat.{lt-of-le-of-lt}
 use lib.IntN.{ℤ, pos, negsuc, natAbs}
@@ -11,8 +11,8 @@ use mir.Syntax.{w32, w64}
 use mir.Val.{Fits, toZ, ofZ}
 use mir.ValLaws.{toZ-ofZ}
 use borrow.Author.Needs.{needs}
-use Rattle.program_files.proofs.descriptor.Statement.{statement}
-use Rattle.program_files.proofs.descriptor.Tie as tie
+use Rattle.program_replace.proofs.descriptor.Statement.{statement}
+use Rattle.program_replace.proofs.descriptor.Tie as tie
 
 -- a number that is not below 0
 not-below : (z : ℤ) → ltZ z (pos 0) ≡ false → T (nonNeg z)

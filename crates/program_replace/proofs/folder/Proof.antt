@@ -1,10 +1,10 @@
--- `program_files::folder` meets its contract. The measure is what is left of the path.
+-- `program_replace::folder` meets its contract. The measure is what is left of the path.
 use Rattle.program_text.proofs.Laws.Lines.{counts}
 use Prim.Native.Nat.{_≤_}
 use lib.ListN.{length}
 use borrow.Author.Needs.{needs}
-use Rattle.program_files.proofs.folder.Statement.{statement}
-use Rattle.program_files.proofs.folder.Tie as tie
+use Rattle.program_replace.proofs.folder.Statement.{statement}
+use Rattle.program_replace.proofs.folder.Tie as tie
 
 abbrev Inv-loop : tie.InvT-loop
 Inv-loop path n₀ n = n ≤ length path

@@ -1,9 +1,9 @@
--- `program_files::write_beside` meets its contract.
+-- `program_replace::write_beside` meets its contract.
 use native.Mathlib.Omega.{arith}
 use Rattle.program_text.proofs.Laws.Lines.{counts}
 use borrow.Author.Needs.{needs}
-use Rattle.program_files.proofs.write_beside.Statement.{statement}
-use Rattle.program_files.proofs.write_beside.Tie as tie
+use Rattle.program_replace.proofs.write_beside.Statement.{statement}
+use Rattle.program_replace.proofs.write_beside.Tie as tie
 
 returns : tie.Need-returns
 returns c = let s : tie.Start = search in counts 7 (s .args .name .now) (omega arith)

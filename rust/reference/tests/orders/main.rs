@@ -1,12 +1,16 @@
 //! `tools/order` on what readelf says of shipped objects: it writes the shipped
-//! orders, and refuses what cannot be right. The texts in `orders/` are the output
+//! orders, and refuses what cannot be right. The texts in this folder are the output
 //! of `readelf -SsW` (clang-hidden, rv64-clang-hidden: llvm-readelf). It needs python3. With readelf,
 //! all objects: `cargo test --test orders -- --ignored`.
+
+mod files;
+mod modules;
 
 use std::collections::BTreeMap;
 use std::fs::{self, File};
 use std::path::{Path, PathBuf};
 use std::process::{Command, Output, Stdio};
+use std::sync::atomic::{AtomicU32, Ordering};
 
 use reference::numbers::Address;
 use reference::order::{Order, Placement};
@@ -35,7 +39,9 @@ struct Scratch(PathBuf);
 
 impl Scratch {
     fn new(name: &str) -> Scratch {
-        let name = format!("orders-{}-{name}", std::process::id());
+        static COUNT: AtomicU32 = AtomicU32::new(0);
+        let number = COUNT.fetch_add(1, Ordering::Relaxed);
+        let name = format!("orders-{}-{number}-{name}", std::process::id());
         Scratch(std::env::temp_dir().join(name))
     }
 }
@@ -84,13 +90,24 @@ fn order<A: AsRef<std::ffi::OsStr>>(
     out: &Path,
     arguments: &[A],
 ) -> Output {
-    Command::new("python3")
-        .arg(root().join("tools/order"))
+    tool()
         .args([object, out])
         .args(arguments)
         .stdin(input)
         .output()
         .expect("python3 runs")
+}
+
+fn tool() -> Command {
+    let mut command = Command::new("python3");
+    command.arg(root().join("tools/order"));
+    command
+}
+
+fn show(order: &Path) -> Output {
+    let mut command = tool();
+    command.arg("--show").arg(order);
+    command.output().expect("python3 runs")
 }
 
 fn from_text<A: AsRef<std::ffi::OsStr>>(text: &Path, out: &Path, arguments: &[A]) -> Output {
@@ -140,12 +157,7 @@ fn places_one_after_another() {
     let arguments: Vec<&str> = arguments.split(' ').collect();
     let done = from_text(&text_of("gcc-sections"), &out.0, &arguments);
     assert!(done.status.success(), "{done:?}");
-    let shown = Command::new("python3")
-        .arg(root().join("tools/order"))
-        .arg("--show")
-        .arg(&out.0)
-        .output()
-        .expect("python3 runs");
+    let shown = show(&out.0);
     let expected = "window base 0x20000000\nplacements 11\n  \
         row 1: 0x20000002\n  row 2: 0x20000002\n  row 3: 0x30000001\n  row 4: 0x20000002\n  \
         row 6: 0x2000001a\n  row 8: 0x2000004e\n  row 10: 0x20000080\n  row 12: 0x30000004\n  \
@@ -273,12 +285,7 @@ fn shows_no_malformed_order() {
     for bytes in [&shipped[..shipped.len() - 1], &longer, &falling, &[]] {
         let file = Scratch::new("malformed");
         fs::write(&file.0, bytes).expect("an order");
-        let done = Command::new("python3")
-            .arg(root().join("tools/order"))
-            .arg("--show")
-            .arg(&file.0)
-            .output()
-            .expect("python3 runs");
+        let done = show(&file.0);
         assert_eq!(done.status.code(), Some(1));
         assert!(done.stdout.is_empty());
     }
@@ -296,12 +303,7 @@ fn shows_the_longest_order() {
             let file = Scratch::new("longest");
             let bytes = build::order(class, 0, &entries(placements), &entries(values));
             fs::write(&file.0, bytes).expect("an order");
-            let shown = Command::new("python3")
-                .arg(root().join("tools/order"))
-                .arg("--show")
-                .arg(&file.0)
-                .output()
-                .expect("python3 runs");
+            let shown = show(&file.0);
             assert_eq!(shown.status.success(), fits, "{placements}, {values}");
             let lines = String::from_utf8_lossy(&shown.stdout).lines().count();
             assert_eq!(lines, if fits { 3 + 128 + 8_192 } else { 0 });
