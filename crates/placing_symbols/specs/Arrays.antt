@@ -1,6 +1,6 @@
--- S of every symbol, worked out once: an array of values, and an array of states. A state is 1 for a symbol that resolves, and otherwise the
--- number of the reason, but that "past the table" is 0, which is there before anything is stored. Both arrays are of one length, with an
--- entry for symbol 0 and for each symbol of the table.
+-- S of every symbol, worked out once: an array of values, and an array of states. A state is the number of the reason, and 8 for a symbol that
+-- resolves; 0, which is there before anything is stored, is read as "past the table". Both arrays are of one length, with an entry for
+-- symbol 0 and for each symbol of the table.
 use mathlib.Core.Path.{_≡_}
 use Prim.Native.Nat.{ℕ, _≤_, _<_}
 use mathlib.Core.Bool.{cond}
@@ -13,21 +13,16 @@ use Rattle.placing_symbols.specs.declared.Reason.{Reason}
 use Rattle.placing_symbols.specs.declared.Reason.the-variants.{PastTable, NotAllocated, Common, Reserved, Undefined, WrongType, OutsideTarget}
 use Rattle.placing_symbols.specs.declared.SymbolValue.{SymbolValue}
 use Rattle.placing_symbols.specs.declared.SymbolValue.the-variants.{Resolved, Unresolved}
+use Rattle.placing_symbols.specs.Reasons.{reasonNumber}
 use Rattle.placing_symbols.specs.Values.{symbolValue}
 
 -- an array of n entries before anything is stored
 abbrev pub noValues : ℕ → List ℕ
 noValues n = replicate n 0
 
--- the state that is stored for a reason, and the reason in a state
-abbrev pub stateOfReason : Reason → ℕ
-stateOfReason PastTable = 0
-stateOfReason NotAllocated = 2
-stateOfReason Common = 3
-stateOfReason Reserved = 4
-stateOfReason Undefined = 5
-stateOfReason WrongType = 6
-stateOfReason OutsideTarget = 7
+-- the state of a symbol that resolves, and the reason in any other state
+abbrev pub RESOLVED : ℕ
+RESOLVED = 8
 
 abbrev pub reasonIn : ℕ → Reason
 reasonIn state =
@@ -40,8 +35,8 @@ reasonIn state =
 
 -- the state and the value that are stored for S
 abbrev pub stateOf : SymbolValue → ℕ
-stateOf (Resolved a) = 1
-stateOf (Unresolved reason) = stateOfReason reason
+stateOf (Resolved a) = RESOLVED
+stateOf (Unresolved reason) = reasonNumber reason
 
 abbrev pub numberOf : SymbolValue → ℕ
 numberOf (Resolved a) = a .0
@@ -49,7 +44,7 @@ numberOf (Unresolved reason) = 0
 
 -- S, from a state and a value
 abbrev pub decoded : ℕ → ℕ → SymbolValue
-decoded state value = cond (eqb state 1) (Resolved (address value)) (Unresolved (reasonIn state))
+decoded state value = cond (eqb state RESOLVED) (Resolved (address value)) (Unresolved (reasonIn state))
 
 -- what two arrays say about symbol k; past their end is past the table
 unfoldable pub listed : List ℕ → List ℕ → ℕ → SymbolValue

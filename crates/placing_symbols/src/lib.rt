@@ -7,7 +7,7 @@ ghost use Rattle.elf_check.specs.Requires.{SoundObject};
 ghost use Rattle.order_format.specs.Orders.{reading};
 ghost use Rattle.placing_symbols.specs.Reasons.{reasonNumber, because};
 ghost use Rattle.placing_symbols.specs.Values.{isWrongType, ofEntry};
-ghost use Rattle.placing_symbols.specs.Arrays.{stateOfReason, reasonIn, stateOf, numberOf, listed, ValueArrays, Blank, Valued};
+ghost use Rattle.placing_symbols.specs.Arrays.{reasonIn, stateOf, numberOf, listed, ValueArrays, Blank, Valued};
 ghost use Rattle.placing_symbols.specs.Requires.{SymbolsOf};
 use elf_read::MAX_SECTIONS;
 use elf_read::SHN_ABS;
@@ -135,22 +135,10 @@ pub fn symbols_of(object: &[u8]) -> Symbols
     }
 }
 
-// The state that is stored for a reason: its number, but that "past the table" is 0, which is there before anything is stored.
-fn state_of_reason(reason: Reason) -> u8
-    ensures { λ r. ⌜ r ≡ stateOfReason reason ⌝ }
-{
-    match reason {
-        Reason::PastTable => 0,
-        Reason::NotAllocated => 2,
-        Reason::Common => 3,
-        Reason::Reserved => 4,
-        Reason::Undefined => 5,
-        Reason::WrongType => 6,
-        Reason::OutsideTarget => 7,
-    }
-}
+// The state of a symbol that resolves. That of any other is the number of its reason.
+const RESOLVED: u8 = 8;
 
-// The reason in a state.
+// The reason in a state. What no symbol has stored, which is 0, says that there is none.
 fn reason_in(state: u8) -> Reason
     ensures { λ r. ⌜ r ≡ reasonIn state ⌝ }
 {
@@ -165,13 +153,13 @@ fn reason_in(state: u8) -> Reason
     }
 }
 
-// The state that is stored for S: 1 if the symbol resolves, otherwise that of the reason.
+// The state that is stored for S.
 fn state_of(value: SymbolValue) -> u8
     ensures { λ r. ⌜ r ≡ stateOf value ⌝ }
 {
     match value {
-        SymbolValue::Resolved(_) => 1,
-        SymbolValue::Unresolved(reason) => state_of_reason(reason),
+        SymbolValue::Resolved(_) => RESOLVED,
+        SymbolValue::Unresolved(reason) => reason_number(reason),
     }
 }
 
@@ -202,7 +190,7 @@ pub fn symbol_values(
     let table = symbols.table;
     let count = symbols.count;
     // Symbol 0 resolves, to 0.
-    states[0] = 1;
+    states[0] = RESOLVED;
     let class = class_of(object);
     let first = take_external(class, order, counts, 0, 0);
     let mut next = first.next;
@@ -236,7 +224,7 @@ pub fn value_at(values: &[u64], states: &[u8], k: u32) -> SymbolValue
         return SymbolValue::Unresolved(Reason::PastTable);
     }
     let state = states[at];
-    if state != 1 {
+    if state != RESOLVED {
         return SymbolValue::Unresolved(reason_in(state));
     }
     SymbolValue::Resolved(Address(values[at]))

@@ -15,8 +15,9 @@ use Rattle.placing_symbols.specs.declared.Reason.{Reason}
 use Rattle.placing_symbols.specs.declared.Reason.the-variants.{PastTable, NotAllocated, Common, Reserved, Undefined, WrongType, OutsideTarget}
 use Rattle.placing_symbols.specs.declared.SymbolValue.{SymbolValue}
 use Rattle.placing_symbols.specs.declared.SymbolValue.the-variants.{Resolved, Unresolved}
+use Rattle.placing_symbols.specs.Reasons.{reasonNumber}
 use Rattle.placing_symbols.specs.Values.{symbolValue}
-use Rattle.placing_symbols.specs.Arrays.{noValues, stateOfReason, stateOf, numberOf, decoded, listed, ValueArrays, Long, Blank, Valued}
+use Rattle.placing_symbols.specs.Arrays.{noValues, RESOLVED, stateOf, numberOf, decoded, listed, ValueArrays, Long, Blank, Valued}
 use Rattle.placing_symbols.proofs.Laws.Values.{value-past}
 
 -- what is stored for S is read as S
@@ -24,7 +25,7 @@ decoded-stored : (v : SymbolValue) → decoded (stateOf v) (numberOf v) ≡ v
 decoded-stored (Resolved a) = refl
 decoded-stored (Unresolved reason) = go reason
   where
-    go : (reason : Reason) → decoded (stateOfReason reason) 0 ≡ Unresolved reason
+    go : (reason : Reason) → decoded (reasonNumber reason) 0 ≡ Unresolved reason
     go PastTable = refl
     go NotAllocated = refl
     go Common = refl
@@ -54,19 +55,19 @@ module _ (object order addresses : List ℕ) where
     pub rest : (k : ℕ) → n ≤ k → getD states k 0 ≡ 0
 
   -- the zeros, with the state of symbol 0
-  pub below-one : (values states : List ℕ) → Blank object values states → ValuedBelow values (set states 0 1) 1
+  pub below-one : (values states : List ℕ) → Blank object values states → ValuedBelow values (set states 0 RESOLVED) 1
   unfolding symbolValue
   below-one values states b =
       let l = b .long in
-      let same = length-set states 0 1 in
+      let same = length-set states 0 RESOLVED in
       record {
         long = record {
           arrays = record { same-length = l .arrays .same-length ∙ sym same };
           some = omega (arith, same, l .some);
           all = omega (arith, same, l .all);
         };
-        below = λ k h. let z : k ≡ 0 = omega arith in rw (z, getD-set-same states 0 1 0 (l .some), zero-at values (b .values-are) 0);
-        rest = λ k h. getD-set-other states 0 k 1 0 (λ z. omega arith) ∙ zero-at states (b .states-are) k;
+        below = λ k h. let z : k ≡ 0 = omega arith in rw (z, getD-set-same states 0 RESOLVED 0 (l .some), zero-at values (b .values-are) 0);
+        rest = λ k h. getD-set-other states 0 k RESOLVED 0 (λ z. omega arith) ∙ zero-at states (b .states-are) k;
       }
 
   -- one more symbol

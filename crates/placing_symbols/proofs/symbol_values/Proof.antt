@@ -127,7 +127,7 @@ same-length-2 : tie.Need-same-length-2 Inv-loop μ-loop
 same-length-2 c =
     let head : tie.At-loop Inv-loop μ-loop = search in
     let start : tie.Start Inv-loop μ-loop = search in
-    head .loop .inv .4 ∙ length-set (start .args .states .now) 0 1
+    head .loop .inv .4 ∙ length-set (start .args .states .now) 0 8
 
 returns : tie.Need-returns Inv-loop μ-loop
 returns c =
