@@ -7,6 +7,8 @@
 // error names the file, nothing goes to standard output, and no file is changed. If a file is longer than 65,536 bytes,
 // `too long` goes to standard output, and a message names the file. If the answer of a done call cannot be written, a
 // message says that the files are new. The exit status is always 0: Rattle has no other.
+#![tactic(auto)]
+
 ghost use Rattle.std.specs.Prelude.{◌≡◌, ◌||◌, ltb};
 
 use program_files::{File, MAX_FILE, ROOM, read};

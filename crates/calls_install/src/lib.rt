@@ -1,4 +1,6 @@
 // Install and rollback over lent bytes of object, order, image and journal.
+#![tactic(auto)]
+
 ghost use Rattle.std.specs.Prelude.{◌≡◌, true, ◌≤◌, length};
 ghost use Rattle.elf_read.specs.Headers.{class_of};
 ghost use Rattle.elf_read.specs.Entries.{relocation_count};

@@ -1,4 +1,6 @@
 // What a call answers, and the judgement: check 3 and checks 5 to 14 over lent bytes of object and order.
+#![tactic(auto)]
+
 ghost use Rattle.std.specs.Prelude.{◌≡◌, true, ◌≤◌, eqb};
 ghost use Rattle.elf_read.specs.Headers.{class_of};
 ghost use Rattle.elf_header.specs.Headers.{header_allowed};
@@ -24,7 +26,7 @@ use relocations_rules::{Finding, RelocationCheck};
 
 // What a call answers. The number in an answer is that of a section, of a symbol, or of a relocation, counted from 0
 // over all relocations; a symbol that does not resolve comes with the reason.
-#[derive(Drop)]
+#[derive(Clone, Copy)]
 pub enum Answer {
     Done,
     JournalUnsound,
@@ -62,7 +64,7 @@ fn refusal(finding: Finding, k: u32) -> Answer
 }
 
 // What the judgement leaves: the answer, and the address of each section, for laying.
-#[derive(Drop)]
+#[derive(Clone, Copy)]
 pub struct Judged {
     pub answer: Answer,
     pub addresses: Addresses,

@@ -1,4 +1,6 @@
 // Lays the plan of an install into the image. Every check has passed, so nothing here can fail.
+#![tactic(auto)]
+
 ghost use Rattle.std.specs.Prelude.{◌≡◌, true, ◌+◌, ◌≤◌, ◌<◌, length};
 ghost use Rattle.std.proofs.lemmas.List.Edits.{sets};
 ghost use Rattle.order_lookup.specs.Addresses.{addresses_for};

@@ -1,4 +1,6 @@
 // A list of calls as bytes: which bytes are a list, and where each call stands.
+#![tactic(auto)]
+
 ghost use Rattle.std.specs.Prelude.{◌≡◌, true, cond, ◌+◌, ◌≤◌, length, eqb};
 ghost use Rattle.numbers_definitions.specs.Bytes.{part};
 ghost use Rattle.calls_replay.specs.Lists.{call_count, kind_at, object_length, order_length, call_end, is_call, is_list};
@@ -13,7 +15,7 @@ pub const TAKE_BACK: u32 = 2;
 pub const FIRST_AT: usize = 4;
 
 // How many calls a list has, or that the bytes are no list.
-#[derive(Drop)]
+#[derive(Clone, Copy)]
 pub enum List {
     Malformed,
     Calls(usize),

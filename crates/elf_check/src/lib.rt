@@ -1,4 +1,6 @@
 // Which sections are allowed: check 5, of an object whose header passes check 4.
+#![tactic(auto)]
+
 ghost use Rattle.std.specs.Prelude.{◌≡◌, ℕ, ◌≤◌, ◌<◌, true, ◌&&◌, length, get_or, leb};
 ghost use Rattle.elf_read.specs.Headers.{section_count};
 ghost use Rattle.elf_read.specs.Sections.{section_at, symbol_table, counting_rela, relocations_below};
@@ -15,7 +17,7 @@ pub const MAX_SYMBOLS: usize = 8192;
 pub const MAX_RELOCATIONS: usize = 32768;
 
 // What check 5 finds: nothing, or the first section that breaks a rule. A fault of the table itself has place 0.
-#[derive(Drop)]
+#[derive(Clone, Copy)]
 pub enum SectionCheck {
     Sound,
     Broken(u32),

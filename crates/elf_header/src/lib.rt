@@ -1,4 +1,6 @@
 // The header of an object, and where its section header table stands: check 4, and check 5 at place 0.
+#![tactic(auto)]
+
 ghost use Rattle.std.specs.Prelude.{◌≡◌, eqb};
 ghost use Rattle.numbers_definitions.specs.Bytes.{le_at};
 ghost use Rattle.numbers_definitions.specs.Classes.{by};

@@ -1,4 +1,6 @@
 // An ELF object of either class: its header, sections, symbols and relocations. Everything is read out of the caller's bytes.
+#![tactic(auto)]
+
 ghost use Rattle.std.specs.Prelude.{◌≡◌, ◌&&◌, ◌+◌, ◌*◌, ◌^◌, ◌≤◌, ◌<◌, length, leb, eqb};
 ghost use Rattle.elf_read.specs.Headers.{class_of, header_size, section_size, symbol_size, relocation_size, section_table, section_count, file_flags, has_rvc};
 ghost use Rattle.elf_read.specs.Sections.{read_section, section_at, allocated, loaded, is_allocated, symbol_table, targets, counting_rela, relocation_entries, relocations_in, relocations_below};
@@ -38,7 +40,7 @@ pub const STT_TLS: u8 = 6;
 pub const STT_GNU_IFUNC: u8 = 10;
 
 // A section header (document 01: row).
-#[derive(Drop)]
+#[derive(Clone, Copy)]
 pub struct Section {
     pub kind: u32,
     pub flags: u64,
@@ -51,7 +53,7 @@ pub struct Section {
 }
 
 // A symbol: its type and binding, the section that it is defined in, and its value there.
-#[derive(Drop)]
+#[derive(Clone, Copy)]
 pub struct Symbol {
     pub value: SectionOffset,
     pub kind: u8,
@@ -60,7 +62,7 @@ pub struct Symbol {
 }
 
 // A relocation (document 01: record). The addend is a signed number in 64-bit two's complement.
-#[derive(Drop)]
+#[derive(Clone, Copy)]
 pub struct Relocation {
     pub offset: SectionOffset,
     pub kind: u32,
@@ -69,7 +71,7 @@ pub struct Relocation {
 }
 
 // Where a relocation is: its RELA section, and its entry in that section.
-#[derive(Drop)]
+#[derive(Clone, Copy)]
 pub struct Location {
     pub section: usize,
     pub entry: usize,

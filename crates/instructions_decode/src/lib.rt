@@ -1,5 +1,7 @@
 // Reading a value out of a field.
 // Instructions and data are numbers of up to 64 bits, as `numbers_bytes` reads them from bytes.
+#![tactic(auto)]
+
 ghost use Rattle.std.specs.Prelude.{◌≡◌};
 ghost use Rattle.instructions_fields.specs.Layouts.{read, format_u, format_i, format_s, format_b, format_j, format_cb, format_cj};
 ghost use Rattle.instructions_fields.specs.Fields.{layout, data_layout};

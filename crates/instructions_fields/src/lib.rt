@@ -1,8 +1,9 @@
 // The fields of instructions and of data that relocations write: definitions and theorems, no code.
 // `instructions_encode` puts a value into a field, and `instructions_decode` reads it out.
+#![tactic(auto)]
 
 // The width of a data field in bits.
-#[derive(Drop)]
+#[derive(Clone, Copy)]
 pub enum Width {
     W6,
     W8,
@@ -12,7 +13,7 @@ pub enum Width {
 }
 
 // An instruction format of the RISC-V manual, the pair of instructions of a CALL, or data.
-#[derive(Drop)]
+#[derive(Clone, Copy)]
 pub enum Field {
     U,
     I,

@@ -7,7 +7,7 @@ use numbers_definitions::Class;
 
 // What a relocation asks of the words at its place. Any is for data, which may be anything. LowI and LowS are for an
 // instruction that takes a low half, in format I or S. CallPair is AUIPC followed by JALR.
-#[derive(Drop)]
+#[derive(Clone, Copy)]
 pub enum Form {
     Any,
     Lui,

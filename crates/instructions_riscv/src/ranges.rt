@@ -8,7 +8,7 @@ use instructions_fields::Field;
 use numbers_definitions::Class;
 
 // Distances from -back to ahead.
-#[derive(Drop)]
+#[derive(Clone, Copy)]
 pub struct Range {
     pub back: u64,
     pub ahead: u64,

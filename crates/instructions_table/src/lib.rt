@@ -1,5 +1,7 @@
 // The field of a compressed jump, looked up by half its distance.
 // Document 02, Ticket 2: "take the RVC_JUMP field from a printed table of 2,048 field patterns, one for each even distance".
+#![tactic(auto)]
+
 ghost use Rattle.std.specs.Prelude.{◌≡◌, ◌<◌};
 ghost use Rattle.instructions_table.specs.Jumps.{field_at};
 

@@ -1,5 +1,7 @@
 // An undo journal (document 01: the ledger) holds the old bytes of each span that an install writes, the newest last.
 // This crate has its format, and checks 1 and 15.
+#![tactic(auto)]
+
 ghost use Rattle.std.specs.Prelude.{◌≡◌, ◌+◌, ◌≤◌, ◌<◌, not, ◌&&◌, ◌||◌, length};
 ghost use Rattle.journal_format.specs.Journals.{max_entries, entry_at, old_at, count, held, entry, is_blank, ends_within, sound, no_room};
 

@@ -1,1 +1,2 @@
 // What the two calls leave, and demand 3: definitions and theorems, no code.
+#![tactic(auto)]

@@ -1,4 +1,6 @@
 // Saving a span into the journal, and rolling it back.
+#![tactic(auto)]
+
 ghost use Rattle.std.specs.Prelude.{◌≡◌, ◌+◌, ◌≤◌, ◌<◌, length, replicate};
 ghost use Rattle.std.proofs.lemmas.List.Edits.{sets};
 ghost use Rattle.journal_format.specs.Journals.{max_entries, old_at, entry_at, entry_bytes};
@@ -11,7 +13,7 @@ use journal_format::{COUNT_AT, HELD_AT, NUMBER_SIZE, OLD_AT, entry_at};
 use plan_pieces::Span;
 
 // What a rollback answers.
-#[derive(Drop)]
+#[derive(Clone, Copy)]
 pub enum RolledBack {
     Done,
     JournalUnsound,

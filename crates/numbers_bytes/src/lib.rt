@@ -1,4 +1,6 @@
 // Numbers in bytes, the lowest byte first, and bytes that are copied.
+#![tactic(auto)]
+
 ghost use Rattle.std.specs.Prelude.{◌≡◌, true, ◌+◌, ◌≤◌, ◌<◌, length};
 ghost use Rattle.std.proofs.lemmas.List.Edits.{sets};
 ghost use Rattle.numbers_definitions.specs.Bytes.{le_at, bytes, part};

@@ -1,4 +1,6 @@
 // An order: the window's base, where each section goes, and the values of undefined symbols.
+#![tactic(auto)]
+
 ghost use Rattle.std.specs.Prelude.{◌≡◌, ◌+◌, ◌*◌, ◌^◌, ◌≤◌, ◌<◌, length};
 ghost use Rattle.numbers_definitions.specs.Classes.{bits};
 ghost use Rattle.order_format.specs.Orders.{entry_size, empty_size, placements_start, externals_at, max_placements, reading, entry_at, ascending};
@@ -14,21 +16,21 @@ pub const MAX_EXTERNALS: usize = 8192;
 pub const MAX_IMAGE: usize = 1_048_576;
 
 // A section and its address, or a symbol and its value, which is a run-time address too.
-#[derive(Drop)]
+#[derive(Clone, Copy)]
 pub struct Entry {
     pub index: u32,
     pub value: Address,
 }
 
 // The window's base, and how many placements and external values there are.
-#[derive(Drop)]
+#[derive(Clone, Copy)]
 pub struct OrderHeader {
     pub base: Address,
     pub placements: usize,
     pub externals: usize,
 }
 
-#[derive(Drop)]
+#[derive(Clone, Copy)]
 pub enum Reading {
     Malformed,
     WellFormed(OrderHeader),

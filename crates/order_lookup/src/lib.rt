@@ -1,4 +1,6 @@
 // The addresses that an order gives to sections, and the values that it gives to symbols.
+#![tactic(auto)]
+
 ghost use Rattle.std.specs.Prelude.{◌≡◌, ◌+◌};
 ghost use Rattle.order_format.specs.Orders.{reading};
 ghost use Rattle.order_lookup.specs.Values.{value_in, external_value};
@@ -10,7 +12,7 @@ use numbers_definitions::{Address, Class};
 use order_format::{OrderHeader, Reading};
 
 // The address or value that an order gives.
-#[derive(Drop)]
+#[derive(Clone, Copy)]
 pub enum Value {
     Given(Address),
     NotGiven,
@@ -49,7 +51,7 @@ pub fn external_value(class: Class, order: &[u8], counts: OrderHeader, symbol: u
 }
 
 // What the order gives to a symbol, and where the search for the next symbol goes on.
-#[derive(Drop)]
+#[derive(Clone, Copy)]
 pub struct Taken {
     pub value: Value,
     pub next: usize,

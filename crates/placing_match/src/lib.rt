@@ -1,4 +1,6 @@
 // Checks 6 and 7: whether the placements and external values of an order fit the object.
+#![tactic(auto)]
+
 ghost use Rattle.std.specs.Prelude.{◌≡◌, not, ◌&&◌};
 ghost use Rattle.numbers_definitions.specs.First.{first};
 ghost use Rattle.elf_read.specs.Headers.{class_of, section_count};
@@ -18,7 +20,7 @@ use order_lookup::Value;
 use placing_symbols::{Symbols, symbols_of};
 
 // The lowest section or symbol that breaks a rule, if one does.
-#[derive(Drop)]
+#[derive(Clone, Copy)]
 pub enum Fault {
     Nowhere,
     At(u32),

@@ -1,4 +1,6 @@
 // The span of an install: the part of the image that its loaded sections take.
+#![tactic(auto)]
+
 ghost use Rattle.std.specs.Prelude.{◌≡◌, true, cond, ◌+◌, ◌-◌, ◌≤◌, ◌<◌, min, max};
 ghost use Rattle.elf_read.specs.Headers.{section_count};
 ghost use Rattle.elf_check.specs.Requires.{SoundObject};

@@ -1,4 +1,6 @@
 // The values of symbols.
+#![tactic(auto)]
+
 ghost use Rattle.std.specs.Prelude.{◌≡◌, List, ℕ};
 ghost use Rattle.elf_read.specs.Headers.{class_of};
 ghost use Rattle.elf_check.specs.Requires.{SoundObject};
@@ -17,7 +19,7 @@ use order_format::{OrderHeader, Reading};
 use order_lookup::{Addresses, Value, take_external};
 
 // Why a symbol has no value, in the order in which the reasons are looked at. The last is one of relocations that take a pair.
-#[derive(Drop)]
+#[derive(Clone, Copy)]
 pub enum Reason {
     PastTable,
     NotAllocated,
@@ -29,7 +31,7 @@ pub enum Reason {
 }
 
 // The value of a symbol, or why it has none.
-#[derive(Drop)]
+#[derive(Clone, Copy)]
 pub enum SymbolValue {
     Resolved(Address),
     Unresolved(Reason),
@@ -103,7 +105,7 @@ fn entry_value(object: &[u8], given: Value, start: u64, symbol: Symbol) -> Symbo
 }
 
 // The symbol table: its header, and how many symbols it has. If it has none, nothing reads the header.
-#[derive(Drop)]
+#[derive(Clone, Copy)]
 pub struct Symbols {
     pub table: Section,
     pub count: usize,

@@ -1,4 +1,6 @@
 // Files, each given by the position of its name among the arguments. They are looked at, and read whole.
+#![tactic(auto)]
+
 ghost use Rattle.std.specs.Prelude.{◌≡◌, ◌≤◌, length};
 ghost use Rattle.io.specs.Counts.{IsPrefixLen};
 ghost use Rattle.libc.specs.Io.{Ended};
@@ -17,7 +19,7 @@ const PATH: usize = 4095;
 
 // A file as it was read: the number of its argument, whether it could be read, how many bytes of it were read, at most one
 // more than the limit, and what was seen of it before.
-#[derive(Drop)]
+#[derive(Clone, Copy)]
 pub struct File {
     pub at: usize,
     pub is_read: bool,
@@ -26,7 +28,7 @@ pub struct File {
 }
 
 // Whether bytes could be read, and how many.
-#[derive(Drop)]
+#[derive(Clone, Copy)]
 struct Contents {
     is_read: bool,
     len: usize,

@@ -1,4 +1,6 @@
 // What a file is: its kind, its permission bits, its owner and its group, and what tells it from every other file.
+#![tactic(auto)]
+
 ghost use Rattle.std.specs.Prelude.{◌≡◌, ◌&&◌, eqb, ◌<◌};
 ghost use Rattle.libc.specs.Io.{Ended};
 
@@ -6,7 +8,7 @@ use libc::types::{stat, timespec};
 
 // What was seen of a file. The kind is 0 if nothing could be seen, and PLAIN for a plain file; the permission bits are
 // those of 0o7777. Device, number, size and the two times are of that file alone, and change when it is written.
-#[derive(Drop)]
+#[derive(Clone, Copy)]
 pub struct Seen {
     pub kind: u32,
     pub bits: u32,
@@ -23,7 +25,7 @@ pub struct Seen {
 pub const PLAIN: u32 = 8;
 
 // What stat answered, and what it left.
-#[derive(Drop)]
+#[derive(Clone, Copy)]
 struct Asked {
     status: i32,
     left: stat,

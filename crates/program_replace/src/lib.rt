@@ -1,4 +1,6 @@
 // Files that are replaced whole by rename, so that a failed write changes nothing.
+#![tactic(auto)]
+
 ghost use Rattle.std.specs.Prelude.{◌≡◌, cond, ◌+◌, ◌≤◌, length};
 ghost use Rattle.io.specs.Counts.{IsPrefixLen};
 ghost use Rattle.libc.specs.Io.{Ended};
@@ -265,7 +267,7 @@ fn store(fd: i32, seen: Seen, bytes: &[u8]) -> bool {
 }
 
 // A file that is to be replaced: the length of its path, or 0 if there is no such file, and what was seen of it.
-#[derive(Drop)]
+#[derive(Clone, Copy)]
 struct Replaced {
     len: usize,
     seen: Seen,

@@ -1,11 +1,13 @@
 // Texts that the program `aktinoph` reads, writes, or names files by.
+#![tactic(auto)]
+
 ghost use Rattle.std.specs.Prelude.{◌≡◌, ◌++◌, ◌+◌, ◌≤◌, length, take};
 ghost use Rattle.io.specs.Counts.{IsPrefixLen};
 ghost use Rattle.plan_pieces.specs.Answers.{Answer, says_why, Reads};
 ghost use Rattle.program_text.specs.Commands.{Asks};
 ghost use Rattle.program_text.specs.Lines.{Appended, decimal, line};
 
-#[derive(Drop)]
+#[derive(Clone, Copy)]
 pub enum Command {
     Fit,
     TakeBack,

@@ -1,5 +1,7 @@
 // The bytes of sections after their relocations, laid in place. Every check has passed, and what each relocation leaves is worked
 // out already, so nothing here can fail.
+#![tactic(auto)]
+
 ghost use Rattle.std.specs.Prelude.{◌≡◌, true, List, ℕ, ◌+◌, ◌^◌, ◌≤◌, ◌<◌, length, get_or};
 ghost use Rattle.std.proofs.lemmas.List.Edits.{sets};
 ghost use Rattle.numbers_definitions.specs.Bytes.{bytes};

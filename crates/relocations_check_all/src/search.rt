@@ -21,7 +21,7 @@ use relocations_rules::{Finding, RelocationCheck};
 use relocations_types::decide;
 
 // What is found in a site: the number of the first broken rule, or 0, and the relocation that breaks it.
-#[derive(Drop)]
+#[derive(Clone, Copy)]
 pub struct Halt {
     pub number: u64,
     pub at: usize,

@@ -1,5 +1,7 @@
 // Checks 9 to 14 of one relocation, and the bytes that it leaves. Everything is read from the object as it was given. S comes
 // from the arrays of the symbols' values.
+#![tactic(auto)]
+
 ghost use Rattle.std.specs.Prelude.{◌≡◌, true, false, not, cond, ℕ, ◌+◌, ◌-◌, ◌≤◌, ◌<◌, length, eqb};
 ghost use Rattle.numbers_definitions.specs.Bytes.{le_at};
 ghost use Rattle.numbers_definitions.specs.Whole.{signed};
@@ -28,7 +30,7 @@ use relocations_values::place_of;
 
 // What is found out about a relocation that keeps check 9: the number of the first of checks 10 to 14 that it breaks, or 0; the
 // bytes that it leaves, as one number; and what is known of the site's high halves.
-#[derive(Drop)]
+#[derive(Clone, Copy)]
 struct Outcome {
     number: u64,
     word: u64,
@@ -37,7 +39,7 @@ struct Outcome {
 
 // What is found out about the high half that a relocation takes: 10 if its label is not in the target, 12 if not exactly one high
 // half is there, otherwise 0; T - P of the high half; and what is then known of the site's high halves.
-#[derive(Drop)]
+#[derive(Clone, Copy)]
 struct Partner {
     number: u64,
     distance: u64,
@@ -47,7 +49,7 @@ struct Partner {
 // What is found out about a relocation: the number of the first of checks 9 to 14 that it breaks, or 0; the bytes that it leaves, as
 // one number, and how many they are; what the previous non-marker of the next relocation left; what is known of the site's high
 // halves; and the trail of the next relocation. Only numbers of one size, so that no padding is copied.
-#[derive(Drop)]
+#[derive(Clone, Copy)]
 pub struct Step {
     pub number: u64,
     pub word: u64,

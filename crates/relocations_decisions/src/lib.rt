@@ -1,4 +1,6 @@
 // What the rules need to know about a type's decision.
+#![tactic(auto)]
+
 ghost use Rattle.std.specs.Prelude.{◌≡◌};
 ghost use Rattle.instructions_fields.specs.Fields.{value_bits};
 ghost use Rattle.relocations_decisions.specs.Decisions.{is_store, is_refused, touched, stacks, stack_bits, stack_width, is_paired, takes_pair, needs_pair, is_high_of_pair, gives_pair};

@@ -1,4 +1,6 @@
 // What a relocation makes of the bytes that it touches, worked out from numbers.
+#![tactic(auto)]
+
 ghost use Rattle.std.specs.Prelude.{◌≡◌, true, false, ℕ, ◌+◌, ◌%◌, ◌^◌, ◌≤◌, ◌<◌, pos, ◌+ℤ◌, eqb};
 ghost use Rattle.numbers_definitions.specs.declared.Class.{Class};
 ghost use Rattle.numbers_definitions.specs.Classes.{bits};
@@ -121,7 +123,7 @@ fn call_reaches(class: Class, rvc: bool, v: u64) -> bool
 
 // What a relocation makes of its bytes: whether they have its form and the distance is in reach, as checks 11 and 13 ask, and the
 // bytes that it leaves.
-#[derive(Drop)]
+#[derive(Clone, Copy)]
 pub struct Applied {
     pub stands: bool,
     pub reaches: bool,

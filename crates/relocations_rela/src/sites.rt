@@ -10,7 +10,7 @@ use numbers_definitions::Address;
 
 // A RELA section, the section that it relocates (document 01: the target row), the number and address of that section, and whether bit 0
 // of the object's e_flags is set, so that nobody asks for it at each relocation.
-#[derive(Drop)]
+#[derive(Clone, Copy)]
 pub struct Site {
     pub rela: Section,
     pub target: Section,

@@ -1,9 +1,11 @@
 // The rules of relocations: checks 10 to 14 of one relocation, and the first broken rule over all relocations.
 // Definitions and theorems, no code; `relocations_check_one` and `relocations_check_all` do the checking.
+#![tactic(auto)]
+
 use placing_symbols::Reason;
 
 // Which of checks 9 to 14 a relocation breaks, if it breaks one; and why its symbol has no value, where that is 10.
-#[derive(Drop)]
+#[derive(Clone, Copy)]
 pub enum Finding {
     Kept,
     BadShape,
@@ -16,7 +18,7 @@ pub enum Finding {
 
 // What checks 9 to 14 find: nothing, or the first rule broken by the first relocation that breaks one, and the number
 // of that relocation.
-#[derive(Drop)]
+#[derive(Clone, Copy)]
 pub enum RelocationCheck {
     Passed,
     Broken(Finding, u32),

@@ -1,4 +1,6 @@
 // The decision from a relocation's type number to its calculation, field and width, or a refusal.
+#![tactic(auto)]
+
 ghost use Rattle.std.specs.Prelude.{◌≡◌, not, cond, eqb};
 ghost use Rattle.relocations_types.specs.Types.{of as «of-operand», word as «the_word», jump as «the-jump», pairing as «the-pairing», stacking as «the-stacking», pairing_type, lines_of, lookup, decision};
 
@@ -7,7 +9,7 @@ use instructions_riscv::forms::Form;
 use numbers_definitions::Class;
 
 // What is calculated with. T is the symbol's value with the addend, and P is the place's address.
-#[derive(Drop)]
+#[derive(Clone, Copy)]
 pub enum Operand {
     // T
     Absolute,
@@ -18,7 +20,7 @@ pub enum Operand {
 }
 
 // Which part of it is stored.
-#[derive(Drop)]
+#[derive(Clone, Copy)]
 pub enum Part {
     // all of it
     Whole,
@@ -31,7 +33,7 @@ pub enum Part {
 }
 
 // What is stored.
-#[derive(Drop)]
+#[derive(Clone, Copy)]
 pub enum Calculation {
     Of(Part, Operand),
     // the present value plus S + A, the present value minus S + A, and S + A alone
@@ -41,7 +43,7 @@ pub enum Calculation {
 }
 
 // What a relocation is to others.
-#[derive(Drop)]
+#[derive(Clone, Copy)]
 pub enum Role {
     Plain,
     // the high half that a PCREL_LO12 pairs with
@@ -51,7 +53,7 @@ pub enum Role {
 // What a type that stores bytes asks for: a calculation, the field that its result goes into, the form that the
 // instruction there must have, how many bytes are touched, and its role. It has no padding, which would be copied
 // with it.
-#[derive(Drop)]
+#[derive(Clone, Copy)]
 pub struct Rule {
     pub calculation: Calculation,
     pub field: Field,
@@ -61,7 +63,7 @@ pub struct Rule {
 }
 
 // What a type number asks for.
-#[derive(Drop)]
+#[derive(Clone, Copy)]
 pub enum Decision {
     // no bytes
     Marker,

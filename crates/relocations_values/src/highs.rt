@@ -13,7 +13,7 @@ use relocations_rela::sites::Site;
 use relocations_types::is_pairing;
 
 // How many high halves there are, and whether the offset of one is below that of the one before it.
-#[derive(Drop)]
+#[derive(Clone, Copy)]
 struct Gathered {
     count: usize,
     falls: bool,

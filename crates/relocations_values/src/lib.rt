@@ -1,4 +1,6 @@
 // What a relocation is calculated from: P, and the paired high half of a PCREL_LO12.
+#![tactic(auto)]
+
 pub mod highs;
 pub mod pairs;
 mod sorting;

@@ -10,7 +10,7 @@ use numbers_definitions::SectionOffset;
 use relocations_rela::sites::Site;
 
 // The one PCREL_HI20 at an offset, or `NotOne` if there is not exactly one.
-#[derive(Drop)]
+#[derive(Clone, Copy)]
 pub enum Pair {
     At(usize),
     NotOne,

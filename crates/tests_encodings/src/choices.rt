@@ -66,7 +66,7 @@ pub fn range(number: u64) -> Range {
 }
 
 // A jump's target and its own address.
-#[derive(Drop)]
+#[derive(Clone, Copy)]
 pub struct Jump {
     pub t: Address,
     pub p: Address,

@@ -1,5 +1,7 @@
 // Runs the functions of `instructions_encode`, `instructions_decode`, `instructions_riscv` and `relocations_types` over
 // fixed inputs. It writes a line for each case: what goes in and what comes out, in hexadecimal.
+#![tactic(auto)]
+
 mod choices;
 mod lines;
 

@@ -3,8 +3,9 @@
 // The input is commands of thirteen bytes each: a letter and three numbers, a, b and c. The first one only says, in a,
 // how many follow. `s` stores the b bytes that come after it in the program's space at a; the other letters ask about
 // what is there.
+#![tactic(auto)]
 
-#[derive(Drop)]
+#[derive(Clone, Copy)]
 pub struct Command {
     pub letter: u8,
     pub a: u32,

@@ -2,6 +2,8 @@
 // `placing_match`, `placing_check` and `placing_symbols` find.
 //
 //     p   the first a bytes are the object, the b bytes from 1,048,640 on are the order, and the image has c bytes
+#![tactic(auto)]
+
 mod pairs;
 
 use tests_harness::Command;

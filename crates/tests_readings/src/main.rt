@@ -4,6 +4,8 @@
 //     o       the first a bytes are an object
 //     r, R    the first a bytes are an order for class 1, for class 2
 //     w, W    a window of base a + 2^32 * c and length b for class 1, for class 2
+#![tactic(auto)]
+
 mod digest;
 mod lines;
 mod objects;

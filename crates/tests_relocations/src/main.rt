@@ -2,6 +2,8 @@
 // `calls_judge` and `relocations_apply` give.
 //
 //     r   the first a bytes are the object, the b bytes from 1,048,640 on are the order, and the image has c bytes
+#![tactic(auto)]
+
 mod lines;
 mod pairs;
 

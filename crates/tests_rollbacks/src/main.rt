@@ -5,6 +5,8 @@
 //     each case    kind u32: 0 a rollback, 1 a save, 2 a rollback of what the case before left
 //                  length of image u32, of journal u32; how many first bytes of each are given u32 u32; span u32 u32
 //                  the bytes given; every other byte is its place modulo 251
+#![tactic(auto)]
+
 ghost use Rattle.std.specs.Prelude.{◌<◌, ◌^◌};
 
 use journal_undo::RolledBack;
