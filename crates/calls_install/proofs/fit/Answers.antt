@@ -45,9 +45,9 @@ low c = subst (λ b. highest (S c) (addresses_for (S c) (O c)) b (section_count 
 plan_is : (c : Start) → judgement (S c) (O c) (Len c) ≡ plan (pieces c)
 plan_is c = gives_plan (S c) (O c) (Len c) c.args.counts c.requires.0
 
-span_taken : (c : After-span_of-span) → c.Span-of.result ≡ spanOfPieces (pieces (goal.at.After-span_of-span c).Start)
+span_taken : (c : After-span_of-span) → c.span_of-span.result ≡ spanOfPieces (pieces (goal.at.After-span_of-span c).Start)
 span_taken c =
-    c.Span-of.ensures ∙ ap (λ l. span_of (S (goal.at.After-span_of-span c).Start) l c.args.counts.base.0) c.requires.1.addresses_are ∙ ap (span_of (S (goal.at.After-span_of-span c).Start) (addresses_for (S (goal.at.After-span_of-span c).Start) (O (goal.at.After-span_of-span c).Start))) (base_is (goal.at.After-span_of-span c).Start) ∙ span_is (S (goal.at.After-span_of-span c).Start) (O (goal.at.After-span_of-span c).Start) c.args.counts (Len (goal.at.After-span_of-span c).Start) c.requires.0
+    c.span_of-span.ensures ∙ ap (λ l. span_of (S (goal.at.After-span_of-span c).Start) l c.args.counts.base.0) c.requires.1.addresses_are ∙ ap (span_of (S (goal.at.After-span_of-span c).Start) (addresses_for (S (goal.at.After-span_of-span c).Start) (O (goal.at.After-span_of-span c).Start))) (base_is (goal.at.After-span_of-span c).Start) ∙ span_is (S (goal.at.After-span_of-span c).Start) (O (goal.at.After-span_of-span c).Start) c.args.counts (Len (goal.at.After-span_of-span c).Start) c.requires.0
 
 -- check 15 of the plan's span
 abbrev lacks : Start → Bool

@@ -66,4 +66,4 @@ lay_at-requires c =
 pub returns : goal.returns
 returns c =
     let at : get_or c.args.addresses.now c.args.t 0 - c.args.counts.base.0 ≡ get_or (addresses_for (S (goal.at.returns c).Start) (O (goal.at.returns c).Start)) c.args.t 0 - base_for (S (goal.at.returns c).Start) (O (goal.at.returns c).Start) = omega (arith, base_is (goal.at.returns c).Start, address (goal.at.returns c).Start) in
-    c.Lay-at.ensures ∙ ap (λ k. sets c.args.image.now k (relocated (S (goal.at.returns c).Start) (O (goal.at.returns c).Start) (addresses_for (S (goal.at.returns c).Start) (O (goal.at.returns c).Start)) c.args.t)) at ∙ sym (with_some (S (goal.at.returns c).Start) (O (goal.at.returns c).Start) c.args.image.now c.args.t (some (goal.at.returns c).Else-not-has_bytes))
+    c.lay_at.ensures ∙ ap (λ k. sets c.args.image.now k (relocated (S (goal.at.returns c).Start) (O (goal.at.returns c).Start) (addresses_for (S (goal.at.returns c).Start) (O (goal.at.returns c).Start)) c.args.t)) at ∙ sym (with_some (S (goal.at.returns c).Start) (O (goal.at.returns c).Start) c.args.image.now c.args.t (some (goal.at.returns c).Else-not-has_bytes))

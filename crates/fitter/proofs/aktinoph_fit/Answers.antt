@@ -6,6 +6,6 @@ use Rattle.fitter.proofs.aktinoph_fit.Goals as goal
 pub returns : goal.returns
 returns c =
     record {
-      code_is = c.code_of_lem.ensures ∙ ap (λ o. packed o.answer) c.install.ensures;
+      code_is = c.code_of.ensures ∙ ap (λ o. packed o.answer) c.install.ensures;
       left_is = ap (λ o. o.after) c.install.ensures;
     }

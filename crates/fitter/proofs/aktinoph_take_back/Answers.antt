@@ -6,6 +6,6 @@ use Rattle.fitter.proofs.aktinoph_take_back.Goals as goal
 pub returns : goal.returns
 returns c =
     record {
-      code_is = c.code_of_lem.ensures ∙ ap (λ o. packed o.answer) c.rollback.ensures;
+      code_is = c.code_of.ensures ∙ ap (λ o. packed o.answer) c.rollback.ensures;
       left_is = ap (λ o. o.after) c.rollback.ensures;
     }

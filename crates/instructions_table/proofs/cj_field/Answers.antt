@@ -8,14 +8,11 @@ use Rattle.instructions_table.proofs.Laws.Table.{every}
 use Rattle.instructions_table.proofs.Laws.Jumps.{right, entry}
 use Rattle.instructions_table.proofs.cj_field.Reads as reads
 use Rattle.instructions_table.proofs.cj_field.Lts as lts
-use borrow.Author.Rules.{rules}
 use Rattle.instructions_table.proofs.cj_field.Goals as goal
-use Rattle.instructions_table.proofs.cj_field.Goals.{Start}
-
--- the table, as the function has it in its frame
-table : Start → List ℕ
-table c = (lts.m2 reads.Pre reads.Post c.args c.blocks).1.1.0
 
 pub returns : goal.returns
-unfolding table every right residue put
-returns c = entry (table (goal.at.returns c).Start) refl c.args.half (search rules)
+unfolding every right residue put
+returns c =
+    -- the table, as the function has it in its frame
+    let table : List ℕ = (lts.m5 reads.Pre reads.Post c.before.before c.result-1.given).1.1.0.now in
+    entry table refl c.args.half c.requires

@@ -1,5 +1,6 @@
 -- `order_format::read_order` meets its contract.
 use mathlib.Core.Path.{◌≡◌, refl, sym, ap, ◌∙◌}
+use mathlib.Core.Bool.{not}
 use mathlib.Core.List.{List}
 use Prim.Native.Nat.{ℕ}
 use native.Mathlib.Omega.{arith}
@@ -72,12 +73,12 @@ returns-then-order-entry_place c = unsound_read _ _ _ _ (placements_are (goal.at
 pub returns-then-not-ascends : goal.returns-then-not-ascends
 returns-then-not-ascends c =
     unsound_read _ _ _ _ (placements_are (goal.at.returns-then-not-ascends c).After-read32-placements) (externals_are (goal.at.returns-then-not-ascends c).After-read32-externals)
-    (λ k. not_both _ _ c.if-not-ascends.true (first_ascends (goal.at.returns-then-not-ascends c).After-ascends) k.placed)
+    (λ k. not_both _ _ (ap not c.if-not-ascends.true) (first_ascends (goal.at.returns-then-not-ascends c).After-ascends) k.placed)
 
 pub returns-then-not-ascends-2 : goal.returns-then-not-ascends-2
 returns-then-not-ascends-2 c =
     unsound_read _ _ _ _ (placements_are (goal.at.returns-then-not-ascends-2 c).After-read32-placements) (externals_are (goal.at.returns-then-not-ascends-2 c).After-read32-externals)
-    (λ k. not_both _ _ c.if-not-ascends-2.true (second_ascends (goal.at.returns-then-not-ascends-2 c).After-ascends-2) k.given)
+    (λ k. not_both _ _ (ap not c.if-not-ascends-2.true) (second_ascends (goal.at.returns-then-not-ascends-2 c).After-ascends-2) k.given)
 
 pub returns : goal.returns
 returns c =

@@ -13,7 +13,7 @@ pub overflow_cast-start : goal.overflow_cast-start
 overflow_cast-start c =
     let end : c.highest_end-end.result < 4294967296 =
     rw (c.highest_end-end.ensures, c.section_count-n.ensures) c.requires.1 in
-    let low : c.Lowest-start.result ≤ c.highest_end-end.result = rw c.Lowest-start.ensures (lowest_byte_le _ _ _ _ _) in
+    let low : c.lowest_start-lowest.result ≤ c.highest_end-end.result = rw c.lowest_start-lowest.ensures (lowest_byte_le _ _ _ _ _) in
     omega arith
 
 pub overflow_cast-size : goal.overflow_cast-size
@@ -24,4 +24,4 @@ overflow_cast-size c =
 
 pub returns : goal.returns
 unfolding span_of
-returns c = rw (c.less-size.ensures, c.Lowest-start.ensures, c.highest_end-end.ensures, c.section_count-n.ensures)
+returns c = rw (c.less-size.ensures, c.lowest_start-lowest.ensures, c.highest_end-end.ensures, c.section_count-n.ensures)

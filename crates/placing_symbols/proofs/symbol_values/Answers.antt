@@ -71,10 +71,10 @@ loop-k-preserved c =
     ∙ ap (λ g. of_entry s g c.if-section-lt-MAX_SECTIONS.start c.read_symbol-symbol.result) (c.take_external-taken.ensures.0 ∙ ap (λ n. external_value n c.args.order.now k) c.class_of-class.ensures)
     ∙ value_read s c.args.order.now c.args.addresses k c.loop-k.invariant.0 (in_table (goal.at.loop-k-preserved c).In-loop-k).0 _ symbol _ (start_is (goal.at.loop-k-preserved c).Joined-section-lt-MAX_SECTIONS) in (
       search rules,
-      rw (c.number_of_lem.ensures, c.state_of.ensures)
+      rw (c.number_of.ensures, c.state_of.ensures)
           (below_next _ _ _ _ _ _ c.loop-k.invariant.1 (in_table (goal.at.loop-k-preserved c).In-loop-k).2 c.entry_value-value.result is),
       c.take_external-taken.ensures.1,
-      length-set c.loop-k.values k c.number_of_lem.result ∙ c.loop-k.invariant.3,
+      length-set c.loop-k.values k c.number_of.result ∙ c.loop-k.invariant.3,
       length-set c.loop-k.states k c.state_of.result ∙ c.loop-k.invariant.4,
     )
 

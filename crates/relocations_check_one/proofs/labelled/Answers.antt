@@ -79,7 +79,7 @@ pub returns : goal.returns
 returns c =
     let a = c.args in
     let f = c.requires.1 in
-    let e = c.high_half_lem.ensures in
+    let e = c.high_half.ensures in
     let here : in_target a.object.now a.site a.j ≡ true = sym (target (goal.at.returns c).After-read_symbol-symbol) ∙ eq-eqb _ _ c.if-symbol-site.false in
     let label = ap (λ (y : Symbol). y.value) (symbol_read a.object.now a.site a.j a.here _ _ f.read (table (goal.at.returns c).Else-k-eq0) c.read_symbol-symbol.ensures) in (
       target_partnered (listed a.values.now a.states.now) a.object.now a.site a.j a.rule a.here f c.requires.3 c.requires.4

@@ -9,9 +9,9 @@ overflow_add-result c = omega (arith, c.requires.1, c.bytes_touched.ensures)
 pub returns-then-is_store : goal.returns-then-is_store
 unfolding advanced
 returns-then-is_store c =
-    rw (c.requires.0, c.bytes_touched.ensures, ← c.is_IsStore.ensures, c.if-is_store.true)
+    rw (c.requires.0, c.bytes_touched.ensures, ← c.is_store.ensures, c.if-is_store.true)
 
 pub returns : goal.returns
 unfolding advanced
 returns c =
-    rw (← c.is_IsStore.ensures, c.if-is_store.false)
+    rw (← c.is_store.ensures, c.if-is_store.false)

@@ -5,4 +5,4 @@ use Rattle.relocations_rela.proofs.shape.is_shape_well.Goals as goal
 pub returns : goal.returns
 unfolding shape_by
 returns c =
-    rw (c.is_addend_allowed.ensures, c.is_refused.ensures, c.is_IsStore.ensures, c.requires, c.ends_within-inside.ensures, c.bytes_touched.ensures)
+    rw (c.is_addend_allowed.ensures, c.is_refused.ensures, c.is_store.ensures, c.requires, c.ends_within-inside.ensures, c.bytes_touched.ensures)
