@@ -1,6 +1,6 @@
 -- `journal_format::is_sound` meets its contract.
 use mathlib.Core.Path.{◌≡◌, refl, sym, ap, ◌∙◌}
-use mathlib.Core.Bool.{true}
+use mathlib.Core.Bool.{true, not}
 use mathlib.Core.List.{List}
 use Prim.Native.Nat.{ℕ, ◌-◌, ◌*◌, ◌^◌, ◌≤◌, ◌<◌}
 use native.Mathlib.Numerals.{add-one}
@@ -43,7 +43,7 @@ tested c =
 
 pub returns-then-not-entry_allowed : goal.returns-then-not-entry_allowed
 returns-then-not-entry_allowed c =
-    unsound_test (j (goal.at.returns-then-not-entry_allowed c).After-entry_allowed) (len (goal.at.returns-then-not-entry_allowed c).After-entry_allowed) (λ k. not_both _ _ c.if-not-entry_allowed.true (tested (goal.at.returns-then-not-entry_allowed c).After-entry_allowed) (sound_entry (j (goal.at.returns-then-not-entry_allowed c).After-entry_allowed) (len (goal.at.returns-then-not-entry_allowed c).After-entry_allowed) k (i (goal.at.returns-then-not-entry_allowed c).After-entry_allowed) (omega arith)))
+    unsound_test (j (goal.at.returns-then-not-entry_allowed c).After-entry_allowed) (len (goal.at.returns-then-not-entry_allowed c).After-entry_allowed) (λ k. not_both _ _ (ap not c.if-not-entry_allowed.true) (tested (goal.at.returns-then-not-entry_allowed c).After-entry_allowed) (sound_entry (j (goal.at.returns-then-not-entry_allowed c).After-entry_allowed) (len (goal.at.returns-then-not-entry_allowed c).After-entry_allowed) k (i (goal.at.returns-then-not-entry_allowed c).After-entry_allowed) (omega arith)))
 
 pub overflow_add-sum : goal.overflow_add-sum
 overflow_add-sum c = omega arith
@@ -63,5 +63,5 @@ unfolding entries
 returns c =
     let end : c.loop-i.i ≡ max_entries = omega arith in
     rw c.read32-k.ensures
-    (sound_by_held c.args.journal.now c.args.len c.loop-i.sum (rw end c c.loop-i.invariant.2) (omega arith) (omega arith)
+    (sound_by_held c.args.journal.now c.args.len c.loop-i.sum (rw end at c.loop-i.invariant.2) (omega arith) (omega arith)
     (λ i h. c.loop-i.invariant.3 i (omega arith)))

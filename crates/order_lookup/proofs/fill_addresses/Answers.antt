@@ -10,6 +10,7 @@ use native.Mathlib.Omega.{arith}
 use Rattle.order_lookup.proofs.Laws.Array.{filled, filled_none, filled_in, filled_out, filled_all}
 use borrow.Author.Rules.{rules}
 use Rattle.order_lookup.proofs.fill_addresses.Goals as goal
+use Rattle.order_lookup.proofs.fill_addresses.Goals.{then-section-lt-MAX_SECTIONS, else-section-lt-MAX_SECTIONS}
 
 pub loop-i-init : goal.loop-i-init
 loop-i-init c = (search rules, c.requires.0 ∙ filled_none _ _)
@@ -27,9 +28,10 @@ loop-i-preserved c =
     let k : Sound _ _ _ = reading_sound _ _ _ c.requires.1 in
     let inside : c.loop-i.i < c.args.counts.placements = omega arith in (
       search rules,
-      ⊎_elim (λ w. w.1 ∙ ap (λ a. set a e.index e.value.0) c.loop-i.invariant.1 ∙ filled_in _ _ _ _ is _ k.placed inside)
-          (λ w. w.1 ∙ c.loop-i.invariant.1 ∙ filled_out _ _ _ _ is w.0.left)
-          c.if-section-lt-MAX_SECTIONS.branch,
+      elim c.if-section-lt-MAX_SECTIONS.branch [
+      | then-section-lt-MAX_SECTIONS w ↦ w.array-is ∙ ap (λ a. set a e.index e.value.0) c.loop-i.invariant.1 ∙ filled_in _ _ _ _ is _ k.placed inside
+      | else-section-lt-MAX_SECTIONS w ↦ w.array-is ∙ c.loop-i.invariant.1 ∙ filled_out _ _ _ _ is w.if-section-lt-MAX_SECTIONS.false
+      ],
     )
 
 pub returns : goal.returns

@@ -17,7 +17,7 @@ loop-i-init c = (omega arith, refl)
 
 pub raised-end-requires : goal.raised-end-requires
 unfolding end_of
-raised-end-requires c =
+raised-end-requires c e =
     let here : has_bytes (section_at c.args.object.now c.loop-i.i) ≡ true = sym (ap has_bytes c.read_section-h.ensures) ∙ e in
     omega (arith, ap (λ (h : Section). h.size) c.read_section-h.ensures, highest_end c.args.object.now c.args.addresses c.args.base.0 c.args.n c.loop-i.i (omega arith) here, c.requires.2)
 

@@ -4,12 +4,12 @@ use Rattle.placing_symbols.proofs.Laws.Values.{entry_given, entry_missing, entry
 use Rattle.placing_symbols.proofs.undefined_value.Goals as goal
 
 pub returns-then-symbol-ne-STB_WEAK : goal.returns-then-symbol-ne-STB_WEAK
-returns-then-symbol-ne-STB_WEAK c =
+returns-then-symbol-ne-STB_WEAK c object start e =
     sym (entry_missing object _ start _ e c.if-symbol-ne-STB_WEAK.true c.in-NotGiven.is)
 
 pub returns-in-Given : goal.returns-in-Given
-returns-in-Given c = c.value_by_type.ensures ∙ sym (entry_given object _ start _ e _ c.in-Given.is)
+returns-in-Given c object start e = c.value_by_type.ensures ∙ sym (entry_given object _ start _ e _ c.in-Given.is)
 
 pub returns-else-symbol-ne-STB_WEAK : goal.returns-else-symbol-ne-STB_WEAK
-returns-else-symbol-ne-STB_WEAK c =
+returns-else-symbol-ne-STB_WEAK c object start e =
     c.value_by_type-in-NotGiven.ensures ∙ sym (entry_weak object _ start _ e c.if-symbol-ne-STB_WEAK.false c.in-NotGiven.is)
