@@ -25,7 +25,7 @@ returns-in-7 c = sym (ap reason_in c.in-7.is)
 pub returns-in_default : goal.returns-in_default
 returns-in_default c =
     let state = c.args.state in
-    let other = c.in_default.rest in
+    let other = c.in_default.in_default-own.rest in
     rw (
       ne_eqb state 2 other.0.0.0.0.0.1,
       ne_eqb state 3 other.0.0.0.0.1,

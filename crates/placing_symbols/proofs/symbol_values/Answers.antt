@@ -18,7 +18,7 @@ use Rattle.placing_symbols.proofs.Laws.Values.{value_read}
 use Rattle.placing_symbols.proofs.Laws.Arrays.{ValuedBelow, below_one, below_next, below_all}
 use borrow.Author.Rules.{rules}
 use Rattle.placing_symbols.proofs.symbol_values.Goals as goal
-use Rattle.placing_symbols.proofs.symbol_values.Goals.{After-class_of-class, In-loop-k, Joined-section-lt-MAX_SECTIONS}
+use Rattle.placing_symbols.proofs.symbol_values.Goals.{then-section-lt-MAX_SECTIONS, else-section-lt-MAX_SECTIONS, After-class_of-class, In-loop-k, Joined-section-lt-MAX_SECTIONS}
 
 -- the order was read by the class that the code has
 reads : (c : After-class_of-class) → reading c.class_of-class.result c.args.order.now ≡ WellFormed c.args.counts
@@ -58,7 +58,10 @@ read_symbol-symbol-requires c =
 -- the address that is given to `entry_value`
 start_is : (c : Joined-section-lt-MAX_SECTIONS) → c.if-section-lt-MAX_SECTIONS.start ≡ get_or c.args.addresses c.read_symbol-symbol.result.section 0
 start_is c =
-    ⊎_elim (λ w. w.1) (λ w. w.1 ∙ sym (get_or-eq_default c.args.addresses 0 (omega arith))) c.if-section-lt-MAX_SECTIONS.branch
+    elim c.if-section-lt-MAX_SECTIONS.branch [
+    | then-section-lt-MAX_SECTIONS w ↦ w.start-is
+    | else-section-lt-MAX_SECTIONS w ↦ w.start-is ∙ sym (get_or-eq_default c.args.addresses 0 (omega arith))
+    ]
 
 pub loop-k-preserved : goal.loop-k-preserved
 loop-k-preserved c =

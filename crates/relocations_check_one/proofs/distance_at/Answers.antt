@@ -11,6 +11,6 @@ class_of-class-requires c = header_there _ c.requires.0.site.header
 pub returns : goal.returns
 returns c =
     let a = c.args in
-    rw c.class_of-class.ensures c c.difference.ensures
+    rw c.class_of-class.ensures at c.difference.ensures
     ∙ distance_read (listed a.values.now a.states.now) a.object.now a.site a.k _ _ _ _ c.read_relocation-high.ensures c.value_at-value.ensures
     c.symbol_sum-x.ensures c.place_of-p.ensures

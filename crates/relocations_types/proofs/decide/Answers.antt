@@ -120,19 +120,21 @@ returns-in-56 c = c.stacking-in-56.ensures ∙ sym (listed _ _ _ _ c.in-56.is re
 pub returns-in-18 : goal.returns-in-18
 unfolding lookup table among
 returns-in-18 c =
-    let t = c.args.number in
+    let h = c.in-18 in
     c.of-in-18.ensures
     ∙ ⊎_elim (λ e. sym (listed _ _ _ 18 e refl)) (λ e. sym (listed _ _ _ 19 e refl))
-    (call_types t c.if-number-lt16.false c.if-number-lt20.true c.in_default-1.rest)
+    (call_types c.args.number h.if-number-lt16-own.false h.if-number-lt20-own.true h.in_default-own.rest)
 
 pub returns-in-3-to-15 : goal.returns-in-3-to-15
 returns-in-3-to-15 c =
     let t = c.args.number in
-    let low = c.if-number-lt16.true in
-    sym (others_refused _ _ t c.in_default-1.rest (⊎_elim (too_low t low 18 (omega arith)) (too_low t low 19 (omega arith))))
+    let h = c.in-3-to-15 in
+    let low = h.if-number-lt16-own.true in
+    sym (others_refused _ _ t h.in_default-own.rest (⊎_elim (too_low t low 18 (omega arith)) (too_low t low 19 (omega arith))))
 
 pub returns-in-3-to-15-2 : goal.returns-in-3-to-15-2
 returns-in-3-to-15-2 c =
     let t = c.args.number in
-    let high = c.if-number-lt20.false in
-    sym (others_refused _ _ t c.in_default-1.rest (⊎_elim (too_high t high 18 (omega arith)) (too_high t high 19 (omega arith))))
+    let h = c.in-3-to-15 in
+    let high = h.if-number-lt20-own.false in
+    sym (others_refused _ _ t h.in_default-own.rest (⊎_elim (too_high t high 18 (omega arith)) (too_high t high 19 (omega arith))))
