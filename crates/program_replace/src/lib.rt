@@ -470,6 +470,6 @@ fn open_write(rt: HostRuntime, link: &str) -> io::Result<()> {
 
 // The path by which Linux gives an open file.
 fn link_of(file: &fs::File) -> InlineText<32> {
-    let folder: InlineText<32> = InlineText::from_str("/proc/self/fd/");
+    let folder: InlineText<32> = InlineText::of("/proc/self/fd/");
     folder.and(file.as_raw_fd(), 12)
 }
