@@ -27,7 +27,9 @@ const PATH: usize = 4095;
 
 // The numbers of the system's errors.
 const EINVAL: i32 = 22;
+
 const ENAMETOOLONG: i32 = 36;
+
 const EILSEQ: i32 = 84;
 
 // A file as it was read: the number of its argument, whether it could be read, how many bytes of it were read, at most one

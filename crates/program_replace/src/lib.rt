@@ -17,9 +17,13 @@ use std::{fs, io};
 
 // The numbers of the system's errors. The last is that of a call that the file system does not support, beside EINVAL.
 const EACCES: i32 = 13;
+
 const EEXIST: i32 = 17;
+
 const EINVAL: i32 = 22;
+
 const ETXTBSY: i32 = 26;
+
 const EOPNOTSUPP: i32 = 95;
 
 // Replaces the first file, then the second. Both new files are written before either takes its name. The array is copied,
