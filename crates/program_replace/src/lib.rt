@@ -2,6 +2,7 @@
 #![tactic(auto)]
 
 ghost use Rattle.std.specs.Prelude.{◌≡◌, cond, ◌+◌, ◌≤◌, length};
+ghost use Rattle.std.specs.Io.{ReadsAtMost};
 ghost use Rattle.io.specs.Counts.{IsPrefixLen};
 
 use program_files::{File, ROOM, argument, fail, look, open_read, read, say, text};
@@ -408,20 +409,32 @@ fn find_open(rt: HostRuntime, file: &fs::File, given: &[u8], path: &mut [u8]) ->
 {
     let link = link_of(file);
     let seen = program_modes::look(rt, link.as_str());
-    let n = own_path(rt, link.as_str(), seen, path);
-    let n = if_writable(rt, link.as_str(), given, n);
-    Replaced { len: n, seen }
+    match own_path(rt, link.as_str(), seen, path) {
+        Ok(n) => Replaced {
+            len: if_writable(rt, link.as_str(), given, n),
+            seen,
+        },
+        Err(error) => {
+            fail(rt, given, error);
+            Replaced { len: 0, seen }
+        }
+    }
 }
 
 // Puts the path of an open plain file into `path`, as Linux gives it: absolute, and with every link followed. It
-// returns the length, or 0 if there is no such path: the file may be gone, it may not be a plain file, or its path may
-// not be text.
-fn own_path(rt: HostRuntime, link: &str, seen: Seen, path: &mut [u8]) -> usize
-    ensures { IsPrefixLen result path.new }
+// returns the length, or 0 if there is no such path: the file may be gone, or it may not be a plain file. An error is
+// one of `std` and not of the system: the path is not text, or there is no memory for it.
+fn own_path(rt: HostRuntime, link: &str, seen: Seen, path: &mut [u8]) -> io::Result<usize>
+    ensures { ReadsAtMost result path.new }
 {
     match fs::read_link(&rt, link) {
-        Ok(own) => put_path(rt, own.as_str().as_bytes(), seen, path),
-        Err(_) => 0,
+        Ok(own) => Ok(put_path(rt, own.as_str().as_bytes(), seen, path)),
+        Err(error) => {
+            if error.raw_os_error().is_some() {
+                return Ok(0);
+            }
+            Err(error)
+        }
     }
 }
 
