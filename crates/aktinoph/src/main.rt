@@ -11,67 +11,98 @@
 
 ghost use Rattle.std.specs.Prelude.{◌≡◌, ◌||◌, ltb};
 
-use program_files::{File, MAX_FILE, ROOM, read};
+use program_files::{File, MAX_FILE, ROOM, argument, fail, read};
 use program_replace::replace_both;
 use program_text::{Command, LINE};
+use std::env::FillError;
+use std::io::Write;
+use std::rt::Env;
 
-fn main() {
+fn main(rt: HostRuntime) {
     let mut word = [0u8; 9];
-    let n = os::arg(1, &mut word);
-    match program_text::asked(&word[..n], os::arg_count()) {
-        Command::Fit => fit(),
-        Command::TakeBack => take_back(),
-        Command::Help => usage(libc::STDOUT_FILENO),
-        Command::Version => version(),
-        Command::Unknown => usage(libc::STDERR_FILENO),
+    let n = argument(rt, 1, &mut word).unwrap_or(0);
+    match program_text::asked(&word[..n], argument_count(rt)) {
+        Command::Fit => fit(rt),
+        Command::TakeBack => take_back(rt),
+        Command::Help => usage(rt, rt.stdout()),
+        Command::Version => version(rt),
+        Command::Unknown => usage(rt, rt.stderr()),
     }
 }
 
-fn usage(fd: i32) {
+// The number of arguments. The program's own name counts as one.
+fn argument_count(rt: HostRuntime) -> usize {
+    for i in 0..usize::MAX {
+        if !has_argument(rt, i) {
+            return i;
+        }
+    }
+    usize::MAX
+}
+
+// An argument that does not fit into the byte is there all the same.
+fn has_argument(rt: HostRuntime, i: usize) -> bool {
+    let mut byte = [0u8; 1];
+    match rt.arg(i, &mut byte) {
+        Ok(_) => true,
+        Err(FillError::TooLong) => true,
+        Err(FillError::NotPresent) => false,
+    }
+}
+
+fn usage<W: Write + Drop>(rt: HostRuntime, mut to: W) {
     let line =
         b"usage: aktinoph fit OBJECT ORDER IMAGE LEDGER\n       aktinoph take-back IMAGE LEDGER\n       aktinoph --help\n       aktinoph --version\n";
-    if !io::write_all(fd, line) {
-        os::fail(b"standard output");
+    if let Err(error) = to.write_all(line) {
+        fail(rt, b"standard output", error);
     }
 }
 
-fn version() {
-    print(b"aktinoph 0.1.0\n");
+fn version(rt: HostRuntime) {
+    print(rt, b"aktinoph 0.1.0\n");
 }
 
-fn fit() {
+fn fit(rt: HostRuntime) {
     let mut object = [0u8; ROOM];
-    let a = read(2, &mut object);
+    let a = read(rt, 2, &mut object);
     let n = a.len;
     if a.is_read {
-        fit_object(&object[..n]);
+        fit_object(rt, &object[..n]);
     }
 }
 
-fn fit_object(object: &[u8]) {
+fn fit_object(rt: HostRuntime, object: &[u8]) {
     let mut order = [0u8; ROOM];
-    let a = read(3, &mut order);
+    let a = read(rt, 3, &mut order);
     let n = a.len;
     if a.is_read {
-        over_files(true, object, &order[..n], 4, 5);
+        over_files(rt, true, object, &order[..n], 4, 5);
     }
 }
 
-fn take_back() {
-    over_files(false, b"", b"", 2, 3);
+fn take_back(rt: HostRuntime) {
+    over_files(rt, false, b"", b"", 2, 3);
 }
 
 // Makes a call over the files of image and ledger, which the arguments `image_at` and `ledger_at` name.
-fn over_files(is_fit: bool, object: &[u8], order: &[u8], image_at: usize, ledger_at: usize) {
+fn over_files(
+    rt: HostRuntime,
+    is_fit: bool,
+    object: &[u8],
+    order: &[u8],
+    image_at: usize,
+    ledger_at: usize,
+) {
     let mut image = [0u8; ROOM];
-    let a = read(image_at, &mut image);
+    let a = read(rt, image_at, &mut image);
     let n = a.len;
     if a.is_read {
-        over_image(is_fit, object, order, a, &mut image[..n], ledger_at);
+        over_image(rt, is_fit, object, order, a, &mut image[..n], ledger_at);
     }
 }
 
 fn over_image(
+    rt: HostRuntime,
     is_fit: bool,
     object: &[u8],
     order: &[u8],
@@ -80,7 +111,7 @@ fn over_image(
     ledger_at: usize,
 ) {
     let mut ledger = [0u8; ROOM];
-    let a = read(ledger_at, &mut ledger);
+    let a = read(rt, ledger_at, &mut ledger);
     let n = a.len;
     if !a.is_read {
         return;
@@ -93,20 +124,21 @@ fn over_image(
             image_file.at,
             ledger_at,
         );
-        program_files::say_long(long);
-        print(b"too long\n");
+        program_files::say_long(rt, long);
+        print(rt, b"too long\n");
         return;
     }
     if is_fit {
-        fit_bytes(object, order, image_file, image, a, &mut ledger[..n]);
+        fit_bytes(rt, object, order, image_file, image, a, &mut ledger[..n]);
     } else {
-        take_back_bytes(image_file, image, a, &mut ledger[..n]);
+        take_back_bytes(rt, image_file, image, a, &mut ledger[..n]);
     }
 }
 
 // The ledger is replaced first. If the program is cut off between the two, the ledger still holds the image's old
 // bytes.
 fn fit_bytes(
+    rt: HostRuntime,
     object: &[u8],
     order: &[u8],
     image_file: File,
@@ -115,28 +147,31 @@ fn fit_bytes(
     ledger: &mut [u8],
 ) {
     let code = fitter::aktinoph_fit(object, order, image, ledger);
-    keep(code, ledger_file, ledger, image_file, image);
+    keep(rt, code, ledger_file, ledger, image_file, image);
 }
 
 // The image is replaced first. If the program is cut off between the two, the fit can be taken back once more.
-fn take_back_bytes(image_file: File, image: &mut [u8], ledger_file: File, ledger: &mut [u8]) {
+fn take_back_bytes(
+    rt: HostRuntime,
+    image_file: File,
+    image: &mut [u8],
+    ledger_file: File,
+    ledger: &mut [u8],
+) {
     let code = fitter::aktinoph_take_back(image, ledger);
-    keep(code, image_file, image, ledger_file, ledger);
+    keep(rt, code, image_file, image, ledger_file, ledger);
 }
 
 // Replaces both files if the call was done, and then prints its answer.
-fn keep(code: u64, first: File, new: &[u8], second: File, other: &[u8]) {
+fn keep(rt: HostRuntime, code: u64, first: File, new: &[u8], second: File, other: &[u8]) {
     if code == 0 {
-        if !replace_both(first, new, second, other) {
+        if !replace_both(rt, first, new, second, other) {
             return;
         }
     }
-    if !print_answer(code) {
+    if !print_answer(rt, code) {
         if code == 0 {
-            io::write_all(
-                libc::STDERR_FILENO,
-                b"the call is done, image and ledger are new\n",
-            );
+            program_files::tell(rt, b"the call is done, image and ledger are new\n");
         }
     }
 }
@@ -168,16 +203,19 @@ fn first_long(
     }
 }
 
-fn print_answer(code: u64) -> bool {
+fn print_answer(rt: HostRuntime, code: u64) -> bool {
     let mut line = [0u8; LINE];
     let n = program_text::line_of(code, &mut line);
-    print(&line[..n])
+    print(rt, &line[..n])
 }
 
-fn print(line: &[u8]) -> bool {
-    if io::write_all(libc::STDOUT_FILENO, line) {
-        return true;
+fn print(rt: HostRuntime, line: &[u8]) -> bool {
+    let mut stdout = rt.stdout();
+    match stdout.write_all(line) {
+        Ok(()) => true,
+        Err(error) => {
+            fail(rt, b"standard output", error);
+            false
+        }
     }
-    os::fail(b"standard output");
-    false
 }

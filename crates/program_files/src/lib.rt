@@ -1,12 +1,20 @@
 // Files, each given by the position of its name among the arguments. They are looked at, and read whole.
+//
+// The bytes of a name are kept as they are given, for the messages and for the names of new files. The files themselves
+// are reached by text, which is all that `std` takes: a name that is not UTF-8 is refused as the system refuses a
+// malformed one.
 #![tactic(auto)]
 
-ghost use Rattle.std.specs.Prelude.{◌≡◌, ◌≤◌, length};
+ghost use Rattle.std.specs.Prelude.{◌≡◌};
+ghost use Rattle.std.specs.Io.{ReadsAtMost};
 ghost use Rattle.io.specs.Counts.{IsPrefixLen};
-ghost use Rattle.libc.specs.Io.{Ended};
 
 use program_modes::{PLAIN, Seen};
-use program_text::append;
+use std::env::FillError;
+use std::fmt::InlineText;
+use std::io::{Read, Write};
+use std::rt::Env;
+use std::{fs, io};
 
 // "files of at most 65,536 bytes"
 pub const MAX_FILE: usize = 65536;
@@ -16,6 +24,13 @@ pub const ROOM: usize = 65537;
 
 // Room for a path, without the 0 that ends it.
 const PATH: usize = 4095;
+
+// The numbers of the system's errors.
+const EINVAL: i32 = 22;
+
+const ENAMETOOLONG: i32 = 36;
+
+const EILSEQ: i32 = 84;
 
 // A file as it was read: the number of its argument, whether it could be read, how many bytes of it were read, at most one
 // more than the limit, and what was seen of it before.
@@ -27,31 +42,38 @@ pub struct File {
     pub seen: Seen,
 }
 
-// Whether bytes could be read, and how many.
-#[derive(Clone, Copy)]
-struct Contents {
-    is_read: bool,
-    len: usize,
+// Puts argument i at the start of `given`, and returns its length. Of one that is longer than `given`, which is an error,
+// the first bytes are there.
+pub fn argument(rt: HostRuntime, i: usize, given: &mut [u8]) -> io::Result<usize>
+    ensures { ReadsAtMost result given.new }
+{
+    match rt.arg(i, given) {
+        Ok(n) => Ok(n),
+        Err(FillError::TooLong) => Err(io::Error::from_raw_os_error(ENAMETOOLONG)),
+        Err(FillError::NotPresent) => Err(io::Error::from_raw_os_error(EINVAL)),
+    }
 }
 
 // Reads the file that argument i names, or says why it cannot.
-pub fn read(i: usize, buf: &mut [u8]) -> File
+pub fn read(rt: HostRuntime, i: usize, buf: &mut [u8]) -> File
     ensures { IsPrefixLen result.len buf.new }
 {
     let mut path = [0u8; PATH];
-    let n = os::arg(i, &mut path);
-    if os::errno() != 0 {
-        os::fail(&path);
-        return unread_file(i);
+    match argument(rt, i, &mut path) {
+        Ok(n) => read_path(rt, i, &path[..n], buf),
+        Err(error) => {
+            fail(rt, &path, error);
+            unread_file(i)
+        }
     }
-    read_path(i, &path[..n], buf)
 }
 
 // Says that the file that argument i names is longer than the program takes.
-pub fn say_long(i: usize) {
+pub fn say_long(rt: HostRuntime, i: usize) {
     let mut path = [0u8; PATH];
-    let n = os::arg(i, &mut path);
+    let n = argument(rt, i, &mut path).unwrap_or(0);
     say(
+        rt,
         &path[..n],
         b": longer than 65,536 bytes, the most that this program takes\n",
     );
@@ -68,106 +90,115 @@ fn unread_file(i: usize) -> File
     }
 }
 
-fn unread() -> Contents
-    ensures { result.len ≡ 0 }
-{
-    Contents {
-        is_read: false,
-        len: 0,
-    }
-}
-
 // What is no plain file is not opened.
-fn read_path(i: usize, path: &[u8], buf: &mut [u8]) -> File
+fn read_path(rt: HostRuntime, i: usize, path: &[u8], buf: &mut [u8]) -> File
     ensures { IsPrefixLen result.len buf.new }
 {
-    let seen = look(path);
-    if seen.kind == 0 {
-        os::fail(path);
-        return unread_file(i);
+    match ask(rt, path) {
+        Ok(seen) => read_seen(rt, i, path, seen, buf),
+        Err(error) => {
+            fail(rt, path, error);
+            unread_file(i)
+        }
     }
+}
+
+// The rest of `read_path`, once the file was seen.
+fn read_seen(rt: HostRuntime, i: usize, path: &[u8], seen: Seen, buf: &mut [u8]) -> File
+    ensures { IsPrefixLen result.len buf.new }
+{
     if seen.kind != PLAIN {
-        say(path, b": not a plain file\n");
+        say(rt, path, b": not a plain file\n");
         return unread_file(i);
     }
-    let contents = read_plain(path, buf);
-    File {
-        at: i,
-        is_read: contents.is_read,
-        len: contents.len,
-        seen,
+    match read_plain(rt, path, buf) {
+        Ok(len) => File {
+            at: i,
+            is_read: true,
+            len,
+            seen,
+        },
+        Err(error) => {
+            fail(rt, path, error);
+            unread_file(i)
+        }
     }
 }
 
-fn read_plain(path: &[u8], buf: &mut [u8]) -> Contents
-    ensures { IsPrefixLen result.len buf.new }
+fn read_plain(rt: HostRuntime, path: &[u8], buf: &mut [u8]) -> io::Result<usize>
+    ensures { ReadsAtMost result buf.new }
 {
-    let fd = os::open_read(path);
-    if fd < 0 {
-        os::fail(path);
-        return unread();
-    }
-    let contents = read_all(fd, buf);
-    if !contents.is_read {
-        os::fail(path);
-    }
-    libc::close(fd);
-    contents
+    let mut file = open_read(rt, path)?;
+    read_all(&mut file, buf)
 }
 
-// What is seen of the file at a path. Linux takes paths of at most 4,095 bytes.
-pub fn look(path: &[u8]) -> Seen {
-    if path.len() > PATH {
-        return program_modes::unseen();
-    }
-    let ended = ended(path);
-    program_modes::look(&ended)
+// Opens the file at a path for reading.
+pub fn open_read(rt: HostRuntime, path: &[u8]) -> io::Result<fs::File> {
+    fs::open(&rt, text(path)?)
 }
 
-fn ended(path: &[u8]) -> [u8; 4096]
-    requires { length path.now ≤ 4095 }
-    ensures { Ended result }
-{
-    let mut ended = io::buffer();
-    append(&mut ended, 0, path);
-    ended[4095] = 0;
-    ended
+// The path as text, by which `std` reaches a file.
+pub fn text(path: &[u8]) -> io::Result<&str> {
+    match str::from_utf8(path) {
+        Ok(text) => Ok(text),
+        Err(_) => Err(io::Error::from_raw_os_error(EILSEQ)),
+    }
+}
+
+// What is seen of the file at a path, or why nothing is. Linux takes paths of at most 4,095 bytes.
+fn ask(rt: HostRuntime, path: &[u8]) -> io::Result<Seen> {
+    program_modes::ask(rt, text(path)?)
+}
+
+// What is seen of the file at a path.
+pub fn look(rt: HostRuntime, path: &[u8]) -> Seen {
+    match text(path) {
+        Ok(path) => program_modes::look(rt, path),
+        Err(_) => program_modes::unseen(),
+    }
 }
 
 // Reads until the file ends or buf is full. So an endless file counts as too long, and the program does not hang.
-fn read_all(fd: i32, buf: &mut [u8]) -> Contents
-    ensures { IsPrefixLen result.len buf.new }
+fn read_all(file: &mut fs::File, buf: &mut [u8]) -> io::Result<usize>
+    ensures { ReadsAtMost result buf.new }
 {
     let mut done: usize = 0;
     while done < buf.len() {
-        let more = read_some(fd, &mut buf[done..]);
-        if !more.is_read {
-            return unread();
-        }
-        if more.len == 0 {
+        let more = file.read(&mut buf[done..])?;
+        if more == 0 {
             break;
         }
-        done += more.len;
+        done += more;
     }
-    Contents {
-        is_read: true,
-        len: done,
-    }
-}
-
-fn read_some(fd: i32, buf: &mut [u8]) -> Contents
-    ensures { IsPrefixLen result.len buf.new }
-{
-    let got = libc::read(fd, buf);
-    let n = io::count(got, buf);
-    Contents {
-        is_read: got >= 0,
-        len: n,
-    }
+    Ok(done)
 }
 
 // Says something of a file on standard error.
-pub fn say(name: &[u8], what: &[u8]) {
-    io::write_all(libc::STDERR_FILENO, name);
-    io::write_all(libc::STDERR_FILENO, what);
+pub fn say(rt: HostRuntime, name: &[u8], what: &[u8]) {
+    tell(rt, name);
+    tell(rt, what);
+}
+
+// Writes bytes to standard error. Where that fails, there is nobody left to tell.
+pub fn tell(rt: HostRuntime, bytes: &[u8]) {
+    let mut stderr = rt.stderr();
+    let _told = stderr.write_all(bytes);
+}
+
+// Says on standard error what failed, by a name, a colon and the system's text for the error.
+pub fn fail(rt: HostRuntime, name: &[u8], error: io::Error) {
+    let message: InlineText<256> = InlineText::of(error);
+    let cause = cause(message.as_str());
+    tell(rt, name);
+    tell(rt, b": ");
+    tell(rt, cause.as_bytes());
+    tell(rt, b"\n");
+}
+
+// The message of an error without its number, which `std` puts behind the system's text.
+fn cause(message: &str) -> &str {
+    match message.split_once(" (os error ") {
+        Some((cause, _)) => cause,
+        None => message,
+    }
 }

@@ -1,10 +1,18 @@
 // What a file is: its kind, its permission bits, its owner and its group, and what tells it from every other file.
 #![tactic(auto)]
 
-ghost use Rattle.std.specs.Prelude.{◌≡◌, ◌&&◌, eqb, ◌<◌};
-ghost use Rattle.libc.specs.Io.{Ended};
+ghost use Rattle.std.specs.Prelude.{◌≡◌, ◌&&◌, eqb, ◌<◌, IfOk};
 
-use libc::types::{stat, timespec};
+use std::fs::Metadata;
+use std::os::unix::fs::MetadataExt;
+use std::{fs, io};
+
+// A time as the system keeps it: seconds since 1970, and nanoseconds in that second.
+#[derive(Clone, Copy)]
+pub struct Time {
+    pub seconds: i64,
+    pub nanoseconds: i64,
+}
 
 // What was seen of a file. The kind is 0 if nothing could be seen, and PLAIN for a plain file; the permission bits are
 // those of 0o7777. Device, number, size and the two times are of that file alone, and change when it is written.
@@ -16,60 +24,28 @@ pub struct Seen {
     pub group: u32,
     pub device: u64,
     pub number: u64,
-    pub size: i64,
-    pub modified: timespec,
-    pub changed: timespec,
+    pub size: u64,
+    pub modified: Time,
+    pub changed: Time,
 }
 
 // S_IFREG, which marks a plain file, in the bits above the permission bits.
 pub const PLAIN: u32 = 8;
 
-// What stat answered, and what it left.
-#[derive(Clone, Copy)]
-struct Asked {
-    status: i32,
-    left: stat,
-}
-
-fn never() -> timespec {
-    timespec {
-        tv_sec: 0,
-        tv_nsec: 0,
+fn never() -> Time {
+    Time {
+        seconds: 0,
+        nanoseconds: 0,
     }
 }
 
-fn blank() -> stat {
-    let never = never();
-    let none = [0i64; 3];
-    stat {
-        st_dev: 0,
-        st_ino: 0,
-        st_nlink: 0,
-        st_mode: 0,
-        st_uid: 0,
-        st_gid: 0,
-        __pad: 0,
-        st_rdev: 0,
-        st_size: 0,
-        st_blksize: 0,
-        st_blocks: 0,
-        st_atim: never,
-        st_mtim: never,
-        st_ctim: never,
-        __unused: none,
-    }
-}
-
-// The only function that lends a struct. The borrow checker does not cover that, so the proof is written by hand; it
-// follows this text.
-fn ask(path: &[u8; 4096], mut st: stat) -> Asked
-    requires { Ended path.now }
+// Looks at the file at a path, or says why nothing can be seen of it. It is not opened: the open of a pipe waits for its
+// other end, and that of a device may do anything.
+pub fn ask(rt: HostRuntime, path: &str) -> io::Result<Seen>
+    ensures { IfOk result (λ seen. seen.bits < 4096) }
 {
-    let status = libc::stat(path, &mut st);
-    Asked {
-        status: status,
-        left: st,
-    }
+    let metadata = fs::metadata(&rt, path)?;
+    Ok(of_metadata(&metadata))
 }
 
 // Of a file that is not there, nothing is seen.
@@ -90,34 +66,37 @@ pub fn unseen() -> Seen
     }
 }
 
-// Looks at the file at a path. It is not opened: the open of a pipe waits for its other end, and that of a device may do
-// anything.
-pub fn look(path: &[u8; 4096]) -> Seen
-    requires { Ended path.now }
+// The same as `ask`, where the reason does not matter.
+pub fn look(rt: HostRuntime, path: &str) -> Seen
     ensures { result.bits < 4096 }
 {
-    let a = ask(path, blank());
-    if a.status != 0 {
-        return unseen();
+    match ask(rt, path) {
+        Ok(seen) => seen,
+        Err(_) => unseen(),
     }
-    of_stat(a.left)
 }
 
-fn of_stat(st: stat) -> Seen
+fn of_metadata(metadata: &Metadata) -> Seen
     ensures { result.bits < 4096 }
 {
-    let modified = st.st_mtim;
-    let changed = st.st_ctim;
+    let modified = Time {
+        seconds: metadata.mtime(),
+        nanoseconds: metadata.mtime_nsec(),
+    };
+    let changed = Time {
+        seconds: metadata.ctime(),
+        nanoseconds: metadata.ctime_nsec(),
+    };
     Seen {
-        kind: st.st_mode / 0o10000,
-        bits: st.st_mode % 0o10000,
-        owner: st.st_uid,
-        group: st.st_gid,
-        device: st.st_dev,
-        number: st.st_ino,
-        size: st.st_size,
-        modified: modified,
-        changed: changed,
+        kind: metadata.mode() / 0o10000,
+        bits: metadata.mode() % 0o10000,
+        owner: metadata.uid(),
+        group: metadata.gid(),
+        device: metadata.dev(),
+        number: metadata.ino(),
+        size: metadata.size(),
+        modified,
+        changed,
     }
 }
 
@@ -137,6 +116,6 @@ fn is_one(a: Seen, b: Seen) -> bool
     (a.kind == PLAIN) & (b.kind == PLAIN) & (a.device == b.device) & (a.number == b.number)
 }
 
-fn same_time(a: timespec, b: timespec) -> bool {
-    (a.tv_sec == b.tv_sec) & (a.tv_nsec == b.tv_nsec)
+fn same_time(a: Time, b: Time) -> bool {
+    (a.seconds == b.seconds) & (a.nanoseconds == b.nanoseconds)
 }

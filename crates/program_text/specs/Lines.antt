@@ -12,7 +12,7 @@ decimal_in (suc most) n = cond (ltb n 10) (hex_digit_ascii n ∷ []) (decimal_in
 unfoldable pub decimal : ℕ → List ℕ
 decimal = decimal_in 20
 
--- "number and place in decimal, a space between, then a line end"; document 02, Ticket 9, of the reason: "the program writes it third"
+-- "number and place in decimal, a space between, then a line end". The reason is written third
 unfoldable pub line : Answer → List ℕ
 line a = decimal a.number ++ 32 ∷ [] ++ decimal a.place ++ 32 ∷ [] ++ decimal a.reason ++ 10 ∷ []
 
