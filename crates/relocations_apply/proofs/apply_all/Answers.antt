@@ -33,7 +33,7 @@ pub store_one-requires : goal.store_one-requires
 store_one-requires c =
     let f = c.requires in
     let now = c.loop-j in (
-      subst (Storable c.args.object.now c.args.site now.j (get_or c.args.sizes.now (c.args.base + now.j) 0)) (sym now.inv.1) (f.4 now.j (there (goal.at.store_one-requires c).In-loop-j)),
+      subst (Storable c.args.object.now c.args.site now.j (get_or c.args.sizes.now (c.args.base + now.j) 0)) (sym now.invariant.1) (f.4 now.j (there (goal.at.store_one-requires c).In-loop-j)),
       omega (arith, there (goal.at.store_one-requires c).In-loop-j, f.1),
       omega (arith, there (goal.at.store_one-requires c).In-loop-j, f.2),
       f.3,
@@ -45,8 +45,8 @@ loop-j-preserved c =
     let a = c.args in
     let now = c.loop-j in (
       omega (arith, c.loop-j-test.true),
-      ap length c.store_one.ensures ∙ length-sets now.part (offset a.object.now a.site now.j) (bytes (get_or a.sizes.now (a.base + now.j) 0) (get_or a.words.now (a.base + now.j) 0)) ∙ now.inv.1,
-      λ o l w. rw add-one (stored_next a.object.now o l a.site a.words.now a.sizes.now _ _ a.base now.j w (there (goal.at.loop-j-preserved c).In-loop-j) (now.inv.2 o l w) c.store_one.ensures),
+      ap length c.store_one.ensures ∙ length-sets now.part (offset a.object.now a.site now.j) (bytes (get_or a.sizes.now (a.base + now.j) 0) (get_or a.words.now (a.base + now.j) 0)) ∙ now.invariant.1,
+      λ o l w. rw add-one (stored_next a.object.now o l a.site a.words.now a.sizes.now _ _ a.base now.j w (there (goal.at.loop-j-preserved c).In-loop-j) (now.invariant.2 o l w) c.store_one.ensures),
     )
 
 pub returns : goal.returns
