@@ -25,12 +25,10 @@ fn main(rt: HostRuntime) -> io::Result<()> {
 // The lines of one kind, each with two numbers of a fixed sequence.
 fn run(out: &mut impl Write, kind: u8, count: u64) -> io::Result<()> {
     let mut x: u64 = 0x9e37_79b9_7f4a_7c15;
-    let mut i: u64 = 0;
-    while i < count {
+    for i in 0..count {
         let a = next(x);
         x = next(a);
         line(out, kind, i, a, x)?;
-        i += 1;
     }
     Ok(())
 }

@@ -139,10 +139,8 @@ fn addresses(out: &mut impl Write, array: Addresses, n: usize) -> io::Result<()>
     if MAX_SECTIONS < n {
         return Ok(());
     }
-    let mut i: usize = 0;
-    while i < n {
+    for i in 0..n {
         then(out, Address(array[i]))?;
-        i += 1;
     }
     Ok(())
 }
@@ -156,10 +154,8 @@ fn values(out: &mut impl Write, numbers: &[u64], states: &[u8], n: usize) -> io:
         return Ok(());
     }
     let end = n as u32 + 3;
-    let mut k: u32 = 0;
-    while k < end {
+    for k in 0..end {
         print(out, placing_symbols::value_at(numbers, states, k))?;
-        k += 1;
     }
     Ok(())
 }

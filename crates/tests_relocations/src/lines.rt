@@ -4,15 +4,8 @@ use std::io::Write;
 
 pub fn section(out: &mut impl Write, t: usize, bytes: &[u8]) -> io::Result<()> {
     write!(out, " {t} ")?;
-    let n = bytes.len();
-    let mut i: usize = 0;
-    while i < n {
-        byte(out, bytes[i])?;
-        i += 1;
+    for &byte in bytes {
+        write!(out, "{byte:02x}")?;
     }
     Ok(())
-}
-
-fn byte(out: &mut impl Write, b: u8) -> io::Result<()> {
-    write!(out, "{b:02x}")
 }

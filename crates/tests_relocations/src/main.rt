@@ -30,11 +30,9 @@ fn run(
     space: &mut [u8],
     count: u32,
 ) -> io::Result<()> {
-    let mut i: u32 = 0;
-    while i < count {
+    for _ in 0..count {
         let command = tests_harness::next(input)?;
         step(input, out, space, command)?;
-        i += 1;
     }
     Ok(())
 }

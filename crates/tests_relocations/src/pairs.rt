@@ -117,10 +117,8 @@ fn sections(
     requires { Layable object.now order.now array words.now sizes.now × (length room.old ≡ max_object) }
 {
     let n = elf_read::section_count(object);
-    let mut t: usize = 0;
-    while t < n {
+    for t in 0..n {
         section(out, object, order, array, words, sizes, t, room)?;
-        t += 1;
     }
     Ok(())
 }

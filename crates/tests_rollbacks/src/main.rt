@@ -32,10 +32,8 @@ fn run(
     journals: &mut [u8],
     count: u32,
 ) -> io::Result<()> {
-    let mut i: u32 = 0;
-    while i < count {
+    for _ in 0..count {
         case(input, out, images, journals)?;
-        i += 1;
     }
     Ok(())
 }
@@ -96,10 +94,8 @@ fn answer(
 
 // The first bytes from standard input, the others by their places.
 fn fill(input: &mut impl Read, s: &mut [u8], given: usize) -> io::Result<()> {
-    let mut i: usize = 0;
-    while i < s.len() {
+    for i in 0..s.len() {
         s[i] = (i % 251) as u8;
-        i += 1;
     }
     if given <= s.len() {
         tests_harness::read_full(input, &mut s[..given])?;
