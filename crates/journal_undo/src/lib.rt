@@ -66,8 +66,8 @@ pub fn save(image: &[u8], journal: &mut [u8], span: Span)
 // over the released bytes.
 fn undo(image: &mut [u8], journal: &mut [u8])
     requires { Undoable image.old journal.old }
-    ensures { record { image = image.exit.now; journal = journal.new }
-        ≡ rolled_back (record { image = image.entry.now; journal = journal.old }) }
+    ensures { record { image = image.new; journal = journal.new }
+        ≡ rolled_back (record { image = image.old; journal = journal.old }) }
 {
     let i = numbers_bytes::read32(journal, COUNT_AT) - 1;
     let span = journal_format::read_entry(journal, i as usize);
@@ -87,8 +87,8 @@ fn undo(image: &mut [u8], journal: &mut [u8])
 
 // Undoes the newest standing install (document 01: a taking-back).
 pub fn rollback(image: &mut [u8], journal: &mut [u8]) -> RolledBack
-    ensures { record { answer = answer_of result; after = record { image = image.exit.now; journal = journal.new } }
-        ≡ «rolled-back» (record { image = image.entry.now; journal = journal.old }) }
+    ensures { record { answer = answer_of result; after = record { image = image.new; journal = journal.new } }
+        ≡ «rolled-back» (record { image = image.old; journal = journal.old }) }
 {
     if !journal_format::is_sound(journal, image.len()) {
         return RolledBack::JournalUnsound;

@@ -1,5 +1,5 @@
 -- The span of a plan. What is laid lies in it, so writing its old bytes back undoes the laying.
-use mathlib.Core.Path.{◌≡◌, refl, ap, ◌∙◌}
+use mathlib.Core.Path.{◌≡◌, refl, sym, ap, subst, ◌∙◌}
 use Prim.Native.Nat.{ℕ, zero, suc, ◌+◌, ◌-◌, ◌≤◌, ◌<◌, min, max}
 use native.Mathlib.Omega.{arith}
 use mathlib.Core.List.{List, [], ◌∷◌}
@@ -121,7 +121,7 @@ lowest_laid top (piece at (b ∷ bs) ∷ ps) some h = go (leb at (lowest top ps)
     go false gt (suc e) is rest =
         let gt' : lowest top ps < at = leb-false at (lowest top ps) gt in
         let here : min at (lowest top ps) ≡ lowest top ps = omega arith in
-        inr (rw here (rest (omega arith) (omega arith)))
+        inr (subst (λ k. Laid k ps) (sym here) (rest (omega arith) (omega arith)))
 
 end_laid : (ps : List Piece) → 0 < end ps → Laid (end ps - 1) ps
 unfolding end
@@ -135,7 +135,7 @@ end_laid (piece at (b ∷ bs) ∷ ps) some = go (leb (end ps) (at + length (b �
     go false gt rest =
         let gt' : at + length (b ∷ bs) < end ps = leb-false _ _ gt in
         let here : max (at + length (b ∷ bs)) (end ps) - 1 ≡ end ps - 1 = omega arith in
-        inr (rw here (rest (omega arith)))
+        inr (subst (λ k. Laid k ps) (sym here) (rest (omega arith)))
 
 -- "from the lowest to the end of the highest laid byte; with none laid it is start 0, length 0"
 pub record Spans (ps : List Piece) (s : Span) : Type 0 where

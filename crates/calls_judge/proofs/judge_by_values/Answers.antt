@@ -1,0 +1,75 @@
+-- `calls_judge::judge_by_values` meets its contract.
+use mathlib.Core.Path.{◌≡◌, refl, sym, ap, ◌∙◌, subst}
+use mathlib.Core.List.{List}
+use Prim.Native.Nat.{ℕ}
+use native.Mathlib.Omega.{arith}
+use lib.ListN.{length}
+use lib.Dec.{eqb}
+use Rattle.order_lookup.specs.Addresses.{addresses_for, base_for}
+use Rattle.elf_check.specs.Requires.{SoundObject}
+use Rattle.elf_check.proofs.Laws.Objects.{sound_object}
+use Rattle.plan_pieces.specs.Plans.{refused}
+use Rattle.relocations_rela.specs.Requires.{Placed}
+use Rattle.relocations_check_all.specs.Sites.{Roomy}
+use Rattle.relocations_rules.specs.Search.{relocation_check}
+use Rattle.relocations_rules.proofs.Laws.Sites.{placed}
+use Rattle.calls_judgement.proofs.Laws.Judgement.{broken_is, gives_9_to_14, gives_plan, some_number}
+use Rattle.calls_judge.proofs.Laws.Answers.{refused_well}
+use Rattle.calls_judge.proofs.judge_by_values.Goals as goal
+use Rattle.calls_judge.proofs.judge_by_values.Goals.{After-check_relocations, After-symbol_values-placed, Start}
+
+abbrev S : Start → List ℕ
+S c = c.args.object.now
+
+abbrev O : Start → List ℕ
+O c = c.args.order.now
+
+-- the addresses by the order
+abbrev L : Start → List ℕ
+L c = addresses_for (S c) (O c)
+
+is_sound : (c : Start) → SoundObject (S c)
+is_sound c = sound_object (S c) c.requires.0.named.readable.header c.requires.0.named.readable.sections
+
+placed_at : (c : Start) → Placed (S c) (L c)
+placed_at c = placed (S c) (L c) (base_for (S c) (O c)) c.args.len c.requires.0.placing
+
+placed_is : (c : After-symbol_values-placed) → c.symbol_values-placed.result ≡ L (goal.at.After-symbol_values-placed c).Start
+placed_is c = c.symbol_values-placed.ensures.0 ∙ c.requires.1
+
+pub symbol_values-placed-requires : goal.symbol_values-placed-requires
+symbol_values-placed-requires c =
+    (is_sound (goal.at.symbol_values-placed-requires c).Start, c.requires.0.named.readable.reading_is, c.requires.2, c.requires.3)
+
+pub check_relocations-requires : goal.check_relocations-requires
+check_relocations-requires c =
+    let l = c.requires.4 in
+    (is_sound (goal.at.check_relocations-requires c).Start, c.requires.2, subst (Placed (S (goal.at.check_relocations-requires c).Start)) (sym (placed_is (goal.at.check_relocations-requires c).After-symbol_values-placed)) (placed_at (goal.at.check_relocations-requires c).Start), rw c.symbol_values-placed.ensures.0 c.symbol_values-placed.ensures.1, l.highs_room, l.words_room, l.sizes_room)
+
+found : (c : After-check_relocations) → relocation_check (S (goal.at.After-check_relocations c).Start) (O (goal.at.After-check_relocations c).Start) (L (goal.at.After-check_relocations c).Start) ≡ c.check_relocations.result
+found c =
+    ap (relocation_check (S (goal.at.After-check_relocations c).Start) (O (goal.at.After-check_relocations c).Start)) (sym (placed_is (goal.at.After-check_relocations c).After-symbol_values-placed)) ∙ sym c.check_relocations.ensures.0
+
+-- a list of the same length has the same room
+kept : {object l m : List ℕ} → Roomy object l → length m ≡ length l → Roomy object m
+kept r e = record { room = omega (arith, r.room, e); short = omega (arith, r.short, e) }
+
+pub refusal-requires : goal.refusal-requires
+refusal-requires c =
+    broken_is (S (goal.at.refusal-requires c).Start) (O (goal.at.refusal-requires c).Start) (L (goal.at.refusal-requires c).Start) _ _ (found (goal.at.refusal-requires c).After-check_relocations ∙ c.in-Broken.is)
+
+pub returns-in-Passed : goal.returns-in-Passed
+returns-in-Passed c =
+    let e = c.check_relocations.ensures in
+    record {
+      verdict_is = sym (gives_plan (S (goal.at.returns-in-Passed c).Start) (O (goal.at.returns-in-Passed c).Start) c.args.len c.args.counts (record { placeable = c.requires.0; relocations = found (goal.at.returns-in-Passed c).After-check_relocations ∙ c.in-Passed.is }));
+      ready = λ _. record { addresses_are = placed_is (goal.at.returns-in-Passed c).After-symbol_values-placed; worked = record { worded = e.1 c.in-Passed.is; words_room = kept c.requires.4.words_room e.3; sizes_room = kept c.requires.4.sizes_room e.4 } };
+    }
+
+pub returns-in-Broken : goal.returns-in-Broken
+returns-in-Broken c =
+    let told = c.finding-1.given.0 in
+    let is = found (goal.at.returns-in-Broken c).After-check_relocations ∙ c.in-Broken.is in
+    let broken = broken_is (S (goal.at.returns-in-Broken c).Start) (O (goal.at.returns-in-Broken c).Start) (L (goal.at.returns-in-Broken c).Start) told.0 told.1.0 is in
+    refused_well (S (goal.at.returns-in-Broken c).Start) (O (goal.at.returns-in-Broken c).Start) c.args.len _ _ _ (ap (λ a. eqb a.number 0) c.refusal.ensures ∙ some_number told.0 broken)
+    (gives_9_to_14 (S (goal.at.returns-in-Broken c).Start) (O (goal.at.returns-in-Broken c).Start) c.args.len c.args.counts _ _ c.requires.0 is ∙ ap refused (sym c.refusal.ensures))

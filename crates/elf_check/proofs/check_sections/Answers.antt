@@ -1,0 +1,83 @@
+-- `elf_check::check_sections` meets its contract.
+use mathlib.Core.Path.{◌≡◌, refl, sym, ap, ◌∙◌}
+use Prim.Native.Nat.{ℕ, ◌-◌, ◌≤◌, ◌<◌}
+use mathlib.Core.Bool.{true, false, not, ◌&&◌}
+use native.Mathlib.Omega.{arith}
+use lib.Dec.{leb}
+use borrow.Author.Count.{below_more}
+use borrow.Author.Tests.{not-true, not-false}
+use Rattle.numbers_definitions.proofs.Laws.Lists.{zeros_length, zeros_at}
+use Rattle.elf_read.specs.Headers.{max_sections}
+use Rattle.elf_read.specs.Sections.{relocations_below}
+use Rattle.elf_read.specs.Requires.{TableInside}
+use Rattle.elf_header.specs.Headers.{table_allowed}
+use Rattle.elf_check.specs.Rules.{max_relocations, section_well}
+use Rattle.elf_header.proofs.Laws.Headers.{table_inside}
+use Rattle.elf_check.proofs.Laws.Tables.{section_well_lem, check_table_broken, check_broken, check_sound}
+use Rattle.elf_check.proofs.check_sections.Goals as goal
+use Rattle.elf_check.proofs.check_sections.Goals.{After-is_relocation_well, Else-not-check_table}
+
+allowed : (c : Else-not-check_table) → table_allowed c.args.object.now ≡ true
+allowed c = sym c.check_table.ensures ∙ c.if-not-check_table.false
+
+inside : (c : Else-not-check_table) → TableInside c.args.object.now
+inside c = table_inside _ c.requires (allowed c)
+
+well_is : (c : After-is_relocation_well)
+    → section_well c.args.object.now c.loop-i.i
+    ≡ (c.is_plain_well.result && c.is_symbol_table_well.result && c.is_relocation_well.result)
+well_is c =
+    let s = c.args.object.now in
+    section_well_lem s c.loop-i.i ∙ rw (← c.is_plain_well.ensures, ← c.is_symbol_table_well.ensures, ← c.is_relocation_well.ensures) refl
+
+pub returns-then-not-check_table : goal.returns-then-not-check_table
+returns-then-not-check_table c = sym (check_table_broken _ (sym c.check_table.ensures ∙ c.if-not-check_table.true))
+
+pub symbol_table-table-requires : goal.symbol_table-table-requires
+symbol_table-table-requires c = inside (goal.at.symbol_table-table-requires c).Else-not-check_table
+
+pub relocations_within-few-requires : goal.relocations_within-few-requires
+relocations_within-few-requires c = (inside (goal.at.relocations_within-few-requires c).Else-not-check_table, omega (arith, c.section_count-n.ensures))
+
+pub targets_differ-differ-requires : goal.targets_differ-differ-requires
+targets_differ-differ-requires c =
+    let table = inside (goal.at.targets_differ-differ-requires c).Else-not-check_table in
+    let long = zeros_length max_sections in
+    (table, omega (arith, table.few, long), zeros_at max_sections)
+
+pub loop-i-init : goal.loop-i-init
+loop-i-init c = (omega arith, λ j h. absurd (omega arith))
+
+pub is_plain_well-requires : goal.is_plain_well-requires
+is_plain_well-requires c =
+    (inside (goal.at.is_plain_well-requires c).Else-not-check_table, omega (arith, c.section_count-n.ensures))
+
+pub is_symbol_table_well-requires : goal.is_symbol_table_well-requires
+is_symbol_table_well-requires c =
+    (inside (goal.at.is_symbol_table_well-requires c).Else-not-check_table, omega (arith, c.section_count-n.ensures), c.symbol_table-table.ensures)
+
+pub is_relocation_well-requires : goal.is_relocation_well-requires
+is_relocation_well-requires c =
+    (
+      inside (goal.at.is_relocation_well-requires c).Else-not-check_table,
+      omega (arith, c.section_count-n.ensures),
+      c.symbol_table-table.ensures,
+      c.relocations_within-few.ensures ∙ ap (λ m. leb (relocations_below c.args.object.now m) max_relocations) c.section_count-n.ensures,
+      c.targets_differ-differ.ensures,
+    )
+
+pub overflow_cast-result : goal.overflow_cast-result
+overflow_cast-result c =
+    omega (arith, (inside (goal.at.overflow_cast-result c).Else-not-check_table).few, c.section_count-n.ensures)
+
+pub returns-then-not-is_plain_well-is_symbol_table_well : goal.returns-then-not-is_plain_well-is_symbol_table_well
+returns-then-not-is_plain_well-is_symbol_table_well c =
+    sym (check_broken _ c.loop-i.i (allowed (goal.at.returns-then-not-is_plain_well-is_symbol_table_well c).Else-not-check_table) (omega (arith, c.section_count-n.ensures)) c.loop-i.invariant.1 (well_is (goal.at.returns-then-not-is_plain_well-is_symbol_table_well c).After-is_relocation_well ∙ c.if-not-is_plain_well-is_symbol_table_well.true))
+
+pub loop-i-preserved : goal.loop-i-preserved
+loop-i-preserved c =
+    (omega arith, below_more _ _ c.loop-i.invariant.1 (ap not (well_is (goal.at.loop-i-preserved c).After-is_relocation_well ∙ c.if-not-is_plain_well-is_symbol_table_well.false)))
+
+pub returns : goal.returns
+returns c =
+    sym (check_sound _ (allowed (goal.at.returns c).Else-not-check_table) (λ j h. c.loop-i.invariant.1 j (omega (arith, c.section_count-n.ensures))))

@@ -1,0 +1,43 @@
+-- `elf_check::is_target_new` meets its contract.
+use mathlib.Core.Path.{◌≡◌, sym, ap, ◌∙◌}
+use Prim.Native.Nat.{ℕ, ◌-◌, ◌≤◌, ◌<◌}
+use mathlib.Core.Bool.{Bool, true, not, ◌&&◌}
+use native.Mathlib.Omega.{arith}
+use lib.Dec.{eqb}
+use borrow.Author.Count.{below_more}
+use Rattle.numbers_definitions.specs.First.{everywhere}
+use Rattle.numbers_definitions.proofs.Laws.First.{everywhere_is, everywhere_not}
+use Rattle.elf_read.specs.Sections.{section_at, counting_rela}
+use Rattle.elf_check.specs.Requires.{target_new}
+use Rattle.elf_check.proofs.Laws.Targets.{differ_new}
+use borrow.Author.Rules.{rules}
+use Rattle.elf_check.proofs.is_target_new.Goals as goal
+use Rattle.elf_check.proofs.is_target_new.Goals.{Start}
+
+-- what a RELA relocates is looked at by its number
+by_target : (c : Start) (b : Bool) → let a = c.args in
+    b ≡ everywhere (λ k. not (counting_rela a.object.now k && eqb (section_at a.object.now k).info a.target)) a.i → b ≡ target_new a.object.now a.i
+unfolding target_new
+by_target c b e =
+    let a = c.args in
+    e ∙ ap (λ t. everywhere (λ k. not (counting_rela a.object.now k && eqb (section_at a.object.now k).info t)) a.i) c.requires.3
+
+pub returns-then-differ : goal.returns-then-differ
+returns-then-differ c =
+    let a = c.args in
+    sym (differ_new a.object.now a.i c.requires.1 c.requires.2 (sym c.requires.4 ∙ c.if-differ.true))
+
+pub loop-j-init : goal.loop-j-init
+loop-j-init c = (omega arith, λ k h. absurd (omega arith))
+
+pub returns-then-relocates : goal.returns-then-relocates
+returns-then-relocates c =
+    by_target (goal.at.returns-then-relocates c).Start _ (sym (everywhere_not _ c.args.i c.loop-j.j (omega arith) (ap not (sym c.relocates.ensures ∙ c.if-relocates.true))))
+
+pub loop-j-preserved : goal.loop-j-preserved
+loop-j-preserved c =
+    (search rules, below_more _ _ c.loop-j.invariant.1 (ap not (sym c.relocates.ensures ∙ c.if-relocates.false)))
+
+pub returns : goal.returns
+returns c =
+    by_target (goal.at.returns c).Start _ (sym (everywhere_is _ c.args.i (λ k h. c.loop-j.invariant.1 k (omega arith))))

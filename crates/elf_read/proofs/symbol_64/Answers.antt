@@ -1,0 +1,7 @@
+-- `elf_read::symbol_64` meets its contract.
+use Rattle.elf_read.specs.Entries.{read_symbol}
+use Rattle.elf_read.proofs.symbol_64.Goals as goal
+
+pub returns : goal.returns
+unfolding read_symbol
+returns c = cc

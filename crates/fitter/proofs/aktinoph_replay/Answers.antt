@@ -1,0 +1,32 @@
+-- `fitter::aktinoph_replay` meets its contract.
+use mathlib.Core.Path.{◌≡◌, sym, ◌∙◌}
+use mathlib.Core.Bool.{true}
+use Prim.Native.Nat.{ℕ}
+use native.Mathlib.Omega.{arith}
+use Rattle.journal_history.specs.Calls.{Files}
+use Rattle.calls_replay.specs.Lists.{call_count, is_list}
+use Rattle.calls_replay.proofs.Laws.Replays.{not_run}
+use Rattle.calls_demands.specs.Ours.{our_install, our_rollback}
+use Rattle.fitter.proofs.Laws.Replayed.{malformed_is, listed_is, replay_holds}
+use Rattle.fitter.proofs.aktinoph_replay.Goals as goal
+
+pub replay_list-requires : goal.replay_list-requires
+replay_list-requires c =
+    let s = c.args.calls.now in
+    listed_is (is_list s) (call_count s) _ (sym c.read_list.ensures ∙ c.in-Calls.is)
+
+pub returns-in-Malformed : goal.returns-in-Malformed
+returns-in-Malformed c =
+    let a = c.args in
+    let s = a.calls.now in (
+      not_run our_install our_rollback s a.answers.now (record { image = a.image.now; journal = a.ledger.now })
+          (malformed_is (is_list s) (call_count s) (sym c.read_list.ensures ∙ c.in-Malformed.is)),
+      λ e. absurd (omega (arith, e)),
+    )
+
+pub returns-in-Calls : goal.returns-in-Calls
+returns-in-Calls c =
+    let a = c.args in (
+      c.replay_list.ensures,
+      λ e start. replay_holds a.calls.now a.answers.now (record { image = a.image.now; journal = a.ledger.now }) start _ _ _ c.replay_list.ensures e,
+    )

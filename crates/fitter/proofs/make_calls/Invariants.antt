@@ -1,0 +1,28 @@
+-- `fitter::make_calls` meets its contract.
+use mathlib.Core.Path.{◌≡◌, refl, sym, ap, ◌∙◌}
+use mathlib.Core.Bool.{true}
+use Prim.Native.Nat.{◌+◌, ◌-◌, ◌≤◌, ◌<◌}
+use native.Mathlib.Omega.{arith}
+use lib.ListN.{length, length-set}
+use lib.Seq.{sets, length-sets}
+use Rattle.journal_history.specs.Calls.{Files, run, answers}
+use Rattle.numbers_definitions.specs.First.{tabulate}
+use Rattle.calls_replay.specs.Lists.{call_end, is_call, call_start}
+use Rattle.calls_replay.specs.Replays.{codes}
+use Rattle.calls_replay.specs.Requires.{left_by, codes_of}
+use Rattle.calls_replay.proofs.Laws.Lists.{start_next, list_call}
+use Rattle.calls_replay.proofs.Laws.Replays.{left_made, codes_made}
+use Rattle.calls_demands.specs.Ours.{our_install, our_rollback}
+use Rattle.fitter.proofs.make_calls.Given as goal
+
+abbrev pub invariant-loop-i : goal.invariant-loop-i
+invariant-loop-i l =
+    (l.i ≤ l.n)
+    × (l.at ≡ call_start l.calls l.i)
+    × (record { l.image = l.image; journal = l.ledger } ≡ left_by our_install our_rollback l.calls (record { l.image = l.initial.image; journal = l.initial.ledger }) l.i)
+    × (l.answers ≡ sets l.initial.answers 0 (codes_of our_install our_rollback l.calls (record { l.image = l.initial.image; journal = l.initial.ledger }) l.i))
+    × (length l.image ≡ length l.initial.image)
+    × (length l.ledger ≡ length l.initial.ledger)
+
+abbrev pub decreases-loop-i : goal.decreases-loop-i
+decreases-loop-i l = l.n - l.i

@@ -1,0 +1,14 @@
+-- `journal_undo::clear` meets its contract. The invariant: the first i zeros are stored.
+use mathlib.Core.Path.{◌≡◌, refl}
+use Prim.Native.Nat.{◌-◌, ◌≤◌}
+use native.Mathlib.Omega.{arith}
+use lib.ListN.{length, replicate, length-replicate, length-set}
+use lib.Seq.{sets}
+use Rattle.numbers_definitions.proofs.Laws.Lists.{sets_snoc, replicate_snoc}
+use Rattle.journal_undo.proofs.clear.Given as goal
+
+abbrev pub invariant-loop-i : goal.invariant-loop-i
+invariant-loop-i l = (l.i ≤ l.n) × (length l.dst ≡ length l.initial.dst) × (l.dst ≡ sets l.initial.dst l.at (replicate l.i 0))
+
+abbrev pub decreases-loop-i : goal.decreases-loop-i
+decreases-loop-i l = l.n - l.i

@@ -1,0 +1,15 @@
+-- `numbers_bytes::copy` meets its contract. The invariant: the first i bytes are stored.
+use mathlib.Core.Path.{◌≡◌, refl}
+use Prim.Native.Nat.{◌+◌, ◌-◌, ◌≤◌}
+use native.Mathlib.Omega.{arith}
+use lib.ListN.{length, get_or, length-set}
+use lib.Seq.{sets}
+use Rattle.numbers_definitions.specs.Bytes.{part}
+use Rattle.numbers_definitions.proofs.Laws.Lists.{sets_snoc, part_snoc, length_part}
+use Rattle.numbers_bytes.proofs.copy.Given as goal
+
+abbrev pub invariant-loop-i : goal.invariant-loop-i
+invariant-loop-i l = (l.i ≤ l.n) × (length l.dst ≡ length l.initial.dst) × (l.dst ≡ sets l.initial.dst l.at (part l.src l.from l.i))
+
+abbrev pub decreases-loop-i : goal.decreases-loop-i
+decreases-loop-i l = l.n - l.i

@@ -1,0 +1,25 @@
+-- `numbers_bytes::read_bytes` meets its contract.
+use mathlib.Core.Path.{◌≡◌}
+use native.Mathlib.Omega.{arith}
+use Rattle.numbers_bytes.proofs.Laws.Widths.{last_width}
+use Rattle.numbers_bytes.proofs.read_bytes.Goals as goal
+use Rattle.numbers_bytes.proofs.read_bytes.Goals.{Else-n-eq4}
+
+eight : (c : Else-n-eq4) → c.args.n ≡ 8
+eight c =
+    last_width c.args.n c.requires.1 c.if-n-eq1.false c.if-n-eq2.false c.if-n-eq4.false
+
+pub returns-then-n-eq1 : goal.returns-then-n-eq1
+returns-then-n-eq1 c = rw c.if-n-eq1.true c.read8.ensures
+
+pub returns-then-n-eq2 : goal.returns-then-n-eq2
+returns-then-n-eq2 c = rw c.if-n-eq2.true c.read16.ensures
+
+pub returns-then-n-eq4 : goal.returns-then-n-eq4
+returns-then-n-eq4 c = rw c.if-n-eq4.true c.read32.ensures
+
+pub read64-requires : goal.read64-requires
+read64-requires c = omega (arith, eight (goal.at.read64-requires c).Else-n-eq4)
+
+pub returns : goal.returns
+returns c = rw (eight (goal.at.returns c).Else-n-eq4) c.read64.ensures

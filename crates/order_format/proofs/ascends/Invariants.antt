@@ -1,0 +1,16 @@
+-- `order_format::ascends` meets its contract.
+use mathlib.Core.Path.{◌≡◌, sym, ap}
+use Prim.Native.Nat.{ℕ, suc, ◌-◌, ◌≤◌, ◌<◌}
+use native.Mathlib.Omega.{arith}
+use Rattle.order_format.specs.declared.Entry.{Entry}
+use Rattle.order_format.specs.Orders.{entry_at}
+use Rattle.order_format.proofs.Laws.Ascending.{steps_more, ascending_is, ascending_not}
+use Rattle.order_format.proofs.Laws.Sizes.{entry_inside}
+use borrow.Author.Rules.{rules}
+use Rattle.order_format.proofs.ascends.Given as goal
+
+abbrev pub invariant-loop-i : goal.invariant-loop-i
+invariant-loop-i l = (1 ≤ l.i) × ((j : ℕ) → suc j < l.i → (entry_at l.class l.order l.at j).index < (entry_at l.class l.order l.at (suc j)).index)
+
+abbrev pub decreases-loop-i : goal.decreases-loop-i
+decreases-loop-i l = l.n - l.i

@@ -1,0 +1,109 @@
+-- `placing_symbols::symbol_values` meets its contract.
+use mathlib.Core.Path.{◌≡◌, refl, sym, ap, ◌∙◌}
+use mathlib.Core.Logic.{⊎_elim}
+use Prim.Native.Nat.{◌-◌, ◌≤◌, ◌<◌}
+use native.Mathlib.Omega.{arith}
+use lib.ListN.{length, get_or, length-set, get_or-eq_default}
+use Rattle.elf_read.specs.Sections.{section_at, symbol_table}
+use Rattle.elf_read.specs.Entries.{symbol_at, symbol_count}
+use Rattle.elf_check.specs.Rules.{max_symbols}
+use Rattle.elf_check.proofs.Laws.Bounds.{symbol_inside, symbols_few}
+use Rattle.elf_read.proofs.Laws.Headers.{header_there}
+use Rattle.order_format.specs.declared.Reading.TheVariants.{WellFormed}
+use Rattle.order_format.specs.Orders.{reading}
+use Rattle.order_lookup.specs.Requires.{Reached}
+use Rattle.order_lookup.specs.Values.{external_value}
+use Rattle.placing_symbols.specs.Values.{of_entry, symbol_value}
+use Rattle.placing_symbols.proofs.Laws.Values.{value_read}
+use Rattle.placing_symbols.proofs.Laws.Arrays.{ValuedBelow, below_one, below_next, below_all}
+use borrow.Author.Rules.{rules}
+use Rattle.placing_symbols.proofs.symbol_values.Goals as goal
+use Rattle.placing_symbols.proofs.symbol_values.Goals.{then-section-lt-MAX_SECTIONS, else-section-lt-MAX_SECTIONS, After-class_of-class, In-loop-k, Joined-section-lt-MAX_SECTIONS}
+
+-- the order was read by the class that the code has
+reads : (c : After-class_of-class) → reading c.class_of-class.result c.args.order.now ≡ WellFormed c.args.counts
+reads c = ap (λ k. reading k c.args.order.now) c.class_of-class.ensures ∙ c.requires.1
+
+-- the symbol is one of the table, and both arrays have room for it
+in_table : (c : In-loop-k) → let h = c.loop-k in let s = c.args.object.now in
+    (h.k < symbol_count s) × (h.k < length h.values) × (h.k < length h.states) × (symbol_count s ≤ max_symbols)
+in_table c =
+    let l = c.loop-k.invariant.1.long in
+    let there : c.loop-k.k < symbol_count c.args.object.now = omega (arith, c.requires.2.count) in
+    (there, omega (arith, l.all, l.arrays.same_length), omega (arith, l.all), symbols_few c.args.object.now c.requires.0)
+
+pub take_external-first-requires : goal.take_external-first-requires
+take_external-first-requires c =
+    (reads (goal.at.take_external-first-requires c).After-class_of-class, record { below = λ j h. absurd (omega arith); above = λ j h l. omega arith })
+
+pub take_external-taken-requires : goal.take_external-taken-requires
+take_external-taken-requires c =
+    (reads (goal.at.take_external-taken-requires c).After-class_of-class, c.loop-k.invariant.2)
+
+pub class_of-class-requires : goal.class_of-class-requires
+class_of-class-requires c = header_there c.args.object.now c.requires.0.table.header
+
+pub bounds-states-0 : goal.bounds-states-0
+bounds-states-0 c =
+    omega (arith, c.requires.3.long.some)
+
+pub loop-k-init : goal.loop-k-init
+loop-k-init c =
+    (search rules, below_one _ _ _ _ _ c.requires.3, c.take_external-first.ensures.1, refl, refl)
+
+pub read_symbol-symbol-requires : goal.read_symbol-symbol-requires
+read_symbol-symbol-requires c =
+    rw (c.requires.2.table (omega arith)) (symbol_inside c.args.object.now c.requires.0 c.loop-k.k (in_table (goal.at.read_symbol-symbol-requires c).In-loop-k).0)
+
+-- the address that is given to `entry_value`
+start_is : (c : Joined-section-lt-MAX_SECTIONS) → c.if-section-lt-MAX_SECTIONS.start ≡ get_or c.args.addresses c.read_symbol-symbol.result.section 0
+start_is c =
+    elim c.if-section-lt-MAX_SECTIONS.branch [
+    | then-section-lt-MAX_SECTIONS w ↦ w.start-is
+    | else-section-lt-MAX_SECTIONS w ↦ w.start-is ∙ sym (get_or-eq_default c.args.addresses 0 (omega arith))
+    ]
+
+pub loop-k-preserved : goal.loop-k-preserved
+loop-k-preserved c =
+    let s = c.args.object.now in
+    let k = c.loop-k.k in
+    let symbol : c.read_symbol-symbol.result ≡ symbol_at s (section_at s (symbol_table s)) k =
+    c.read_symbol-symbol.ensures ∙ ap (λ h. symbol_at s h k) (c.requires.2.table (omega arith)) in
+    let is : c.entry_value-value.result ≡ symbol_value s c.args.order.now c.args.addresses k =
+    c.entry_value-value.ensures
+    ∙ ap (λ g. of_entry s g c.if-section-lt-MAX_SECTIONS.start c.read_symbol-symbol.result) (c.take_external-taken.ensures.0 ∙ ap (λ n. external_value n c.args.order.now k) c.class_of-class.ensures)
+    ∙ value_read s c.args.order.now c.args.addresses k c.loop-k.invariant.0 (in_table (goal.at.loop-k-preserved c).In-loop-k).0 _ symbol _ (start_is (goal.at.loop-k-preserved c).Joined-section-lt-MAX_SECTIONS) in (
+      search rules,
+      rw (c.number_of.ensures, c.state_of.ensures)
+          (below_next _ _ _ _ _ _ c.loop-k.invariant.1 (in_table (goal.at.loop-k-preserved c).In-loop-k).2 c.entry_value-value.result is),
+      c.take_external-taken.ensures.1,
+      length-set c.loop-k.values k c.number_of.result ∙ c.loop-k.invariant.3,
+      length-set c.loop-k.states k c.state_of.result ∙ c.loop-k.invariant.4,
+    )
+
+pub shape_of-values : goal.shape_of-values
+shape_of-values c =
+    c.loop-k.invariant.3
+
+pub shape_of-states : goal.shape_of-states
+shape_of-states c =
+    c.loop-k.invariant.4 ∙ length-set c.args.states.now 0 8
+
+pub returns : goal.returns
+returns c =
+    (refl, below_all _ _ _ _ _ _ c.loop-k.invariant.1 c.loop-k.invariant.0 (omega (arith, c.requires.2.count)))
+
+pub overflow_cast-k : goal.overflow_cast-k
+overflow_cast-k c = omega (arith, in_table (goal.at.overflow_cast-k c).In-loop-k)
+
+pub offset_bounds-values-k : goal.offset_bounds-values-k
+offset_bounds-values-k c = omega (arith, in_table (goal.at.offset_bounds-values-k c).In-loop-k)
+
+pub bounds-values-k : goal.bounds-values-k
+bounds-values-k c = omega (arith, in_table (goal.at.bounds-values-k c).In-loop-k)
+
+pub bounds-states-k : goal.bounds-states-k
+bounds-states-k c = omega (arith, in_table (goal.at.bounds-states-k c).In-loop-k)
+
+pub overflow_add-k : goal.overflow_add-k
+overflow_add-k c = omega (arith, in_table (goal.at.overflow_add-k c).In-loop-k)

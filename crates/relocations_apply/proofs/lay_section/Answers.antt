@@ -1,0 +1,121 @@
+-- `relocations_apply::lay_section` meets its contract.
+use mathlib.Core.Path.{◌≡◌, sym, ap, ◌∙◌, subst}
+use Prim.Native.Nat.{suc, ◌+◌, ◌-◌, ◌≤◌, ◌<◌}
+use native.Mathlib.Omega.{arith}
+use lib.ListN.{length, get_or}
+use Rattle.numbers_definitions.proofs.Laws.Lists.{length_part}
+use Rattle.elf_read.specs.Headers.{section_count}
+use Rattle.elf_read.specs.Sections.{section_at, relocations_below}
+use Rattle.elf_read.specs.Entries.{bytes_of, relocation_count}
+use Rattle.elf_check.proofs.Laws.Bounds.{loaded_inside}
+use Rattle.relocations_rela.specs.Sites.{site_at, count, found}
+use Rattle.relocations_rela.proofs.Laws.Sites.{found_length}
+use Rattle.relocations_bytes.specs.Sections.{after, rela_of}
+use Rattle.relocations_bytes.specs.Requires.{Checked}
+use Rattle.relocations_bytes.proofs.Laws.Sections.{checked, rela_found, found_target, relocated_some, relocated_none}
+use Rattle.relocations_check_all.specs.Sites.{Worded}
+use Rattle.relocations_check_all.proofs.Laws.Search.{site_room}
+use Rattle.relocations_apply.proofs.Laws.Stores.{storable}
+use Rattle.relocations_apply.proofs.lay_section.Goals as goal
+use Rattle.relocations_apply.proofs.lay_section.Goals.{After-site_at-site, Else-mark-eq0}
+
+-- the RELA section that is listed
+listed : (c : Else-mark-eq0) → let a = c.args in let i = rela_of a.object.now a.t in
+    (get_or a.relas.now a.t 0 ≡ suc i) × (i < section_count a.object.now) × (get_or a.starts.now a.t 0 ≡ relocations_below a.object.now i)
+listed c = let f = c.requires in f.8.some c.args.t f.4 (omega (arith, c.if-mark-eq0.false))
+
+rela_there : (c : After-site_at-site) → let a = c.args in rela_of a.object.now a.t < section_count a.object.now
+rela_there c = (listed (goal.at.After-site_at-site c).Else-mark-eq0).1
+
+mark_is : (c : Else-mark-eq0) → let a = c.args in get_or a.relas.now a.t 0 - 1 ≡ rela_of a.object.now a.t
+mark_is c = omega (arith, (listed c).0)
+
+site_is : (c : After-site_at-site) → let a = c.args in c.site_at-site.result ≡ site_at a.object.now a.addresses.now (rela_of a.object.now a.t)
+site_is c = let a = c.args in c.site_at-site.ensures ∙ ap (site_at a.object.now a.addresses.now) (mark_is (goal.at.After-site_at-site c).Else-mark-eq0)
+
+pub section_bytes-requires : goal.section_bytes-requires
+section_bytes-requires c =
+    let a = c.args in
+    let f = c.requires in
+    rw c.read_section-h.ensures (loaded_inside a.object.now f.0 a.t f.4 f.5)
+
+pub copy-requires : goal.copy-requires
+unfolding bytes_of
+copy-requires c =
+    let a = c.args in
+    let s = a.object.now in
+    let f = c.requires in
+    let inside = loaded_inside s f.0 a.t f.4 f.5 in
+    let size : length (bytes_of s (section_at s a.t)) ≡ (section_at s a.t).size = length_part s (section_at s a.t).offset.0 (section_at s a.t).size inside.inside in
+    rw (c.section_bytes.ensures, c.read_section-h.ensures) (size ∙ sym f.6)
+
+pub bounds-relas-t : goal.bounds-relas-t
+bounds-relas-t c = omega (arith, c.requires.4, c.requires.8.sided.relas_long)
+
+-- what the lists hold are numbers of 32 bits
+pub overflow_cast-mark : goal.overflow_cast-mark
+overflow_cast-mark c =
+    omega (arith, c.shared_slice_known-6-1.given c.args.t)
+
+pub overflow_cast-base : goal.overflow_cast-base
+overflow_cast-base c =
+    omega (arith, c.shared_slice_known-7-1.given c.args.t)
+
+pub returns-then-mark-eq0 : goal.returns-then-mark-eq0
+returns-then-mark-eq0 c =
+    let a = c.args in
+    let s = a.object.now in
+    c.copy.ensures ∙ c.section_bytes.ensures ∙ ap (bytes_of s) c.read_section-h.ensures ∙ sym (relocated_none s a.order.now a.addresses.now a.t (c.requires.8.none a.t c.requires.4 c.if-mark-eq0.true))
+
+pub site_at-site-requires : goal.site_at-site-requires
+site_at-site-requires c =
+    let a = c.args in
+    let there = (listed (goal.at.site_at-site-requires c).Else-mark-eq0).1 in
+    (c.requires.0, rw (mark_is (goal.at.site_at-site-requires c).Else-mark-eq0) there, rw (mark_is (goal.at.site_at-site-requires c).Else-mark-eq0) (rela_found a.object.now a.t there).0, c.requires.7)
+
+pub bounds-starts-t : goal.bounds-starts-t
+bounds-starts-t c = omega (arith, c.requires.4, c.requires.8.sided.starts_long)
+
+-- the words of the site's relocations
+worded : (c : After-site_at-site) → let a = c.args in
+    Worded a.object.now a.order.now a.addresses.now c.site_at-site.result (count a.object.now c.site_at-site.result) a.words.now a.sizes.now (get_or a.starts.now a.t 0)
+worded c =
+    let a = c.args in
+    let i = rela_of a.object.now a.t in
+    let there = c.requires.3.worded i (rela_there c) (rela_found a.object.now a.t (rela_there c)).0 in
+    subst (λ x. Worded a.object.now a.order.now a.addresses.now x (count a.object.now x) a.words.now a.sizes.now (get_or a.starts.now a.t 0)) (sym (site_is c))
+    (subst (Worded a.object.now a.order.now a.addresses.now (site_at a.object.now a.addresses.now i) (count a.object.now (site_at a.object.now a.addresses.now i)) a.words.now a.sizes.now) (sym (listed (goal.at.After-site_at-site c).Else-mark-eq0).2) there)
+
+-- and that there is room for them
+room : (c : After-site_at-site) → let a = c.args in get_or a.starts.now a.t 0 + count a.object.now c.site_at-site.result ≤ relocation_count a.object.now
+room c =
+    let a = c.args in
+    let i = rela_of a.object.now a.t in
+    omega (arith, (listed (goal.at.After-site_at-site c).Else-mark-eq0).2, ap (count a.object.now) (site_is c), site_room a.object.now a.order.now a.addresses.now c.requires.0 i (rela_there c) (rela_found a.object.now a.t (rela_there c)).0)
+
+pub apply_all-requires : goal.apply_all-requires
+apply_all-requires c =
+    let a = c.args in
+    let f = c.requires in
+    let s = a.object.now in
+    let i = rela_of s a.t in
+    let counts = rela_found s a.t (rela_there (goal.at.apply_all-requires c).After-site_at-site) in
+    let fine : Checked s a.order.now a.addresses.now c.site_at-site.result =
+    subst (Checked s a.order.now a.addresses.now) (sym (site_is (goal.at.apply_all-requires c).After-site_at-site)) (checked s a.order.now a.addresses.now f.0 f.1 f.2 i (rela_there (goal.at.apply_all-requires c).After-site_at-site) counts.0) in
+    let held = c.copy.ensures ∙ c.section_bytes.ensures ∙ ap (bytes_of s) c.read_section-h.ensures ∙ sym (found_target s a.addresses.now a.t (rela_there (goal.at.apply_all-requires c).After-site_at-site)) ∙ ap (found s) (sym (site_is (goal.at.apply_all-requires c).After-site_at-site)) in
+    let size = ap length held ∙ found_length s c.site_at-site.result fine.site in (
+      f.0.table.header,
+      omega (arith, room (goal.at.apply_all-requires c).After-site_at-site, f.3.words_room.room),
+      omega (arith, room (goal.at.apply_all-requires c).After-site_at-site, f.3.sizes_room.room),
+      f.3.words_room.short,
+      storable s a.order.now a.addresses.now c.site_at-site.result a.words.now a.sizes.now (get_or a.starts.now a.t 0) _ fine (worded (goal.at.apply_all-requires c).After-site_at-site) (omega (arith, size)),
+      held,
+    )
+
+pub returns : goal.returns
+returns c =
+    let a = c.args in
+    let s = a.object.now in
+    c.apply_all.ensures.0 a.order.now a.addresses.now (worded (goal.at.returns c).After-site_at-site)
+    ∙ ap (λ x. after s a.order.now a.addresses.now x (count a.object.now x)) (site_is (goal.at.returns c).After-site_at-site)
+    ∙ sym (relocated_some s a.order.now a.addresses.now a.t (rela_there (goal.at.returns c).After-site_at-site))

@@ -1,0 +1,33 @@
+-- `relocations_check_all::search::check_site` meets its contract. The invariant: none of the first `j` relocations breaks a rule, and what they leave is stored. The measure is what is left.
+use mathlib.Core.Path.{◌≡◌, refl, sym, ap, ◌∙◌, subst}
+use mathlib.Core.List.{List}
+use Prim.Native.Nat.{ℕ, ◌+◌, ◌-◌, ◌≤◌, ◌<◌}
+use native.Mathlib.Numerals.{add-one}
+use native.Mathlib.Omega.{arith}
+use lib.ListN.{length, length-set}
+use Rattle.elf_read.specs.Headers.{class_of, has_rvc}
+use Rattle.elf_read.proofs.Laws.Headers.{header_there}
+use Rattle.placing_symbols.specs.Arrays.{Valued}
+use Rattle.relocations_types.specs.Types.{decision}
+use Rattle.relocations_decisions.specs.Decisions.{touched}
+use Rattle.relocations_decisions.proofs.Laws.Decisions.{touched_small}
+use Rattle.relocations_rela.specs.Sites.{count, decision_at}
+use Rattle.relocations_rela.specs.Trails.{trail_at}
+use Rattle.relocations_check_one.specs.Outcomes.{Onward}
+use Rattle.relocations_check_one.specs.Requires.{Listing}
+use Rattle.relocations_check_all.specs.Sites.{KeptBelow, Worded}
+use Rattle.relocations_check_all.proofs.Laws.Sites.{Searching, searching_start, searching_next, trail_next, number_found}
+use Rattle.relocations_check_all.proofs.search.check_site.Given as goal
+
+abbrev pub invariant-loop-j : goal.invariant-loop-j
+invariant-loop-j l =
+    (l.j ≤ l.n)
+    × (l.trail ≡ trail_at l.object l.site l.j)
+    × Listing l.object l.site l.highs l.made
+    × (length l.highs ≡ length l.initial.highs)
+    × (length l.words ≡ length l.initial.words)
+    × (length l.sizes ≡ length l.initial.sizes)
+    × ((o a : List ℕ) → Valued l.object o a l.values l.states → Searching l.object o a l.site l.base l.initial.words l.initial.sizes l.initial.highs l.words l.sizes l.highs l.trail l.last l.made l.j)
+
+abbrev pub decreases-loop-j : goal.decreases-loop-j
+decreases-loop-j l = l.n - l.j

@@ -1,0 +1,15 @@
+-- `relocations_values::highs::gather` meets its contract. The loop's invariant: the high halves below k are listed. The measure is what is left.
+use mathlib.Core.Path.{◌≡◌, refl}
+use Prim.Native.Nat.{◌-◌, ◌≤◌, ◌<◌}
+use native.Mathlib.Omega.{arith}
+use lib.ListN.{length, length-set}
+use Rattle.relocations_rela.specs.Sites.{count}
+use Rattle.relocations_values.proofs.Laws.Highs.{Gathering, gathering_start, read_passed, read_more, gathered}
+use Rattle.relocations_values.proofs.highs.gather.Given as goal
+
+abbrev pub invariant-loop-k : goal.invariant-loop-k
+invariant-loop-k l =
+    (l.k ≤ l.n) × (length l.highs ≡ length l.initial.highs) × Gathering l.object l.site l.highs l.m l.last l.falls l.k
+
+abbrev pub decreases-loop-k : goal.decreases-loop-k
+decreases-loop-k l = l.n - l.k

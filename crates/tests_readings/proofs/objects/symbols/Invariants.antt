@@ -1,0 +1,11 @@
+-- `tests_readings::objects::symbols` is safe and ends. The loop's invariant: `k` is at most `n`. The measure is what is left of it.
+use Rattle.std.proofs.Common.{◌-◌, ◌≤◌, ap, ◌∙◌, arith, rules}
+use Rattle.elf_read.specs.Sections.{section_at}
+use Rattle.elf_check.proofs.Laws.Bounds.{symbol_inside}
+use Rattle.tests_readings.proofs.objects.symbols.Given as goal
+
+abbrev pub invariant-loop-k : goal.invariant-loop-k
+invariant-loop-k l = l.k ≤ l.n
+
+abbrev pub decreases-loop-k : goal.decreases-loop-k
+decreases-loop-k l = l.n - l.k

@@ -1,0 +1,6 @@
+-- `tests_relocations::pairs::line` is safe and ends.
+use mathlib.Core.Path.{sym, ◌∙◌}
+use Rattle.tests_relocations.proofs.pairs.line.Goals as goal
+
+pub read-requires : goal.read-requires
+read-requires c = sym c.check_header.ensures ∙ c.if-check_header.true

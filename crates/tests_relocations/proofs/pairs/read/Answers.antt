@@ -1,0 +1,13 @@
+-- `tests_relocations::pairs::read` is safe and ends: an object that passes check 4 has a header.
+use mathlib.Core.Path.{sym, ap, ◌∙◌}
+use Rattle.elf_read.proofs.Laws.Headers.{header_there}
+use Rattle.elf_header.proofs.Laws.Headers.{header_long}
+use Rattle.order_format.specs.Orders.{reading}
+use Rattle.tests_relocations.proofs.pairs.read.Goals as goal
+
+pub class_of-requires : goal.class_of-requires
+class_of-requires c = header_there _ (header_long _ c.requires)
+
+pub judged-requires : goal.judged-requires
+judged-requires c =
+    (c.requires, ap (λ k. reading k c.args.order.now) (sym c.class_of.ensures) ∙ sym c.read_order.ensures ∙ c.in-WellFormed.is)
