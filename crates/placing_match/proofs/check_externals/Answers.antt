@@ -86,10 +86,10 @@ read_entry-e-requires c =
 pub returns-then-not-is_undefined : goal.returns-then-not-is_undefined
 returns-then-not-is_undefined c =
     let index : c.read_entry-e.result.index ≡ (entry (goal.at.returns-then-not-is_undefined c).After-read_entry-e).index = ap (λ (c : Entry). c.index) c.read_entry-e.ensures in
-    let small : (entry (goal.at.returns-then-not-is_undefined c).After-read_entry-e).index < 2 ^ 32 = omega (arith, index, c.read_entry-e.ok) in
+    let small : (entry (goal.at.returns-then-not-is_undefined c).After-read_entry-e).index < 2 ^ 32 = omega (arith, index, c.read_entry-e.type_inv) in
     ap At index
     ∙ sym (lowest_named (class (goal.at.returns-then-not-is_undefined c).After-externals_start-start) (order (goal.at.returns-then-not-is_undefined c).After-externals_start-start) (start (goal.at.returns-then-not-is_undefined c).After-externals_start-start) (number (goal.at.returns-then-not-is_undefined c).After-externals_start-start) (up (goal.at.returns-then-not-is_undefined c).After-externals_start-start) (λ x. not (is_undefined (object (goal.at.returns-then-not-is_undefined c).After-externals_start-start) x)) c.loop-j.j (omega arith) small c.loop-j.invariant.1
-    (ap not (sym (tested (goal.at.returns-then-not-is_undefined c).After-is_undefined)) ∙ c.if-not-is_undefined.true))
+    (ap not (sym (tested (goal.at.returns-then-not-is_undefined c).After-is_undefined)) ∙ (ap not c.if-not-is_undefined.true)))
     ∙ same (goal.at.returns-then-not-is_undefined c).After-externals_start-start
 
 pub overflow_add-j : goal.overflow_add-j
@@ -97,7 +97,7 @@ overflow_add-j c = record { fits = omega (arith, c.loop-j-test.true, (reads (goa
 
 pub loop-j-preserved : goal.loop-j-preserved
 loop-j-preserved c =
-    (search rules, below_more _ _ c.loop-j.invariant.1 (ap not (sym (tested (goal.at.loop-j-preserved c).After-is_undefined)) ∙ c.if-not-is_undefined.false))
+    (search rules, below_more _ _ c.loop-j.invariant.1 (ap not (sym (tested (goal.at.loop-j-preserved c).After-is_undefined)) ∙ (ap not c.if-not-is_undefined.false)))
 
 pub returns : goal.returns
 returns c =

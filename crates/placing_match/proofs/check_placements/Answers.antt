@@ -1,4 +1,5 @@
 -- `placing_match::check_placements` meets its contract.
+use borrow.Author.Tests.{lt-ltb, le-ltb}
 use mathlib.Core.Path.{◌≡◌, sym, ap, subst, ◌∙◌}
 use mathlib.Core.Bool.{not, ◌&&◌}
 use mathlib.Core.List.{List}
@@ -91,7 +92,7 @@ pub overflow_cast-result-then-missing : goal.overflow_cast-result-then-missing
 overflow_cast-result-then-missing c = omega (arith, lowest_small _ _ _ _ _ _ (found (goal.at.overflow_cast-result-then-missing c).After-section_count))
 
 pub returns-then-missing : goal.returns-then-missing
-returns-then-missing c = found_missing _ _ _ _ _ _ (found (goal.at.returns-then-missing c).After-section_count) c.if-extra-counts.false c.if-missing.true
+returns-then-missing c = found_missing _ _ _ _ _ _ (found (goal.at.returns-then-missing c).After-section_count) c.if-extra-counts.false (lt-ltb _ _ c.if-missing.true)
 
 pub returns : goal.returns
-returns c = found_nothing _ _ _ _ _ _ (found (goal.at.returns c).After-section_count) c.if-extra-counts.false c.if-missing.false
+returns c = found_nothing _ _ _ _ _ _ (found (goal.at.returns c).After-section_count) c.if-extra-counts.false (le-ltb _ _ c.if-missing.false)

@@ -36,13 +36,13 @@ pub returns-then-not-is_allocated_section : goal.returns-then-not-is_allocated_s
 returns-then-not-is_allocated_section c =
     let a = c.args in
     let f = reads (goal.at.returns-then-not-is_allocated_section c).After-placements_start-start in
-    let found : not (is_allocated a.object.now (placement a.class a.order.now c.loop-j.j).index) ≡ true = rw (← named (goal.at.returns-then-not-is_allocated_section c).After-read_entry-e, ← c.is_allocated_section.ensures) c.if-not-is_allocated_section.true in
+    let found : not (is_allocated a.object.now (placement a.class a.order.now c.loop-j.j).index) ≡ true = rw (← named (goal.at.returns-then-not-is_allocated_section c).After-read_entry-e, ← c.is_allocated_section.ensures) (ap not c.if-not-is_allocated_section.true) in
     sym (first_is _ (placement_count a.class a.order.now) c.loop-j.j (omega (arith, f.placements_are)) c.loop-j.invariant.1 (λ _. found))
 
 pub loop-j-preserved : goal.loop-j-preserved
 loop-j-preserved c =
     let a = c.args in
-    let other : not (is_allocated a.object.now (placement a.class a.order.now c.loop-j.j).index) ≡ false = rw (← named (goal.at.loop-j-preserved c).After-read_entry-e, ← c.is_allocated_section.ensures) c.if-not-is_allocated_section.false in
+    let other : not (is_allocated a.object.now (placement a.class a.order.now c.loop-j.j).index) ≡ false = rw (← named (goal.at.loop-j-preserved c).After-read_entry-e, ← c.is_allocated_section.ensures) (ap not c.if-not-is_allocated_section.false) in
     (search rules, below_more _ _ c.loop-j.invariant.1 other)
 
 pub returns : goal.returns

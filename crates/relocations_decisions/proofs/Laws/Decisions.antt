@@ -174,10 +174,10 @@ unfoldable gives_at : ℕ → List Line → Bool
 gives_at t [] = false
 gives_at t (l ∷ ls) = (gives_pair l.decision_at && among t l.types) || gives_at t ls
 
-gives_at : (t : ℕ) (ls : List Line) → gives_pair (lookup t ls) ≡ true → gives_at t ls ≡ true
+gives_at_lem : (t : ℕ) (ls : List Line) → gives_pair (lookup t ls) ≡ true → gives_at t ls ≡ true
 unfolding gives_at lookup
-gives_at t [] e = never e
-gives_at t (l ∷ ls) e = go (among t l.types) (gives_pair l.decision_at) refl e (gives_at t ls)
+gives_at_lem t [] e = never e
+gives_at_lem t (l ∷ ls) e = go (among t l.types) (gives_pair l.decision_at) refl e (gives_at_lem t ls)
   where
     go : (a g : Bool) → gives_pair l.decision_at ≡ g → gives_pair (cond a l.decision_at (lookup t ls)) ≡ true → (gives_pair (lookup t ls) ≡ true → gives_at t ls ≡ true)
         → ((g && a) || gives_at t ls) ≡ true
@@ -194,7 +194,7 @@ pair_in ls there only t = go (eqb t pairing_type) refl (gives_pair (lookup t ls)
     go : (b : Bool) → eqb t pairing_type ≡ b → (g : Bool) → gives_pair (lookup t ls) ≡ g → gives_pair (lookup t ls) ≡ b
     go true e g q = rw (eqb-true t pairing_type e) there
     go false e false q = q
-    go false e true q = clash (gives_at t ls) (only t e) (gives_at t ls q)
+    go false e true q = clash (gives_at t ls) (only t e) (gives_at_lem t ls q)
 
 line_type : (c : Class) (t : ℕ) → gives_pair (lookup t (lines_of c)) ≡ eqb t pairing_type
 unfolding table lookup among gives_at
