@@ -11,14 +11,14 @@ use Rattle.order_format.specs.Windows.{length_allowed, window_allowed}
 use Rattle.tests_placings.proofs.pairs.sections.Goals as goal
 
 pub class_of-requires : goal.class_of-requires
-class_of-requires c = header_there _ (header_long _ c.requires.0)
+class_of-requires g c = header_there _ (header_long _ c.requires.0)
 
 pub check_sections-requires : goal.check_sections-requires
-check_sections-requires c = header_long _ c.requires.0
+check_sections-requires g c = header_long _ c.requires.0
 
 pub placements-requires : goal.placements-requires
 unfolding window_allowed length_allowed
-placements-requires c =
+placements-requires g c =
     let allowed : window_allowed (bits c.class_of.result) c.args.counts.base.0 c.args.len ≡ true = sym c.window_allowed.ensures ∙ c.if-not-window_allowed.false in (
       sound_object _ c.requires.0 (sym c.check_sections.ensures ∙ c.in-Sound.is),
       c.requires.1,

@@ -5,8 +5,8 @@ use Rattle.elf_check.proofs.Laws.Objects.{sound_object}
 use Rattle.tests_readings.proofs.objects.check_sections.Goals as goal
 
 pub check_sections-requires : goal.check_sections-requires
-check_sections-requires c = header_long _ c.requires
+check_sections-requires g c = header_long _ c.requires
 
 pub passed-requires : goal.passed-requires
-passed-requires c =
+passed-requires g c =
     sound_object _ c.requires (sym c.check_sections.ensures ∙ c.in-Sound.is)

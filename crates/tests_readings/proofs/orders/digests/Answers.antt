@@ -15,16 +15,16 @@ externals_inside : (c : After-externals_start-start) → c.externals_start-start
 externals_inside c = omega (arith, c.externals_start-start.ensures, (sound (goal.at.After-externals_start-start c).Start).whole)
 
 pub externals_start-start-requires : goal.externals_start-start-requires
-externals_start-start-requires c = (sound (goal.at.externals_start-start-requires c).Start).few
+externals_start-start-requires g c = (sound (goal.at.externals_start-start-requires c).Start).few
 
 pub entries-requires : goal.entries-requires
-entries-requires c = placements_inside (goal.at.entries-requires c).After-externals_start-start
+entries-requires g c = placements_inside (goal.at.entries-requires c).After-externals_start-start
 
 pub entries-requires-2 : goal.entries-requires-2
-entries-requires-2 c = externals_inside (goal.at.entries-requires-2 c).After-externals_start-start
+entries-requires-2 g c = externals_inside (goal.at.entries-requires-2 c).After-externals_start-start
 
 pub near_values-requires : goal.near_values-requires
-near_values-requires c = (c.requires, placements_inside (goal.at.near_values-requires c).After-externals_start-start)
+near_values-requires g c = (c.requires, placements_inside (goal.at.near_values-requires c).After-externals_start-start)
 
 pub near_values-requires-2 : goal.near_values-requires-2
-near_values-requires-2 c = (c.requires, externals_inside (goal.at.near_values-requires-2 c).After-externals_start-start)
+near_values-requires-2 g c = (c.requires, externals_inside (goal.at.near_values-requires-2 c).After-externals_start-start)

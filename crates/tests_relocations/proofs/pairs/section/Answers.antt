@@ -31,11 +31,11 @@ small c =
     omega (arith, size_small c.args.object.now c.requires.0.sound c.args.t c.requires.1 (laid c), ap (λ h. h.size) (header_is (goal.at.Then-is_loaded-h c).After-is_loaded))
 
 pub slice_bounds-lay-end : goal.slice_bounds-lay-end
-slice_bounds-lay-end c =
+slice_bounds-lay-end g c =
     omega (arith, small (goal.at.slice_bounds-lay-end c).Then-is_loaded-h, c.requires.2)
 
 pub lay-requires : goal.lay-requires
-lay-requires c =
+lay-requires g c =
     let n = c.read_section-h.result.size in
     let size : n ≡ (section_at c.args.object.now c.args.t).size = ap (λ h. h.size) (header_is (goal.at.lay-requires c).After-is_loaded) in
     (c.requires.0, c.requires.1, laid (goal.at.lay-requires c).Then-is_loaded-h, length-take-le (n - 0) c.args.room.now (omega (arith, small (goal.at.lay-requires c).Then-is_loaded-h, c.requires.2)) ∙ omega arith)
