@@ -5,9 +5,6 @@ use Rattle.relocations_values.specs.Sorting.{keys}
 use Rattle.relocations_values.proofs.Laws.Lookup.{listed_stands, halves_below, halves_from}
 use Rattle.relocations_values.proofs.pairs.first_not_below.Goals as goal
 
-pub overflow_add-more : goal.overflow_add-more
-overflow_add-more c = record { fits = omega (arith, c.requires.1.fits, c.good) }
-
 pub loop-more-init : goal.loop-more-init
 loop-more-init c = (omega arith, omega arith, (λ i h. absurd (omega arith)), (λ i h l. absurd (omega arith)))
 
