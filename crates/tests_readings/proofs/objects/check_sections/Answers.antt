@@ -1,5 +1,5 @@
 -- `tests_readings::objects::check_sections` is safe and ends: an object that passes checks 4 and 5 is sound.
-use Rattle.std.proofs.Common.{sym, ◌∙◌, rules}
+use Rattle.std.proofs.Common.{sym, ◌∙◌}
 use Rattle.elf_header.proofs.Laws.Headers.{header_long}
 use Rattle.elf_check.proofs.Laws.Objects.{sound_object}
 use Rattle.tests_readings.proofs.objects.check_sections.Goals as goal

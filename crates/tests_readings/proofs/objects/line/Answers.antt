@@ -1,5 +1,5 @@
 -- `tests_readings::objects::line` is safe and ends.
-use Rattle.std.proofs.Common.{sym, ◌∙◌, rules}
+use Rattle.std.proofs.Common.{sym, ◌∙◌}
 use Rattle.tests_readings.proofs.objects.line.Goals as goal
 
 pub check_sections-requires : goal.check_sections-requires
