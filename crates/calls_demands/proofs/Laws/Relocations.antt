@@ -180,17 +180,17 @@ module _ (object : List ℕ) (x : Site) where
 
   -- ---- 12
 
-  is_one : (b : Bool) (k : ℕ) → is_one (cond b (At k) NotOne) ≡ b
-  is_one true k = refl
-  is_one false k = refl
+  is_one_lem : (b : Bool) (k : ℕ) → is_one (cond b (At k) NotOne) ≡ b
+  is_one_lem true k = refl
+  is_one_lem false k = refl
 
   pub pair_well_lem : (j : ℕ) → pair_well object x j ≡ true → PairWell object x j
   unfolding pair_well pair_of
-  pair_well_lem j e p = eqb-true _ _ (sym (is_one _ _) ∙ given (needs_pair (decision_at object x j)) (is_one (pair_of object x (symbol object x j).value)) e p)
+  pair_well_lem j e p = eqb-true _ _ (sym (is_one_lem _ _) ∙ given (needs_pair (decision_at object x j)) (is_one (pair_of object x (symbol object x j).value)) e p)
 
   pub well_pair : (j : ℕ) → PairWell object x j → pair_well object x j ≡ true
   unfolding pair_well pair_of
-  well_pair j h = implied (needs_pair (decision_at object x j)) (is_one (pair_of object x (symbol object x j).value)) (λ p. is_one _ _ ∙ eq-eqb _ _ (h p))
+  well_pair j h = implied (needs_pair (decision_at object x j)) (is_one (pair_of object x (symbol object x j).value)) (λ p. is_one_lem _ _ ∙ eq-eqb _ _ (h p))
 
   -- ---- 13
 

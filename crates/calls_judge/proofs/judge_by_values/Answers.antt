@@ -68,8 +68,7 @@ returns-in-Passed c =
 
 pub returns-in-Broken : goal.returns-in-Broken
 returns-in-Broken c =
-    let told = c.finding-1.given.0 in
     let is = found (goal.at.returns-in-Broken c).After-check_relocations ∙ c.in-Broken.is in
-    let broken = broken_is (S (goal.at.returns-in-Broken c).Start) (O (goal.at.returns-in-Broken c).Start) (L (goal.at.returns-in-Broken c).Start) told.0 told.1.0 is in
-    refused_well (S (goal.at.returns-in-Broken c).Start) (O (goal.at.returns-in-Broken c).Start) c.args.len _ _ _ (ap (λ a. eqb a.number 0) c.refusal.ensures ∙ some_number told.0 broken)
+    let broken = broken_is (S (goal.at.returns-in-Broken c).Start) (O (goal.at.returns-in-Broken c).Start) (L (goal.at.returns-in-Broken c).Start) c.in-Broken.finding c.in-Broken.k is in
+    refused_well (S (goal.at.returns-in-Broken c).Start) (O (goal.at.returns-in-Broken c).Start) c.args.len _ _ _ (ap (λ a. eqb a.number 0) c.refusal.ensures ∙ some_number c.in-Broken.finding broken)
     (gives_9_to_14 (S (goal.at.returns-in-Broken c).Start) (O (goal.at.returns-in-Broken c).Start) c.args.len c.args.counts _ _ c.requires.0 is ∙ ap refused (sym c.refusal.ensures))

@@ -10,10 +10,7 @@ use Rattle.elf_read.specs.Headers.{section_count}
 use Rattle.calls_judgement.specs.Requires.{Fitting, with_section}
 use Rattle.calls_judgement.proofs.Laws.Laying.{is_sound, laid_below, laid_none, laid_more, laid_all}
 use Rattle.calls_lay.proofs.lay_all.Goals as goal
-use Rattle.calls_lay.proofs.lay_all.Goals.{After-section_count-n}
-
-abbrev Start : Type 0
-Start = tie.Start invariant-loop decreases-loop
+use Rattle.calls_lay.proofs.lay_all.Goals.{After-section_count-n, Start}
 
 abbrev S : Start → List ℕ
 S c = c.args.object.now
@@ -24,26 +21,23 @@ O c = c.args.order.now
 abbrev Image : Start → List ℕ
 Image c = c.args.image.now
 
-abbrev st : After-section_count-n → Start
-st c = search
-
-count_is : (c : After-section_count-n) → c.section_count-n.result ≡ section_count (S (st c))
+count_is : (c : After-section_count-n) → c.section_count-n.result ≡ section_count (S (goal.at.After-section_count-n c).Start)
 count_is c = c.section_count-n.ensures
 
 pub section_count-n-requires : goal.section_count-n-requires
-section_count-n-requires c = let s : Start = search in (is_sound (S s) (O s) s.args.counts (length (Image s)) s.pre.0).table.header
+section_count-n-requires c = let s = (goal.at.section_count-n-requires c).Start in (is_sound (S s) (O s) c.args.counts (length (Image s)) c.requires.0).table.header
 
 pub loop-t-init : goal.loop-t-init
-loop-t-init c = let s : Start = search in (omega arith, refl, sym (laid_none (S s) (O s) (Image s)))
+loop-t-init c = let s = (goal.at.loop-t-init c).Start in (omega arith, refl, sym (laid_none (S s) (O s) (Image s)))
 
 pub lay_one-requires : goal.lay_one-requires
 lay_one-requires c =
-    let s : Start = search in
-    (subst (Fitting (S s) (O s) s.args.counts) (sym c.loop-t.invariant.1) s.pre.0, s.pre.1, s.pre.2, omega (arith, count_is (goal.at.lay_one-requires c).After-section_count-n), s.pre.3, s.pre.4)
+    let s = (goal.at.lay_one-requires c).Start in
+    (subst (Fitting (S s) (O s) c.args.counts) (sym c.loop-t.invariant.1) c.requires.0, c.requires.1, c.requires.2, omega (arith, count_is (goal.at.lay_one-requires c).After-section_count-n), c.requires.3, c.requires.4)
 
 pub loop-t-preserved : goal.loop-t-preserved
 loop-t-preserved c =
-    let s : Start = search in
+    let s = (goal.at.loop-t-preserved c).Start in
     (omega arith, omega arith, rw add-one (c.lay_one.ensures ∙ ap (with_section (S s) (O s) c.loop-t.t) c.loop-t.invariant.2 ∙ sym (laid_more (S s) (O s) (Image s) c.loop-t.t)))
 
 pub shape_of-image : goal.shape_of-image
@@ -51,6 +45,6 @@ shape_of-image c = omega arith
 
 pub returns : goal.returns
 returns c =
-    let s : Start = search in
+    let s = (goal.at.returns c).Start in
     let stop : c.loop-t.t ≡ section_count (S s) = omega (arith, count_is (goal.at.returns c).After-section_count-n) in
     c.loop-t.invariant.2 ∙ ap (laid_below (S s) (O s) (Image s)) stop ∙ laid_all (S s) (O s) (Image s)

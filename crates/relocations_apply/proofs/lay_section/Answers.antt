@@ -55,11 +55,11 @@ bounds-relas-t c = omega (arith, c.requires.4, c.requires.8.sided.relas_long)
 -- what the lists hold are numbers of 32 bits
 pub overflow_cast-mark : goal.overflow_cast-mark
 overflow_cast-mark c =
-    omega (arith, c.shared_slice_known-6-1.given c.args.t)
+    omega (arith, c.type_inv.relas c.args.t)
 
 pub overflow_cast-base : goal.overflow_cast-base
 overflow_cast-base c =
-    omega (arith, c.shared_slice_known-7-1.given c.args.t)
+    omega (arith, c.type_inv.starts c.args.t)
 
 pub returns-then-mark-eq0 : goal.returns-then-mark-eq0
 returns-then-mark-eq0 c =

@@ -25,7 +25,7 @@ returns-then-not-is_shape_well c =
 pub is_on_boundary-requires : goal.is_on_boundary-requires
 is_on_boundary-requires c =
     let a = c.args in
-    padded_by a.trail a.here a.site.target.size (kept (goal.at.is_on_boundary-requires c).Else-not-is_shape_well) (omega (arith, c.well-formed.1.1.0))
+    padded_by a.trail a.here a.site.target.size (kept (goal.at.is_on_boundary-requires c).Else-not-is_shape_well) (omega (arith, c.well_formed.1.1.0))
 
 pub returns-then-not-is_on_boundary : goal.returns-then-not-is_on_boundary
 returns-then-not-is_on_boundary c =

@@ -13,11 +13,10 @@ use Rattle.relocations_patch.proofs.data_word.Goals as goal
 pub returns-in-Of : goal.returns-in-Of
 returns-in-Of c =
     let a = c.args in
-    let told = c.enum_told-1.given in
     λ n p d e.
     c.put_data.ensures
-    ∙ ap (put (data_layout a.width) a.w) (whole_part told.0.0 n a.v (sym (ap fills told.1) ∙ c.requires))
-    ∙ part_patched a.calculation (Data a.width) told.0.0 (record { operand = told.0.1.0; is = told.1 }) n a.w (signed 64 a.x) p d a.v e
+    ∙ ap (put (data_layout a.width) a.w) (whole_part c.in-Of.field-0 n a.v (sym (ap fills c.in-Of.is) ∙ c.requires))
+    ∙ part_patched a.calculation (Data a.width) c.in-Of.field-0 (record { operand = c.in-Of.field-1; is = c.in-Of.is }) n a.w (signed 64 a.x) p d a.v e
 
 pub returns-in-Add : goal.returns-in-Add
 unfolding patched added

@@ -47,7 +47,7 @@ search-preserved-then-not-is_counting_rela c =
 pub site_at-site-requires : goal.site_at-site-requires
 site_at-site-requires c =
     let f = c.requires in
-    let long : section_count c.args.object.now ≤ length c.args.addresses = omega (arith, f.0.table.few, c.good.1.1.1.0) in
+    let long : section_count c.args.object.now ≤ length c.args.addresses = omega (arith, f.0.table.few, c.well_formed.1.1.1.0) in
     (f.0, here (goal.at.site_at-site-requires c).After-is_counting_rela, sym c.is_counting_rela.ensures ∙ c.if-not-is_counting_rela.false, long)
 
 site_sound : (c : After-site_at-site) → SoundSite c.args.object.now c.site_at-site.result
