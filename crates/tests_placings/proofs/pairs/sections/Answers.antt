@@ -1,7 +1,7 @@
 -- `tests_placings::pairs::sections` is safe and ends: an object that passes checks 4 and 5 is sound, and a window that passes check 3 is short.
 use mathlib.Core.Path.{◌≡◌, sym, ◌∙◌}
 use mathlib.Core.Bool.{true}
-use borrow.Author.Tests.{leb-true, not-false}
+use borrow.Author.Tests.{leb-true}
 use Rattle.numbers_definitions.specs.Classes.{bits}
 use Rattle.numbers_definitions.proofs.Laws.Tests.{and_left}
 use Rattle.elf_read.proofs.Laws.Headers.{header_there}
