@@ -27,7 +27,7 @@ here : (c : After-is_counting_rela) → c.search.i < section_count c.args.object
 here c = omega (arith, c.section_count-n.ensures)
 
 abbrev site_of : After-site_at-site → Site
-site_of c = let at = c.args in site_at at.object.now at.t4 c.search.i
+site_of c = let at = c.args in site_at at.object.now at.addresses c.search.i
 
 counts : (c : After-site_at-site) → counting_rela c.args.object.now c.search.i ≡ true
 counts c =
@@ -54,7 +54,7 @@ site_sound : (c : After-site_at-site) → SoundSite c.args.object.now c.site_at-
 site_sound c =
     let a = c.args in
     let f = c.requires in
-    subst (SoundSite a.object.now) (sym (site_is c)) (sound_site a.object.now a.t4 f.0 c.search.i (here (goal.at.After-site_at-site c).After-is_counting_rela) (counts c) f.2)
+    subst (SoundSite a.object.now) (sym (site_is c)) (sound_site a.object.now a.addresses f.0 c.search.i (here (goal.at.After-site_at-site c).After-is_counting_rela) (counts c) f.2)
 
 -- the relocations of the site have room in the lists
 room : (c : After-site_at-site) → c.search.number + count c.args.object.now c.site_at-site.result ≤ relocation_count c.args.object.now
@@ -70,7 +70,7 @@ check_site-halt-requires c =
         sound = f.0;
         symbols_are = f.1;
         arrays = f.3.long.arrays;
-        tabled = λ k r some. resolved_there a.object.now a.order.now a.t4 k (ap is_resolved (sym (listed_is f.3 k)) ∙ r) some;
+        tabled = λ k r some. resolved_there a.object.now a.order.now a.addresses k (ap is_resolved (sym (listed_is f.3 k)) ∙ r) some;
       },
       site_sound (goal.at.check_site-halt-requires c).After-site_at-site,
       omega (arith, room (goal.at.check_site-halt-requires c).After-site_at-site, inv.2, f.4.room),
@@ -88,14 +88,14 @@ place c =
     omega (
       arith,
       relocations_few a.object.now f.0,
-      broken_there a.object.now a.order.now a.t4 f.0 c.search.i (here (goal.at.Then-halt-ne0 c).After-is_counting_rela) (counts (goal.at.Then-halt-ne0 c).After-site_at-site) _ _ _ _ _ c.search.invariant.1 _ _ _ (site_is (goal.at.Then-halt-ne0 c).After-site_at-site)
-          (c.check_site-halt.ensures.0 a.order.now a.t4 f.3) c.if-halt-ne0.true,
+      broken_there a.object.now a.order.now a.addresses f.0 c.search.i (here (goal.at.Then-halt-ne0 c).After-is_counting_rela) (counts (goal.at.Then-halt-ne0 c).After-site_at-site) _ _ _ _ _ c.search.invariant.1 _ _ _ (site_is (goal.at.Then-halt-ne0 c).After-site_at-site)
+          (c.check_site-halt.ensures.0 a.order.now a.addresses f.3) c.if-halt-ne0.true,
     )
 
 pub reason_at-reason-requires : goal.reason_at-reason-requires
 reason_at-reason-requires c =
     let a = c.args in
-    (record { site = site_sound (goal.at.reason_at-reason-requires c).After-site_at-site; there = ((c.check_site-halt.ensures.0 a.order.now a.t4 c.requires.3).broken c.if-halt-ne0.true).there }, c.requires.3.long.arrays)
+    (record { site = site_sound (goal.at.reason_at-reason-requires c).After-site_at-site; there = ((c.check_site-halt.ensures.0 a.order.now a.addresses c.requires.3).broken c.if-halt-ne0.true).there }, c.requires.3.long.arrays)
 
 pub overflow_add-result : goal.overflow_add-result
 overflow_add-result c = omega (arith, place (goal.at.overflow_add-result c).Then-halt-ne0)
@@ -118,8 +118,8 @@ search-preserved c =
     let inv = c.search.invariant in
     let e = c.check_site-halt.ensures in
     let next =
-    below_site a.object.now a.order.now a.t4 f.0 c.search.i (here (goal.at.search-preserved c).After-is_counting_rela) (counts (goal.at.search-preserved c).After-site_at-site) _ _ _ _ _ inv.1 _ _ _ (site_is (goal.at.search-preserved c).After-site_at-site)
-    (e.0 a.order.now a.t4 f.3) c.if-halt-ne0.false in
+    below_site a.object.now a.order.now a.addresses f.0 c.search.i (here (goal.at.search-preserved c).After-is_counting_rela) (counts (goal.at.search-preserved c).After-site_at-site) _ _ _ _ _ inv.1 _ _ _ (site_is (goal.at.search-preserved c).After-site_at-site)
+    (e.0 a.order.now a.addresses f.3) c.if-halt-ne0.false in
     (omega (arith, c.search-test.true), rw (add-one, c.relocation_entries-number.ensures) next, e.3 ∙ inv.2, e.1 ∙ inv.3, e.2 ∙ inv.4, inv.5)
 
 pub returns-after-search : goal.returns-after-search
@@ -128,9 +128,9 @@ returns-after-search c =
     let f = c.requires in
     let inv = c.search.invariant in
     let stop : c.search.i ≡ section_count a.object.now = omega (arith, inv.0, c.section_count-n.ensures) in
-    let all : Below a.object.now a.order.now a.t4 (section_count a.object.now) c.search.number c.search.words c.search.sizes =
-    subst (λ i. Below a.object.now a.order.now a.t4 i c.search.number c.search.words c.search.sizes) stop inv.1 in
-    (inv.5 ∙ sym (below_all a.object.now a.order.now a.t4 _ _ _ all), (λ _. all.worded), inv.2, inv.3, inv.4)
+    let all : Below a.object.now a.order.now a.addresses (section_count a.object.now) c.search.number c.search.words c.search.sizes =
+    subst (λ i. Below a.object.now a.order.now a.addresses i c.search.number c.search.words c.search.sizes) stop inv.1 in
+    (inv.5 ∙ sym (below_all a.object.now a.order.now a.addresses _ _ _ all), (λ _. all.worded), inv.2, inv.3, inv.4)
 
 pub returns-then-halt-ne0 : goal.returns-then-halt-ne0
 returns-then-halt-ne0 c =
@@ -140,8 +140,8 @@ returns-then-halt-ne0 c =
     let e = c.check_site-halt.ensures in
     let because = c.reason_at-reason.ensures ∙ ap why (listed_is f.3 (entry a.object.now c.site_at-site.result c.check_site-halt.result.at).symbol) in
     let is =
-    below_broken a.object.now a.order.now a.t4 f.0 c.search.i (here (goal.at.returns-then-halt-ne0 c).After-is_counting_rela) (counts (goal.at.returns-then-halt-ne0 c).After-site_at-site) _ _ _ _ _ inv.1 _ _ _ (site_is (goal.at.returns-then-halt-ne0 c).After-site_at-site)
-    (e.0 a.order.now a.t4 f.3) c.if-halt-ne0.true _ because in
+    below_broken a.object.now a.order.now a.addresses f.0 c.search.i (here (goal.at.returns-then-halt-ne0 c).After-is_counting_rela) (counts (goal.at.returns-then-halt-ne0 c).After-site_at-site) _ _ _ _ _ inv.1 _ _ _ (site_is (goal.at.returns-then-halt-ne0 c).After-site_at-site)
+    (e.0 a.order.now a.addresses f.3) c.if-halt-ne0.true _ because in
     (ap (λ g. Broken g (c.search.number + c.check_site-halt.result.at)) c.finding_of-finding.ensures ∙ sym is, (λ z. broken_passed _ _ z), e.3 ∙ inv.2, e.1 ∙ inv.3, e.2 ∙ inv.4)
 
 pub shape_of-highs-then-halt-ne0 : goal.shape_of-highs-then-halt-ne0
