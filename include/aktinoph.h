@@ -1,7 +1,7 @@
 /*
  * Aktinoph: lays RV32 and RV64 ELF objects into memory images, and takes installs back, byte for byte.
  *
- * The static library is target/staticlib/libfitter.a, which `rt staticlib fitter` writes, for x86-64 Linux.
+ * The static library is target/staticlib/libfitter.a, which `tools/build library` writes, for x86-64 Linux.
  * It keeps no state, allocates nothing, and needs nothing but memory functions of the C library (memset).
  *
  * What a caller owes; all else is answered:

@@ -18,7 +18,7 @@ fn main() {
     println!("cargo::rerun-if-changed={}", archive.display());
     if !archive.is_file() {
         eprintln!("there is no {}", archive.display());
-        eprintln!("run `rt staticlib fitter` in the repository, or set {VARIABLE} to the absolute path of its folder");
+        eprintln!("run `tools/build library` in the repository, or set {VARIABLE} to the absolute path of its folder");
         exit(1);
     }
     println!("cargo::rustc-link-search=native={}", folder.display());

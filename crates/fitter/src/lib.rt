@@ -1,4 +1,4 @@
-// The library: the calls for callers in other languages.
+// The library: the calls for callers in other languages. `fitter_c` exports them under the same names.
 #![tactic(auto)]
 
 ghost use Rattle.std.specs.Prelude.{◌≡◌, true, ◌≤◌, length};
@@ -17,13 +17,7 @@ use calls_judge::code_of;
 use calls_replay::{FIRST_AT, List};
 
 // `install` for callers in other languages. The four buffers must not overlap.
-#[unsafe(no_mangle)]
-pub extern "C" fn aktinoph_fit(
-    object: &[u8],
-    order: &[u8],
-    image: &mut [u8],
-    ledger: &mut [u8],
-) -> u64
+pub fn aktinoph_fit(object: &[u8], order: &[u8], image: &mut [u8], ledger: &mut [u8]) -> u64
     ensures { Returned result (files image.new ledger.new)
         (our_install object.now order.now (files image.old ledger.old)) }
 {
@@ -31,8 +25,7 @@ pub extern "C" fn aktinoph_fit(
 }
 
 // `rollback` for callers in other languages. The two buffers must not overlap.
-#[unsafe(no_mangle)]
-pub extern "C" fn aktinoph_take_back(image: &mut [u8], ledger: &mut [u8]) -> u64
+pub fn aktinoph_take_back(image: &mut [u8], ledger: &mut [u8]) -> u64
     ensures { Returned result (files image.new ledger.new) (our_rollback (files image.old ledger.old)) }
 {
     code_of(rollback(image, ledger))
@@ -90,8 +83,7 @@ fn replay_list(
 // Makes a list of calls one after the other, for callers in other languages. It returns 1 if the list was run; the
 // first places then hold the answers. It returns 0, and changes nothing, if the bytes are no list or there are fewer
 // places than calls. The buffers must not overlap.
-#[unsafe(no_mangle)]
-pub extern "C" fn aktinoph_replay(
+pub fn aktinoph_replay(
     calls: &[u8],
     image: &mut [u8],
     ledger: &mut [u8],

@@ -5,6 +5,9 @@
 // what is there.
 #![tactic(auto)]
 
+use std::io;
+use std::io::{ErrorKind, Read, Write};
+
 #[derive(Clone, Copy)]
 pub struct Command {
     pub letter: u8,
@@ -14,10 +17,10 @@ pub struct Command {
 }
 
 // The next command, or zeros if the input has ended.
-pub fn next() -> Command {
+pub fn next(input: &mut impl Read) -> io::Result<Command> {
     let mut text = [0u8; 13];
-    io::read_full(0, &mut text);
-    parse(&text)
+    read_full(input, &mut text)?;
+    Ok(parse(&text))
 }
 
 fn parse(text: &[u8; 13]) -> Command {
@@ -29,30 +32,36 @@ fn parse(text: &[u8; 13]) -> Command {
     }
 }
 
-// Stores the bytes that follow. A command that would write outside the space does nothing.
-pub fn store(space: &mut [u8], at: usize, count: usize) {
-    if space.len() < at {
-        return;
+// Reads until `buf` is full or the input has ended. What was not read is left as it was.
+pub fn read_full(input: &mut impl Read, buf: &mut [u8]) -> io::Result<()> {
+    match input.read_exact(buf) {
+        Ok(()) => Ok(()),
+        Err(e) if e.kind() == ErrorKind::UnexpectedEof => Ok(()),
+        Err(e) => Err(e),
     }
-    if space.len() - at < count {
-        return;
-    }
-    io::read_full(0, &mut space[at..at + count]);
 }
 
-// Document 01's number and place, in decimal.
-pub fn answer(number: u64, place: u64) {
-    io::print_decimal(1, number);
-    io::write_all(1, b" ");
-    io::print_decimal(1, place);
+// Stores the bytes that follow. A command that would write outside the space does nothing.
+pub fn store(input: &mut impl Read, space: &mut [u8], at: usize, count: usize) -> io::Result<()> {
+    if space.len() < at {
+        return Ok(());
+    }
+    if space.len() - at < count {
+        return Ok(());
+    }
+    read_full(input, &mut space[at..at + count])
+}
+
+// The number and the place of an answer, in decimal.
+pub fn answer(out: &mut impl Write, number: u64, place: u64) -> io::Result<()> {
+    write!(out, "{number} {place}")
 }
 
 // A further number of the line, in hexadecimal.
-pub fn then(n: u64) {
-    io::write_all(1, b" ");
-    io::print_hex(1, n, 1);
+pub fn then(out: &mut impl Write, n: u64) -> io::Result<()> {
+    write!(out, " {n:x}")
 }
 
-pub fn end() {
-    io::write_all(1, b"\n");
+pub fn end(out: &mut impl Write) -> io::Result<()> {
+    writeln!(out)
 }

@@ -15,62 +15,87 @@ use order_format::{OrderHeader, Reading};
 use order_lookup::Addresses;
 use placing_match::Fault;
 use placing_symbols::{Reason, SymbolValue, reason_number};
+use std::io;
+use std::io::Write;
 
-pub fn line(object: &[u8], order: &[u8], len: usize) {
+pub fn line(out: &mut impl Write, object: &[u8], order: &[u8], len: usize) -> io::Result<()> {
     if elf_header::check_header(object) {
-        read(object, order, len);
+        read(out, object, order, len)?;
     } else {
-        tests_harness::answer(4, 0);
+        tests_harness::answer(out, 4, 0)?;
     }
-    tests_harness::end();
+    tests_harness::end(out)
 }
 
 // Check 2. The object's class says how the order is read.
-fn read(object: &[u8], order: &[u8], len: usize)
+fn read(out: &mut impl Write, object: &[u8], order: &[u8], len: usize) -> io::Result<()>
     requires { header_allowed object.now ≡ true }
 {
     match order_format::read_order(class_of(object), order) {
-        Reading::Malformed => tests_harness::answer(2, 0),
-        Reading::WellFormed(counts) => sections(object, order, counts, len),
+        Reading::Malformed => tests_harness::answer(out, 2, 0),
+        Reading::WellFormed(counts) => sections(out, object, order, counts, len),
     }
 }
 
 // Checks 3 and 5.
-fn sections(object: &[u8], order: &[u8], counts: OrderHeader, len: usize)
+fn sections(
+    out: &mut impl Write,
+    object: &[u8],
+    order: &[u8],
+    counts: OrderHeader,
+    len: usize,
+) -> io::Result<()>
     requires { (header_allowed object.now ≡ true) × (reading (class_of object.now) order.now ≡ Reading.WellFormed counts) }
 {
     if !order_format::window_allowed(class_of(object), counts.base, len) {
-        tests_harness::answer(3, 0);
-        return;
+        return tests_harness::answer(out, 3, 0);
     }
     match elf_check::check_sections(object) {
-        SectionCheck::Broken(i) => tests_harness::answer(5, i as u64),
-        SectionCheck::Sound => placements(object, order, counts, len),
+        SectionCheck::Broken(i) => tests_harness::answer(out, 5, i as u64),
+        SectionCheck::Sound => placements(out, object, order, counts, len),
     }
 }
 
 // Check 6.
-fn placements(object: &[u8], order: &[u8], counts: OrderHeader, len: usize)
+fn placements(
+    out: &mut impl Write,
+    object: &[u8],
+    order: &[u8],
+    counts: OrderHeader,
+    len: usize,
+) -> io::Result<()>
     requires { SoundObject object.now × (reading (class_of object.now) order.now ≡ Reading.WellFormed counts) × (len ≤ max_image) }
 {
     match placing_match::check_placements(object, order, counts) {
-        Fault::At(i) => tests_harness::answer(6, i as u64),
-        Fault::Nowhere => externals(object, order, counts, len),
+        Fault::At(i) => tests_harness::answer(out, 6, i as u64),
+        Fault::Nowhere => externals(out, object, order, counts, len),
     }
 }
 
 // Check 7.
-fn externals(object: &[u8], order: &[u8], counts: OrderHeader, len: usize)
+fn externals(
+    out: &mut impl Write,
+    object: &[u8],
+    order: &[u8],
+    counts: OrderHeader,
+    len: usize,
+) -> io::Result<()>
     requires { SoundObject object.now × (reading (class_of object.now) order.now ≡ Reading.WellFormed counts) × (len ≤ max_image) }
 {
     match placing_match::check_externals(object, order, counts) {
-        Fault::At(k) => tests_harness::answer(7, k as u64),
-        Fault::Nowhere => placing(object, order, counts, len),
+        Fault::At(k) => tests_harness::answer(out, 7, k as u64),
+        Fault::Nowhere => placing(out, object, order, counts, len),
     }
 }
 
 // Check 8.
-fn placing(object: &[u8], order: &[u8], counts: OrderHeader, len: usize)
+fn placing(
+    out: &mut impl Write,
+    object: &[u8],
+    order: &[u8],
+    counts: OrderHeader,
+    len: usize,
+) -> io::Result<()>
     requires { SoundObject object.now × (reading (class_of object.now) order.now ≡ Reading.WellFormed counts) × (len ≤ max_image) }
 {
     let given = order_lookup::fill_addresses(class_of(object), [0u64; MAX_SECTIONS], order, counts);
@@ -78,12 +103,18 @@ fn placing(object: &[u8], order: &[u8], counts: OrderHeader, len: usize)
     let fault = placed.fault;
     let array = placed.addresses;
     match fault {
-        Fault::At(i) => tests_harness::answer(8, i as u64),
-        Fault::Nowhere => passed(object, order, counts, array),
+        Fault::At(i) => tests_harness::answer(out, 8, i as u64),
+        Fault::Nowhere => passed(out, object, order, counts, array),
     }
 }
 
-fn passed(object: &[u8], order: &[u8], counts: OrderHeader, array: Addresses)
+fn passed(
+    out: &mut impl Write,
+    object: &[u8],
+    order: &[u8],
+    counts: OrderHeader,
+    array: Addresses,
+) -> io::Result<()>
     requires { SoundObject object.now × (reading (class_of object.now) order.now ≡ Reading.WellFormed counts) }
 {
     let symbols = placing_symbols::symbols_of(object);
@@ -98,52 +129,50 @@ fn passed(object: &[u8], order: &[u8], counts: OrderHeader, array: Addresses)
         &mut numbers,
         &mut states,
     );
-    tests_harness::answer(0, 0);
-    addresses(known, elf_read::section_count(object));
-    values(&numbers, &states, symbols.count);
+    tests_harness::answer(out, 0, 0)?;
+    addresses(out, known, elf_read::section_count(object))?;
+    values(out, &numbers, &states, symbols.count)
 }
 
 // The address of each of n sections, 0 where there is none. There are at most MAX_SECTIONS, so the `return` is never taken.
-fn addresses(array: Addresses, n: usize) {
+fn addresses(out: &mut impl Write, array: Addresses, n: usize) -> io::Result<()> {
     if MAX_SECTIONS < n {
-        return;
+        return Ok(());
     }
-    let mut i: usize = 0;
-    while i < n {
-        then(Address(array[i]));
-        i += 1;
+    for i in 0..n {
+        then(out, Address(array[i]))?;
     }
+    Ok(())
 }
 
 // The value of each of n symbols, and of three numbers past the table. There are at most MAX_SYMBOLS symbols, so the
 // `return` is never taken.
-fn values(numbers: &[u64], states: &[u8], n: usize)
+fn values(out: &mut impl Write, numbers: &[u64], states: &[u8], n: usize) -> io::Result<()>
     requires { ValueArrays numbers.now states.now }
 {
     if MAX_SYMBOLS < n {
-        return;
+        return Ok(());
     }
     let end = n as u32 + 3;
-    let mut k: u32 = 0;
-    while k < end {
-        print(placing_symbols::value_at(numbers, states, k));
-        k += 1;
+    for k in 0..end {
+        print(out, placing_symbols::value_at(numbers, states, k))?;
     }
+    Ok(())
 }
 
-fn print(value: SymbolValue) {
+fn print(out: &mut impl Write, value: SymbolValue) -> io::Result<()> {
     match value {
-        SymbolValue::Resolved(s) => then(s),
-        SymbolValue::Unresolved(reason) => unresolved(reason),
+        SymbolValue::Resolved(s) => then(out, s),
+        SymbolValue::Unresolved(reason) => unresolved(out, reason),
     }
 }
 
 // A minus, and the number of the reason.
-fn unresolved(reason: Reason) {
-    io::write_all(1, b" -");
-    io::print_decimal(1, reason_number(reason) as u64);
+fn unresolved(out: &mut impl Write, reason: Reason) -> io::Result<()> {
+    let number = reason_number(reason);
+    write!(out, " -{number}")
 }
 
-fn then(address: Address) {
-    tests_harness::then(address.0);
+fn then(out: &mut impl Write, address: Address) -> io::Result<()> {
+    tests_harness::then(out, address.0)
 }

@@ -1,5 +1,7 @@
 // The lines: their letter and, for a window, what check 3 says.
 use numbers_definitions::{Address, Class};
+use std::io;
+use std::io::Write;
 
 // The letter of a line about an order or a window: for class 1 a small one, for class 2 a capital one.
 pub fn letter(class: Class, small: u8, capital: u8) -> u8 {
@@ -9,21 +11,20 @@ pub fn letter(class: Class, small: u8, capital: u8) -> u8 {
     }
 }
 
-// Document 01's number and place, after the letter.
-pub fn answer(kind: u8, number: u64, place: u64) {
-    let text = [kind, b' '];
-    io::write_all(1, &text);
-    tests_harness::answer(number, place);
+// The number and the place of an answer, after the letter.
+pub fn answer(out: &mut impl Write, kind: u8, number: u64, place: u64) -> io::Result<()> {
+    out.write_all(&[kind, b' '])?;
+    tests_harness::answer(out, number, place)
 }
 
 // w and W: check 3 of an install, then check 3 of a rollback.
-pub fn window(class: Class, base: Address, length: usize) {
+pub fn window(out: &mut impl Write, class: Class, base: Address, length: usize) -> io::Result<()> {
     let install = number(order_format::window_allowed(class, base, length));
-    answer(letter(class, b'w', b'W'), install, 0);
-    tests_harness::then(number(order_format::length_allowed(length)));
-    tests_harness::then(base.0);
-    tests_harness::then(length as u64);
-    tests_harness::end();
+    answer(out, letter(class, b'w', b'W'), install, 0)?;
+    tests_harness::then(out, number(order_format::length_allowed(length)))?;
+    tests_harness::then(out, base.0)?;
+    tests_harness::then(out, length as u64)?;
+    tests_harness::end(out)
 }
 
 fn number(is_allowed: bool) -> u64 {

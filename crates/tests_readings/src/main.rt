@@ -12,33 +12,49 @@ mod objects;
 mod orders;
 
 use numbers_definitions::{Address, Class};
+use std::io;
+use std::io::{BufReader, BufWriter, Read, Write};
 use tests_harness::Command;
 
-fn main() {
-    let mut space = [0u8; 1_048_640];
-    let first = tests_harness::next();
-    run(&mut space, first.a);
+fn main(rt: HostRuntime) -> io::Result<()> {
+    let alloc = rt.alloc();
+    let mut input = BufReader::new(alloc, rt.reader())?;
+    let mut out = BufWriter::new(alloc, io::writer(&rt))?;
+    let mut space = vec![in alloc; 0u8; 1_048_640]?;
+    let first = tests_harness::next(&mut input)?;
+    run(&mut input, &mut out, &mut space, first.a)?;
+    out.flush()
 }
 
-fn run(space: &mut [u8], count: u32) {
-    let mut i: u32 = 0;
-    while i < count {
-        step(space, tests_harness::next());
-        i += 1;
+fn run(
+    input: &mut impl Read,
+    out: &mut impl Write,
+    space: &mut [u8],
+    count: u32,
+) -> io::Result<()> {
+    for _ in 0..count {
+        let command = tests_harness::next(input)?;
+        step(input, out, space, command)?;
     }
+    Ok(())
 }
 
-fn step(space: &mut [u8], c: Command) {
+fn step(
+    input: &mut impl Read,
+    out: &mut impl Write,
+    space: &mut [u8],
+    c: Command,
+) -> io::Result<()> {
     let a = c.a as usize;
     let b = c.b as usize;
     let letter = c.letter;
     match letter {
-        b's' => tests_harness::store(space, a, b),
-        b'o' => object(space, a),
-        b'r' => order(Class::Elf32, space, a),
-        b'R' => order(Class::Elf64, space, a),
-        b'w' => lines::window(Class::Elf32, base(c.a, c.c), b),
-        _ => lines::window(Class::Elf64, base(c.a, c.c), b),
+        b's' => tests_harness::store(input, space, a, b),
+        b'o' => object(out, space, a),
+        b'r' => order(out, Class::Elf32, space, a),
+        b'R' => order(out, Class::Elf64, space, a),
+        b'w' => lines::window(out, Class::Elf32, base(c.a, c.c), b),
+        _ => lines::window(out, Class::Elf64, base(c.a, c.c), b),
     }
 }
 
@@ -47,14 +63,16 @@ fn base(low: u32, high: u32) -> Address {
     Address(low as u64 + 4294967296 * high as u64)
 }
 
-fn object(space: &[u8], length: usize) {
+fn object(out: &mut impl Write, space: &[u8], length: usize) -> io::Result<()> {
     if length <= space.len() {
-        objects::line(&space[0..length]);
+        return objects::line(out, &space[0..length]);
     }
+    Ok(())
 }
 
-fn order(class: Class, space: &[u8], length: usize) {
+fn order(out: &mut impl Write, class: Class, space: &[u8], length: usize) -> io::Result<()> {
     if length <= space.len() {
-        orders::line(class, &space[0..length]);
+        return orders::line(out, class, &space[0..length]);
     }
+    Ok(())
 }

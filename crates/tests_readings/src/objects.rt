@@ -10,54 +10,56 @@ ghost use Rattle.elf_check.specs.Requires.{SoundObject};
 use super::{digest, lines};
 use elf_check::SectionCheck;
 use elf_read::Section;
+use std::io;
+use std::io::Write;
 
-pub fn line(s: &[u8]) {
+pub fn line(out: &mut impl Write, s: &[u8]) -> io::Result<()> {
     if elf_header::check_header(s) {
-        check_sections(s);
+        check_sections(out, s)?;
     } else {
-        lines::answer(b'o', 4, 0);
+        lines::answer(out, b'o', 4, 0)?;
     }
-    tests_harness::end();
+    tests_harness::end(out)
 }
 
-fn check_sections(s: &[u8])
+fn check_sections(out: &mut impl Write, s: &[u8]) -> io::Result<()>
     requires { header_allowed s.now ≡ true }
 {
     match elf_check::check_sections(s) {
-        SectionCheck::Sound => passed(s),
-        SectionCheck::Broken(i) => lines::answer(b'o', 5, i as u64),
+        SectionCheck::Sound => passed(out, s),
+        SectionCheck::Broken(i) => lines::answer(out, b'o', 5, i as u64),
     }
 }
 
-fn passed(s: &[u8])
+fn passed(out: &mut impl Write, s: &[u8]) -> io::Result<()>
     requires { SoundObject s.now }
 {
-    lines::answer(b'o', 0, 0);
-    sections(s);
-    entries(s);
+    lines::answer(out, b'o', 0, 0)?;
+    sections(out, s)?;
+    entries(out, s)
 }
 
 // How many sections there are, and their headers, roles and bytes.
-fn sections(s: &[u8])
+fn sections(out: &mut impl Write, s: &[u8]) -> io::Result<()>
     requires { SoundObject s.now }
 {
-    tests_harness::then(elf_read::section_count(s) as u64);
-    tests_harness::then(headers(s));
-    tests_harness::then(roles(s));
-    tests_harness::then(bodies(s));
+    tests_harness::then(out, elf_read::section_count(s) as u64)?;
+    tests_harness::then(out, headers(s))?;
+    tests_harness::then(out, roles(s))?;
+    tests_harness::then(out, bodies(s))
 }
 
 // The symbol table and the symbols; how many relocations there are, where they are, and the relocations themselves.
-fn entries(s: &[u8])
+fn entries(out: &mut impl Write, s: &[u8]) -> io::Result<()>
     requires { SoundObject s.now }
 {
     let n = elf_read::section_count(s);
-    tests_harness::then(elf_read::symbol_table(s) as u64);
-    tests_harness::then(elf_read::symbol_count(s) as u64);
-    tests_harness::then(symbols(s));
-    tests_harness::then(elf_read::relocations_below(s, n) as u64);
-    tests_harness::then(locations(s));
-    tests_harness::then(relocations(s));
+    tests_harness::then(out, elf_read::symbol_table(s) as u64)?;
+    tests_harness::then(out, elf_read::symbol_count(s) as u64)?;
+    tests_harness::then(out, symbols(s))?;
+    tests_harness::then(out, elf_read::relocations_below(s, n) as u64)?;
+    tests_harness::then(out, locations(s))?;
+    tests_harness::then(out, relocations(s))
 }
 
 fn headers(s: &[u8]) -> u64

@@ -7,38 +7,40 @@ use elf_read::MAX_SECTIONS;
 use numbers_definitions::Class;
 use order_format::{OrderHeader, Reading};
 use order_lookup::{Addresses, Value};
+use std::io;
+use std::io::Write;
 
-pub fn line(class: Class, s: &[u8]) {
+pub fn line(out: &mut impl Write, class: Class, s: &[u8]) -> io::Result<()> {
     match order_format::read_order(class, s) {
-        Reading::Malformed => lines::answer(lines::letter(class, b'r', b'R'), 2, 0),
-        Reading::WellFormed(counts) => well_formed(class, s, counts),
-    }
-    tests_harness::end();
+        Reading::Malformed => lines::answer(out, lines::letter(class, b'r', b'R'), 2, 0),
+        Reading::WellFormed(counts) => well_formed(out, class, s, counts),
+    }?;
+    tests_harness::end(out)
 }
 
-fn well_formed(class: Class, s: &[u8], counts: OrderHeader)
+fn well_formed(out: &mut impl Write, class: Class, s: &[u8], counts: OrderHeader) -> io::Result<()>
     requires { reading class s.now ≡ Reading.WellFormed counts }
 {
-    lines::answer(lines::letter(class, b'r', b'R'), 0, 0);
-    tests_harness::then(counts.base.0);
-    tests_harness::then(counts.placements as u64);
-    tests_harness::then(counts.externals as u64);
-    digests(class, s, counts);
+    lines::answer(out, lines::letter(class, b'r', b'R'), 0, 0)?;
+    tests_harness::then(out, counts.base.0)?;
+    tests_harness::then(out, counts.placements as u64)?;
+    tests_harness::then(out, counts.externals as u64)?;
+    digests(out, class, s, counts)
 }
 
 // Both lists; the array; and the values of numbers that are in the lists and of numbers that are not.
-fn digests(class: Class, s: &[u8], counts: OrderHeader)
+fn digests(out: &mut impl Write, class: Class, s: &[u8], counts: OrderHeader) -> io::Result<()>
     requires { reading class s.now ≡ Reading.WellFormed counts }
 {
     let first = order_format::placements_start(class);
     let start = order_format::externals_start(class, counts.placements);
-    tests_harness::then(entries(class, s, first, counts.placements));
-    tests_harness::then(entries(class, s, start, counts.externals));
+    tests_harness::then(out, entries(class, s, first, counts.placements))?;
+    tests_harness::then(out, entries(class, s, start, counts.externals))?;
     let array = order_lookup::fill_addresses(class, [0u64; MAX_SECTIONS], s, counts);
-    tests_harness::then(addresses(array));
-    tests_harness::then(low_values(class, s, counts));
-    tests_harness::then(near_values(class, s, counts, first, counts.placements));
-    tests_harness::then(near_values(class, s, counts, start, counts.externals));
+    tests_harness::then(out, addresses(array))?;
+    tests_harness::then(out, low_values(class, s, counts))?;
+    tests_harness::then(out, near_values(class, s, counts, first, counts.placements))?;
+    tests_harness::then(out, near_values(class, s, counts, start, counts.externals))
 }
 
 fn entries(class: Class, s: &[u8], at: usize, n: usize) -> u64

@@ -1,17 +1,11 @@
 // A section's number in decimal and its bytes in hexadecimal.
+use std::io;
+use std::io::Write;
 
-pub fn section(t: usize, bytes: &[u8]) {
-    io::write_all(1, b" ");
-    io::print_decimal(1, t as u64);
-    io::write_all(1, b" ");
-    let n = bytes.len();
-    let mut i: usize = 0;
-    while i < n {
-        byte(bytes[i]);
-        i += 1;
+pub fn section(out: &mut impl Write, t: usize, bytes: &[u8]) -> io::Result<()> {
+    write!(out, " {t} ")?;
+    for &byte in bytes {
+        write!(out, "{byte:02x}")?;
     }
-}
-
-fn byte(b: u8) {
-    io::print_hex(1, b as u64, 2);
+    Ok(())
 }

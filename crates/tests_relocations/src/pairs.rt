@@ -16,48 +16,63 @@ use elf_header::MAX_OBJECT;
 use elf_read::MAX_SECTIONS;
 use order_format::{OrderHeader, Reading};
 use order_lookup::Addresses;
+use std::io;
+use std::io::Write;
 
-pub fn line(object: &[u8], order: &[u8], len: usize) {
+pub fn line(out: &mut impl Write, object: &[u8], order: &[u8], len: usize) -> io::Result<()> {
     if elf_header::check_header(object) {
-        read(object, order, len);
+        read(out, object, order, len)?;
     } else {
-        write(Answer::BadHeader);
+        write(out, Answer::BadHeader)?;
     }
-    tests_harness::end();
+    tests_harness::end(out)
 }
 
 // Check 2. The object's class says how the order is read.
-fn read(object: &[u8], order: &[u8], len: usize)
+fn read(out: &mut impl Write, object: &[u8], order: &[u8], len: usize) -> io::Result<()>
     requires { header_allowed object.now ≡ true }
 {
     match order_format::read_order(elf_read::class_of(object), order) {
-        Reading::Malformed => write(Answer::OrderMalformed),
-        Reading::WellFormed(counts) => judged(object, order, counts, len),
+        Reading::Malformed => write(out, Answer::OrderMalformed),
+        Reading::WellFormed(counts) => judged(out, object, order, counts, len),
     }
 }
 
-fn write(answer: Answer) {
+fn write(out: &mut impl Write, answer: Answer) -> io::Result<()> {
     let code = calls_judge::code_of(answer);
-    tests_harness::answer(code % 256, code / 4294967296);
-    io::write_all(1, b" ");
-    io::print_decimal(1, code / 256 % 256);
+    tests_harness::answer(out, code % 256, code / 4294967296)?;
+    let reason = code / 256 % 256;
+    write!(out, " {reason}")
 }
 
-fn judged(object: &[u8], order: &[u8], counts: OrderHeader, len: usize)
+fn judged(
+    out: &mut impl Write,
+    object: &[u8],
+    order: &[u8],
+    counts: OrderHeader,
+    len: usize,
+) -> io::Result<()>
     requires { (header_allowed object.now ≡ true) × (reading (class_of object.now) order.now ≡ Reading.WellFormed counts) }
 {
     let placed = calls_judge::judge_sections(object, order, counts, len, [0u64; MAX_SECTIONS]);
     let answer = placed.answer;
     if calls_judge::is_done(answer) {
         let array = placed.addresses;
-        relocations(object, order, counts, len, array);
+        relocations(out, object, order, counts, len, array)
     } else {
-        write(answer);
+        write(out, answer)
     }
 }
 
 // Checks 9 to 14.
-fn relocations(object: &[u8], order: &[u8], counts: OrderHeader, len: usize, array: Addresses)
+fn relocations(
+    out: &mut impl Write,
+    object: &[u8],
+    order: &[u8],
+    counts: OrderHeader,
+    len: usize,
+    array: Addresses,
+) -> io::Result<()>
     requires { Placeable object.now order.now counts len × (array ≡ addresses_for object.now order.now) }
 {
     let mut highs = [0u32; MAX_RELOCATIONS];
@@ -67,41 +82,50 @@ fn relocations(object: &[u8], order: &[u8], counts: OrderHeader, len: usize, arr
         object, order, counts, len, array, &mut highs, &mut words, &mut sizes,
     );
     let answer = judged.answer;
-    write(answer);
+    write(out, answer)?;
     if calls_judge::is_done(answer) {
         let known = judged.addresses;
-        passed(object, order, known, &words, &sizes);
+        passed(out, object, order, known, &words, &sizes)?;
     }
+    Ok(())
 }
 
 // The loaded sections, one after the other in the same room. Each finds there what those before it left.
-fn passed(object: &[u8], order: &[u8], array: Addresses, words: &[u64], sizes: &[u8])
+fn passed(
+    out: &mut impl Write,
+    object: &[u8],
+    order: &[u8],
+    array: Addresses,
+    words: &[u64],
+    sizes: &[u8],
+) -> io::Result<()>
     requires { Layable object.now order.now array words.now sizes.now }
 {
     let mut room = [0u8; MAX_OBJECT];
-    sections(object, order, array, words, sizes, &mut room);
+    sections(out, object, order, array, words, sizes, &mut room)
 }
 
 fn sections(
+    out: &mut impl Write,
     object: &[u8],
     order: &[u8],
     array: Addresses,
     words: &[u64],
     sizes: &[u8],
     room: &mut [u8],
-)
+) -> io::Result<()>
     requires { Layable object.now order.now array words.now sizes.now × (length room.old ≡ max_object) }
 {
     let n = elf_read::section_count(object);
-    let mut t: usize = 0;
-    while t < n {
-        section(object, order, array, words, sizes, t, room);
-        t += 1;
+    for t in 0..n {
+        section(out, object, order, array, words, sizes, t, room)?;
     }
+    Ok(())
 }
 
 // Section t, if it is loaded and has bytes.
 fn section(
+    out: &mut impl Write,
     object: &[u8],
     order: &[u8],
     array: Addresses,
@@ -109,12 +133,13 @@ fn section(
     sizes: &[u8],
     t: usize,
     room: &mut [u8],
-)
+) -> io::Result<()>
     requires { Layable object.now order.now array words.now sizes.now × (t < section_count object.now) × (length room.old ≡ max_object) }
 {
     let h = elf_read::read_section(object, t);
     if elf_read::is_loaded(h) & (0 < h.size) {
         lay(
+            out,
             object,
             order,
             array,
@@ -122,11 +147,13 @@ fn section(
             sizes,
             t,
             &mut room[0..h.size as usize],
-        );
+        )?;
     }
+    Ok(())
 }
 
 fn lay(
+    out: &mut impl Write,
     object: &[u8],
     order: &[u8],
     array: Addresses,
@@ -134,7 +161,7 @@ fn lay(
     sizes: &[u8],
     t: usize,
     part: &mut [u8],
-)
+) -> io::Result<()>
     requires { Layable object.now order.now array words.now sizes.now × (t < section_count object.now) × (loaded (section_at object.now t) ≡ true) × (length part.old ≡ (section_at object.now t).size) }
 {
     let mut relas = [0u32; MAX_SECTIONS];
@@ -143,5 +170,5 @@ fn lay(
     relocations_apply::lay_section(
         object, order, &array, words, sizes, &relas, &starts, t, part,
     );
-    lines::section(t, part);
+    lines::section(out, t, part)
 }

@@ -11,78 +11,99 @@ ghost use Rattle.std.specs.Prelude.{◌<◌, ◌^◌};
 
 use journal_undo::RolledBack;
 use plan_pieces::Span;
+use std::io;
+use std::io::{BufReader, BufWriter, Read, Write};
 
-fn main() {
-    let mut images = [0u8; 1_114_112];
-    let mut journals = [0u8; 1_114_112];
-    let image: &mut [u8] = &mut images;
-    let book: &mut [u8] = &mut journals;
-    let count = number();
-    let mut i: u32 = 0;
-    while i < count {
-        case(image, book);
-        i += 1;
+fn main(rt: HostRuntime) -> io::Result<()> {
+    let alloc = rt.alloc();
+    let mut input = BufReader::new(alloc, rt.reader())?;
+    let mut out = BufWriter::new(alloc, io::writer(&rt))?;
+    let mut images = vec![in alloc; 0u8; 1_114_112]?;
+    let mut journals = vec![in alloc; 0u8; 1_114_112]?;
+    let count = number(&mut input)?;
+    run(&mut input, &mut out, &mut images, &mut journals, count)?;
+    out.flush()
+}
+
+fn run(
+    input: &mut impl Read,
+    out: &mut impl Write,
+    images: &mut [u8],
+    journals: &mut [u8],
+    count: u32,
+) -> io::Result<()> {
+    for _ in 0..count {
+        case(input, out, images, journals)?;
     }
+    Ok(())
 }
 
 // The next four bytes of standard input, as a number.
-fn number() -> u32 {
+fn number(input: &mut impl Read) -> io::Result<u32> {
     let mut b = [0u8; 4];
-    let s: &mut [u8] = &mut b;
-    io::read_full(0, s);
-    numbers_bytes::read32(s, 0)
+    tests_harness::read_full(input, &mut b)?;
+    Ok(numbers_bytes::read32(&b, 0))
 }
 
 // One case, if the spaces are long enough for it.
-fn case(images: &mut [u8], journals: &mut [u8]) {
-    let kind = number();
-    let m = number() as usize;
-    let n = number() as usize;
-    let first = number() as usize;
-    let second = number() as usize;
-    let span = Span {
-        start: number(),
-        size: number(),
-    };
+fn case(
+    input: &mut impl Read,
+    out: &mut impl Write,
+    images: &mut [u8],
+    journals: &mut [u8],
+) -> io::Result<()> {
+    let kind = number(input)?;
+    let m = number(input)? as usize;
+    let n = number(input)? as usize;
+    let first = number(input)? as usize;
+    let second = number(input)? as usize;
+    let start = number(input)?;
+    let size = number(input)?;
+    let span = Span { start, size };
     if images.len() < m {
-        return;
+        return Ok(());
     }
     if journals.len() < n {
-        return;
+        return Ok(());
     }
     let image = &mut images[..m];
     let book = &mut journals[..n];
     if kind < 2 {
-        fill(image, first);
-        fill(book, second);
+        fill(input, image, first)?;
+        fill(input, book, second)?;
     }
-    answer(kind, image, book, span);
+    answer(out, kind, image, book, span)
 }
 
 // The line of a case.
-fn answer(kind: u32, image: &mut [u8], book: &mut [u8], span: Span) {
+fn answer(
+    out: &mut impl Write,
+    kind: u32,
+    image: &mut [u8],
+    book: &mut [u8],
+    span: Span,
+) -> io::Result<()> {
     if kind == 1 {
         let number = saved(image, book, span);
-        line(number, checksum(image), checksum(book));
+        line(out, number, checksum(image), checksum(book))
     } else {
         let number = rolled_back(image, book);
-        line(number, checksum(image), checksum(book));
+        line(out, number, checksum(image), checksum(book))
     }
 }
 
 // The first bytes from standard input, the others by their places.
-fn fill(s: &mut [u8], given: usize) {
-    let mut i: usize = 0;
-    while i < s.len() {
+fn fill(input: &mut impl Read, s: &mut [u8], given: usize) -> io::Result<()> {
+    for i in 0..s.len() {
         s[i] = (i % 251) as u8;
-        i += 1;
     }
     if given <= s.len() {
-        io::read_full(0, &mut s[..given]);
+        tests_harness::read_full(input, &mut s[..given])?;
     }
+    Ok(())
 }
 
-// Document 01's number of a rollback.
+// The number of a rollback's answer.
 fn rolled_back(image: &mut [u8], book: &mut [u8]) -> u64 {
     match journal_undo::rollback(image, book) {
         RolledBack::Done => 0,
@@ -92,7 +113,7 @@ fn rolled_back(image: &mut [u8], book: &mut [u8]) -> u64 {
     }
 }
 
-// Document 01's number of a save, after the checks of an install. 255 stands for a span outside the image.
+// The number of a save's answer, after the checks of an install. 255 stands for a span outside the image.
 fn saved(image: &[u8], book: &mut [u8], span: Span) -> u64 {
     if !journal_format::is_sound(book, image.len()) {
         return 1;
@@ -129,11 +150,6 @@ fn wide(b: u8) -> u64
     b as u64
 }
 
-fn line(answer: u64, image: u64, book: u64) {
-    io::print_decimal(1, answer);
-    io::write_all(1, b" ");
-    io::print_hex(1, image, 8);
-    io::write_all(1, b" ");
-    io::print_hex(1, book, 8);
-    io::write_all(1, b"\n");
+fn line(out: &mut impl Write, answer: u64, image: u64, book: u64) -> io::Result<()> {
+    writeln!(out, "{answer} {image:08x} {book:08x}")
 }

@@ -8,14 +8,23 @@ use std::path::{Path, PathBuf};
 use std::process::{Command, Output};
 
 /// What rt writes, in short.
-const WRITTEN: &str = "library std: modules loaded=0 checked=0
-rt: numbers_definitions proved (2 s)
+const WRITTEN: &str = "== numbers_definitions
+statements std: modules loaded=0 checked=0
+logic=proved functions=0 sum=dac8208d650f15bf
+rt: numbers_definitions proved
 fn program_modes::ask: proved
-rt: program_modes proved (unchanged since it was last proved)
-rt: numbers_bytes proved (17 s)
-rt: order_format NOT PROVED (exit 1, 11 s)
-rt: must-fail numbers_bytes/one: refused, as it must be (first at proofs/a/Proof.antt:8:3; 24 s)
-rt: must-fail numbers_bytes/two: NOT REFUSED
+rt: program_modes is kept: an earlier run on this machine proved the same files over the same libraries
+rt: numbers_bytes: its tests are proved
+crate numbers_bytes: modules loaded=34 checked=2
+logic=proved functions=7 sum=dac8208d650f15bf
+rt: numbers_bytes proved
+rt: numbers_bytes: trying its must-fail edits (3)
+crate order_format: modules loaded=34 checked=2
+logic=not-proved
+rt: order_format NOT PROVED
+rt: must-fail numbers_bytes/one.edit: refused, as it must be: proofs/a/Answers.antt:8:3: error
+rt: must-fail numbers_bytes/two.edit: NOT REFUSED: the crate is still proved with this edit
+rt: must-fail numbers_bytes/three.edit: BAD EDIT: an 'old:' text is in src/lib.rt 0 times, and not once
 3 passed, 2 failed
 ";
 
@@ -69,9 +78,9 @@ sys.exit(os.WEXITSTATUS(os.waitpid(child, 0)[1]))";
         let edits: u32 = edits.expect("a count").0.parse().expect("a number");
         assert!(edits > 100, "{shown}");
         let expected = format!(
-            "1 of {count}, numbers_definitions, 2 s\n\
-             3 of {count}, numbers_bytes, 17 s\n\
-             edit 1 of {edits}, numbers_bytes/one, 24 s\n"
+            "1 of {count}, numbers_definitions\n\
+             3 of {count}, numbers_bytes\n\
+             edit 1 of {edits}, numbers_bytes/one.edit\n"
         );
         assert_eq!(shown, expected);
         let copied = std::fs::read_to_string(&copy).expect("the copy");
@@ -93,6 +102,7 @@ fn a_demo_of_what_is_not_proved() {
     let path = format!("{}:{path}", folder.display());
     let mut demo = Command::new("bash");
     demo.arg("demo").current_dir(root()).env("PATH", path);
+    demo.env_remove("AKTINOPH_PROGRAM");
     let output = demo.output().expect("bash starts");
     assert_eq!(output.status.code(), Some(1));
     let shown = String::from_utf8_lossy(&output.stdout);

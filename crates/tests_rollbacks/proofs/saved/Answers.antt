@@ -1,7 +1,7 @@
 -- `tests_rollbacks::saved` is safe and ends.
 use mathlib.Core.Path.{sym, ◌∙◌}
 use native.Mathlib.Omega.{arith}
-use borrow.Author.Tests.{not-true, not-false}
+use borrow.Author.Tests.{not-true}
 use Rattle.journal_history.proofs.Laws.Install.{savable}
 use Rattle.tests_rollbacks.proofs.saved.Goals as goal
 

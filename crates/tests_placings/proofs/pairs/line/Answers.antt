@@ -3,4 +3,4 @@ use mathlib.Core.Path.{sym, ◌∙◌}
 use Rattle.tests_placings.proofs.pairs.line.Goals as goal
 
 pub read-requires : goal.read-requires
-read-requires c = sym c.check_header.ensures ∙ c.if-check_header.true
+read-requires g c = sym c.check_header.ensures ∙ c.if-check_header.true

@@ -6,8 +6,8 @@ use Rattle.placing_symbols.proofs.Laws.Arrays.{blank}
 use Rattle.tests_placings.proofs.pairs.passed.Goals as goal
 
 pub symbol_values-known-requires : goal.symbol_values-known-requires
-symbol_values-known-requires c =
+symbol_values-known-requires g c =
     (c.requires.0, c.requires.1, c.symbols_of-symbols.ensures, blank c.args.object.now max_symbols (omega arith) (symbols_few c.args.object.now c.requires.0))
 
 pub values-requires : goal.values-requires
-values-requires c = c.symbol_values-known.ensures.1.long.arrays
+values-requires g c = c.symbol_values-known.ensures.1.long.arrays

@@ -6,8 +6,8 @@ use borrow.Author.Rules.{rules}
 use Rattle.tests_placings.proofs.pairs.placing.Goals as goal
 
 pub class_of-requires : goal.class_of-requires
-class_of-requires c = header_there _ c.requires.0.table.header
+class_of-requires g c = header_there _ c.requires.0.table.header
 
 pub fill_addresses-given-requires : goal.fill_addresses-given-requires
-fill_addresses-given-requires c =
+fill_addresses-given-requires g c =
     (search rules, ap (λ k. reading k c.args.order.now) c.class_of.ensures ∙ c.requires.1)

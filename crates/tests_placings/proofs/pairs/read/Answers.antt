@@ -6,8 +6,8 @@ use Rattle.order_format.specs.Orders.{reading}
 use Rattle.tests_placings.proofs.pairs.read.Goals as goal
 
 pub class_of-requires : goal.class_of-requires
-class_of-requires c = header_there _ (header_long _ c.requires)
+class_of-requires g c = header_there _ (header_long _ c.requires)
 
 pub sections-requires : goal.sections-requires
-sections-requires c =
+sections-requires g c =
     (c.requires, ap (λ k. reading k c.args.order.now) (sym c.class_of.ensures) ∙ sym c.read_order.ensures ∙ c.in-WellFormed.is)

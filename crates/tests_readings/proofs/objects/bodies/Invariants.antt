@@ -1,5 +1,5 @@
 -- `tests_readings::objects::bodies` is safe and ends. The loop's invariant: `i` is at most `n`. The measure is what is left of it.
-use Rattle.std.proofs.Common.{◌-◌, ◌≤◌, rules}
+use Rattle.std.proofs.Common.{◌-◌, ◌≤◌}
 use Rattle.tests_readings.proofs.objects.bodies.Given as goal
 
 abbrev pub invariant-loop-i : goal.invariant-loop-i

@@ -1,6 +1,5 @@
 -- `tests_readings::objects::body` is safe and ends.
-use Rattle.std.proofs.Common.{sym, ◌∙◌, rules, leb-true}
-use borrow.Author.Tests.{not-false}
+use Rattle.std.proofs.Common.{sym, ◌∙◌, leb-true}
 use Rattle.tests_readings.proofs.objects.body.Goals as goal
 
 pub section_bytes-requires : goal.section_bytes-requires

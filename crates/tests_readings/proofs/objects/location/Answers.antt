@@ -1,5 +1,5 @@
 -- `tests_readings::objects::location` is safe and ends.
-use Rattle.std.proofs.Common.{arith, rules}
+use Rattle.std.proofs.Common.{arith}
 use Rattle.elf_check.proofs.Laws.Bounds.{relocations_few}
 use Rattle.tests_readings.proofs.objects.location.Goals as goal
 

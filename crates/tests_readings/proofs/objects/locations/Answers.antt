@@ -1,5 +1,5 @@
 -- `tests_readings::objects::locations` meets its contract.
-use Rattle.std.proofs.Common.{◌+◌, ◌-◌, ◌≤◌, arith, rules}
+use Rattle.std.proofs.Common.{◌+◌, ◌≤◌, arith}
 use Rattle.elf_read.specs.Headers.{section_count}
 use Rattle.elf_check.proofs.Laws.Bounds.{few_below}
 use Rattle.tests_readings.proofs.objects.locations.Goals as goal

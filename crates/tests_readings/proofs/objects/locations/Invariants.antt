@@ -1,7 +1,5 @@
 -- `tests_readings::objects::locations` is safe and ends. The loop's invariant: `i` is at most `n`. The measure is what is left of it.
-use Rattle.std.proofs.Common.{◌+◌, ◌-◌, ◌≤◌, arith, rules}
-use Rattle.elf_read.specs.Headers.{section_count}
-use Rattle.elf_check.proofs.Laws.Bounds.{few_below}
+use Rattle.std.proofs.Common.{◌-◌, ◌≤◌}
 use Rattle.tests_readings.proofs.objects.locations.Given as goal
 
 abbrev pub invariant-loop-i : goal.invariant-loop-i

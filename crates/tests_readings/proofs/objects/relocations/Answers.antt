@@ -1,5 +1,5 @@
 -- `tests_readings::objects::relocations` meets its contract.
-use Rattle.std.proofs.Common.{◌-◌, ◌≤◌, sym, ◌∙◌, arith, rules}
+use Rattle.std.proofs.Common.{sym, ◌∙◌, arith}
 use Rattle.elf_check.proofs.Laws.Bounds.{rela_inside}
 use Rattle.tests_readings.proofs.objects.relocations.Goals as goal
 

@@ -1,6 +1,5 @@
 -- `tests_readings::objects::relocations` is safe and ends. The loop's invariant: `i` is at most `n`. The measure is what is left of it.
-use Rattle.std.proofs.Common.{◌-◌, ◌≤◌, sym, ◌∙◌, arith, rules}
-use Rattle.elf_check.proofs.Laws.Bounds.{rela_inside}
+use Rattle.std.proofs.Common.{◌-◌, ◌≤◌}
 use Rattle.tests_readings.proofs.objects.relocations.Given as goal
 
 abbrev pub invariant-loop-i : goal.invariant-loop-i

@@ -1,5 +1,5 @@
 -- `tests_readings::objects::relocations_in` is safe and ends. The loop's invariant: `k` is at most `n`. The measure is what is left of it.
-use Rattle.std.proofs.Common.{◌-◌, ◌≤◌, rules}
+use Rattle.std.proofs.Common.{◌-◌, ◌≤◌}
 use Rattle.tests_readings.proofs.objects.relocations_in.Given as goal
 
 abbrev pub invariant-loop-k : goal.invariant-loop-k

@@ -1,5 +1,5 @@
 -- `tests_readings::objects::symbols` meets its contract.
-use Rattle.std.proofs.Common.{◌-◌, ◌≤◌, ap, ◌∙◌, arith, rules}
+use Rattle.std.proofs.Common.{ap, ◌∙◌, arith}
 use Rattle.elf_read.specs.Sections.{section_at}
 use Rattle.elf_check.proofs.Laws.Bounds.{symbol_inside}
 use Rattle.tests_readings.proofs.objects.symbols.Goals as goal

@@ -1,7 +1,5 @@
 -- `tests_readings::objects::symbols` is safe and ends. The loop's invariant: `k` is at most `n`. The measure is what is left of it.
-use Rattle.std.proofs.Common.{◌-◌, ◌≤◌, ap, ◌∙◌, arith, rules}
-use Rattle.elf_read.specs.Sections.{section_at}
-use Rattle.elf_check.proofs.Laws.Bounds.{symbol_inside}
+use Rattle.std.proofs.Common.{◌-◌, ◌≤◌}
 use Rattle.tests_readings.proofs.objects.symbols.Given as goal
 
 abbrev pub invariant-loop-k : goal.invariant-loop-k

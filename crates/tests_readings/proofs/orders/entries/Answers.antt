@@ -1,5 +1,5 @@
 -- `tests_readings::orders::entries` meets its contract.
-use Rattle.std.proofs.Common.{◌-◌, ◌≤◌, arith, rules}
+use Rattle.std.proofs.Common.{arith}
 use Rattle.order_format.proofs.Laws.Sizes.{entry_inside}
 use Rattle.tests_readings.proofs.orders.entries.Goals as goal
 

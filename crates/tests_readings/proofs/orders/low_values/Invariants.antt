@@ -1,5 +1,5 @@
 -- `tests_readings::orders::low_values` is safe and ends. The loop's invariant: `k` is at most 130. The measure is what is left of it.
-use Rattle.std.proofs.Common.{◌-◌, ◌≤◌, rules}
+use Rattle.std.proofs.Common.{◌-◌, ◌≤◌}
 use Rattle.tests_readings.proofs.orders.low_values.Given as goal
 
 abbrev pub invariant-loop-k : goal.invariant-loop-k

@@ -1,6 +1,5 @@
 -- `tests_readings::orders::near_values` is safe and ends. The loop's invariant: `i` is at most `n`. The measure is what is left of it.
-use Rattle.std.proofs.Common.{◌-◌, ◌≤◌, arith, rules}
-use Rattle.order_format.proofs.Laws.Sizes.{entry_inside}
+use Rattle.std.proofs.Common.{◌-◌, ◌≤◌}
 use Rattle.tests_readings.proofs.orders.near_values.Given as goal
 
 abbrev pub invariant-loop-i : goal.invariant-loop-i

@@ -8,12 +8,12 @@ use Rattle.relocations_apply.proofs.Laws.Relas.{blank}
 use Rattle.tests_relocations.proofs.pairs.lay.Goals as goal
 
 pub index_relas-requires : goal.index_relas-requires
-index_relas-requires c =
+index_relas-requires g c =
     let f = c.requires.0.sound in
     (f, blank c.args.object.now max_sections f.table.few, zeros_at max_sections)
 
 pub lay_section-requires : goal.lay_section-requires
-lay_section-requires c =
+lay_section-requires g c =
     let f = c.requires.0 in
     let few : section_count c.args.object.now ≤ max_sections = f.sound.table.few in
     let long : section_count c.args.object.now ≤ length c.args.array = omega (arith, few) in

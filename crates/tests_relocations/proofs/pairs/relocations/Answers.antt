@@ -11,12 +11,12 @@ use native.Mathlib.Omega.{arith}
 use Rattle.tests_relocations.proofs.pairs.relocations.Goals as goal
 
 pub judge_relocations-judged-requires : goal.judge_relocations-judged-requires
-judge_relocations-judged-requires c =
+judge_relocations-judged-requires g c =
     let r = c.requires.0.named.readable in
     (c.requires.0, c.requires.1, lent c.args.object.now max_relocations (relocations_few _ (sound_object _ r.header r.sections)) (omega arith))
 
 pub passed-requires : goal.passed-requires
-passed-requires c =
+passed-requires g c =
     let a = c.args in
     let done = sym c.is_done.ensures ∙ c.if-is_done.true in
     let ready = c.judge_relocations-judged.ensures.ready done in

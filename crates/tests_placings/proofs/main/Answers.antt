@@ -1,8 +1,0 @@
--- `tests_placings::main` is safe and ends.
-use mathlib.Core.Path.{sym}
-use Prim.Native.Nat.{ℕ}
-use lib.ListN.{length-replicate}
-use Rattle.tests_placings.proofs.main.Goals as goal
-
-pub slice_bounds-run-end : goal.slice_bounds-run-end
-slice_bounds-run-end c = sym (length-replicate {A = ℕ} 1151040 0)

@@ -1,9 +1,0 @@
--- `tests_readings::run` is safe and ends. The loop's invariant: `i` is at most `count`, and the space keeps its length. The measure is how many commands are left.
-use Rattle.std.proofs.Common.{◌≡◌, ◌-◌, ◌≤◌, length, rules}
-use Rattle.tests_readings.proofs.run.Given as goal
-
-abbrev pub invariant-loop-i : goal.invariant-loop-i
-invariant-loop-i l = (l.i ≤ l.count) × (length l.space ≡ length l.initial.space)
-
-abbrev pub decreases-loop-i : goal.decreases-loop-i
-decreases-loop-i l = l.count - l.i

@@ -1,9 +1,0 @@
--- `tests_relocations::lines::section` is safe and ends. The loop's invariant: `i` is at most `n`. The measure is what is left of it.
-use Prim.Native.Nat.{◌≤◌, ◌-◌}
-use Rattle.tests_relocations.proofs.lines.section.Given as goal
-
-abbrev pub invariant-loop-i : goal.invariant-loop-i
-invariant-loop-i l = l.i ≤ l.n
-
-abbrev pub decreases-loop-i : goal.decreases-loop-i
-decreases-loop-i l = l.n - l.i
