@@ -19,8 +19,8 @@ abbrev pub invariant-loop-i : goal.invariant-loop-i
 invariant-loop-i l =
     (l.i ≤ l.n)
     × (l.at ≡ call_start l.calls l.i)
-    × (record { l.image = l.image; journal = l.ledger } ≡ left_by our_install our_rollback l.calls (record { l.image = l.initial.image; journal = l.initial.ledger }) l.i)
-    × (l.answers ≡ sets l.initial.answers 0 (codes_of our_install our_rollback l.calls (record { l.image = l.initial.image; journal = l.initial.ledger }) l.i))
+    × (record { image = l.image; journal = l.ledger } ≡ left_by our_install our_rollback l.calls (record { image = l.initial.image; journal = l.initial.ledger }) l.i)
+    × (l.answers ≡ sets l.initial.answers 0 (codes_of our_install our_rollback l.calls (record { image = l.initial.image; journal = l.initial.ledger }) l.i))
     × (length l.image ≡ length l.initial.image)
     × (length l.ledger ≡ length l.initial.ledger)
 
