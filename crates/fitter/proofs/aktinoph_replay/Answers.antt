@@ -18,15 +18,18 @@ replay_list-requires c =
 pub returns-in-Malformed : goal.returns-in-Malformed
 returns-in-Malformed c =
     let a = c.args in
-    let s = a.calls.now in (
-      not_run our_install our_rollback s a.answers.now (record { image = a.image.now; journal = a.ledger.now })
-          (malformed_is (is_list s) (call_count s) (sym c.read_list.ensures ∙ c.in-Malformed.is)),
-      λ e. absurd (omega (arith, e)),
-    )
+    let s = a.calls.now in
+    record {
+      ledger_after =
+          not_run our_install our_rollback s a.answers.now (record { image = a.image.now; journal = a.ledger.now })
+          (malformed_is (is_list s) (call_count s) (sym c.read_list.ensures ∙ c.in-Malformed.is));
+      demand3of = λ e. absurd (omega (arith, e));
+    }
 
 pub returns-in-Calls : goal.returns-in-Calls
 returns-in-Calls c =
-    let a = c.args in (
-      c.replay_list.ensures,
-      λ e start. replay_holds a.calls.now a.answers.now (record { image = a.image.now; journal = a.ledger.now }) start _ _ _ c.replay_list.ensures e,
-    )
+    let a = c.args in
+    record {
+      ledger_after = c.replay_list.ensures;
+      demand3of = λ e start. replay_holds a.calls.now a.answers.now (record { image = a.image.now; journal = a.ledger.now }) start _ _ _ c.replay_list.ensures e;
+    }

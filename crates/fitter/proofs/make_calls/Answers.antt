@@ -52,8 +52,8 @@ loop-i-preserved c =
       c.call_end-at.ensures ∙ ap (call_end s) inv.1 ∙ sym (start_next s i),
       left_made our_install our_rollback s start i c.loop-i.at here inv.1 inv.2 _ c.make_call.ensures.left_is,
       codes_made our_install our_rollback s start i c.loop-i.at here inv.1 inv.2 a.answers.now c.loop-i.answers _ inv.3 c.make_call.ensures.code_is,
-      c.make_call.kept.1.1.0 ∙ inv.4,
-      c.make_call.kept.1.1.1.0 ∙ inv.5,
+      c.make_call.auto.image ∙ inv.4,
+      c.make_call.auto.ledger ∙ inv.5,
     )
 
 pub shape_of-image : goal.shape_of-image
