@@ -7,7 +7,7 @@
 --     old bytes    k bytes                          at 136
 --
 -- "A start counts from the image's first byte." A span's length is its `size`.
-use Rattle.std.specs.Prelude.{◌≡◌, ℕ, ◌+◌, ◌-◌, ◌*◌, ◌≤◌, ◌<◌, Bool, ◌&&◌, ◌||◌, List, [], ◌∷◌, ◌++◌, length, leb, ltb, eqb}
+use Rattle.std.specs.Prelude.{◌≡◌, ℕ, ◌+◌, ◌*◌, ◌≤◌, ◌<◌, Bool, ◌&&◌, ◌||◌, List, [], ◌∷◌, ◌++◌, length, leb, ltb, eqb}
 use Rattle.numbers_definitions.specs.Bytes.{le_at, bytes}
 use Rattle.numbers_definitions.specs.First.{everywhere, tabulate}
 use Rattle.plan_pieces.specs.declared.Span.{Span}

@@ -13,7 +13,7 @@ use Rattle.numbers_definitions.proofs.Laws.Bytes.{Bytes, bytes_le_at}
 use Rattle.numbers_definitions.proofs.Laws.First.{length_tabulate, tabulate_snoc}
 use Rattle.numbers_definitions.proofs.Laws.Lists.{length_part, part_append, part_whole}
 use Rattle.numbers_definitions.proofs.Laws.Tests.{and_left, or_right}
-use Rattle.journal_history.specs.Calls.{Call, Install, Rollback}
+use Rattle.journal_history.specs.Calls.{Call}
 use Rattle.calls_replay.specs.Lists.{FIT, TAKE_BACK, counted, encode_call, encode_calls, encode, call_count, kind_at, object_length, order_length, call_end, is_call, call_at, call_start, is_list, calls_of}
 use Rattle.calls_replay.specs.Requires.{first_calls}
 use Rattle.calls_replay.proofs.Laws.Lists.{end_of_fit, end_of_other, ends_inside, end_above, start_above, list_call, list_end}

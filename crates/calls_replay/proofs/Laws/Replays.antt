@@ -6,7 +6,6 @@ use Prim.Native.Nat.{ℕ, suc, ◌+◌, ◌≤◌, ◌<◌}
 use native.Mathlib.Numerals.{add-one}
 use native.Mathlib.Omega.{arith}
 use lib.ListN.{length, set}
-use lib.Dec.{leb}
 use lib.Seq.{sets}
 use borrow.Author.Tests.{le-leb, lt-leb, eq-eqb, ne_eqb}
 use Rattle.numbers_definitions.specs.Bytes.{part}
@@ -17,7 +16,7 @@ use Rattle.plan_pieces.specs.Answers.{Answer, packed}
 use Rattle.journal_history.specs.Calls.{Files, Outcome, Call, Install, Rollback, InstallCall, RollbackCall, calling, answers, run}
 use Rattle.journal_history.proofs.Laws.History.{run_append, answers_append}
 use Rattle.calls_replay.specs.Lists.{FIT, call_count, kind_at, object_length, order_length, call_at, call_start, is_list, calls_of}
-use Rattle.calls_replay.specs.Replays.{Replay, codes, replay}
+use Rattle.calls_replay.specs.Replays.{codes, replay}
 use Rattle.calls_replay.specs.Requires.{first_calls, left_by, codes_of}
 
 -- ---- a call, by its kind

@@ -4,7 +4,7 @@ use Prim.Native.Nat.{◌+◌, ◌≤◌}
 use native.Mathlib.Omega.{arith}
 use lib.ListN.{length}
 use Rattle.numbers_definitions.specs.Bytes.{le_at}
-use Rattle.calls_replay.specs.Lists.{FIT, kind_at, object_length, order_length, call_end}
+use Rattle.calls_replay.specs.Lists.{FIT, kind_at, object_length, order_length}
 use Rattle.calls_replay.proofs.Laws.Lists.{end_of_fit, end_of_other, end_above, ends_inside}
 use Rattle.calls_replay.proofs.call_end.Goals as goal
 use Rattle.calls_replay.proofs.call_end.Goals.{After-read32-order, Else-read32-ne-FIT, Start}

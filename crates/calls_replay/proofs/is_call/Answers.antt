@@ -1,12 +1,9 @@
 -- `calls_replay::is_call` meets its contract.
-use mathlib.Core.Path.{◌≡◌, sym, ◌∙◌}
+use mathlib.Core.Path.{sym, ◌∙◌}
 use Prim.Native.Nat.{◌+◌, ◌≤◌}
 use native.Mathlib.Omega.{arith}
-use mathlib.Core.Bool.{Bool, true, false}
 use lib.ListN.{length}
-use lib.Dec.{eqb}
-use Rattle.calls_replay.specs.Lists.{TAKE_BACK, kind_at, is_call}
-use Rattle.calls_replay.proofs.Laws.Lists.{end_above, end_of_other, none_past, kind_decides}
+use Rattle.calls_replay.proofs.Laws.Lists.{end_above, none_past, kind_decides}
 use Rattle.calls_replay.proofs.is_call.Goals as goal
 use Rattle.calls_replay.proofs.is_call.Goals.{Else-calls-at-lt4}
 

@@ -3,7 +3,7 @@ use mathlib.Core.Path.{◌≡◌, ap, ◌∙◌}
 use Prim.Native.Nat.{◌+◌, ◌-◌}
 use native.Mathlib.Omega.{arith}
 use Rattle.numbers_definitions.specs.Bytes.{le_at, part}
-use Rattle.calls_replay.specs.Lists.{object_length, order_length}
+use Rattle.calls_replay.specs.Lists.{order_length}
 use Rattle.calls_replay.proofs.order_of.Goals as goal
 use Rattle.calls_replay.proofs.order_of.Goals.{After-read32}
 

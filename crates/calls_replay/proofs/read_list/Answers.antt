@@ -1,10 +1,8 @@
 -- `calls_replay::read_list` meets its contract.
 use mathlib.Core.Path.{◌≡◌, refl, sym, ap, ◌∙◌}
 use mathlib.Core.Bool.{true, false, cond}
-use Prim.Native.Nat.{ℕ, ◌+◌, ◌-◌, ◌≤◌, ◌<◌}
+use Prim.Native.Nat.{ℕ, ◌+◌, ◌<◌}
 use native.Mathlib.Omega.{arith}
-use lib.ListN.{length}
-use borrow.Author.Tests.{not-true, not-false}
 use borrow.Author.Count.{below_more}
 use Rattle.calls_replay.specs.declared.List.TheVariants.{Malformed, Calls}
 use Rattle.calls_replay.specs.Lists.{call_count, call_end, is_call, call_start, is_list}

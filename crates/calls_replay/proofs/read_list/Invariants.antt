@@ -1,14 +1,9 @@
 -- `calls_replay::read_list` meets its contract.
-use mathlib.Core.Path.{◌≡◌, refl, sym, ap, ◌∙◌}
-use mathlib.Core.Bool.{true, false, cond}
-use Prim.Native.Nat.{ℕ, ◌+◌, ◌-◌, ◌≤◌, ◌<◌}
-use native.Mathlib.Omega.{arith}
+use mathlib.Core.Path.{◌≡◌}
+use mathlib.Core.Bool.{true}
+use Prim.Native.Nat.{ℕ, ◌-◌, ◌≤◌, ◌<◌}
 use lib.ListN.{length}
-use borrow.Author.Tests.{not-true, not-false}
-use borrow.Author.Count.{below_more}
-use Rattle.calls_replay.specs.declared.List.TheVariants.{Malformed, Calls}
-use Rattle.calls_replay.specs.Lists.{call_count, call_end, is_call, call_start, is_list}
-use Rattle.calls_replay.proofs.Laws.Lists.{ends_inside, start_above, start_next, list_is, not_list_call, not_list_end}
+use Rattle.calls_replay.specs.Lists.{is_call, call_start}
 use Rattle.calls_replay.proofs.read_list.Given as goal
 
 abbrev pub invariant-loop-i : goal.invariant-loop-i

@@ -9,7 +9,6 @@ use lib.Seq.{get_or-set_same, get_or-set_other}
 use lib.Dec.{eqb}
 use borrow.Author.Count.{below_more}
 use borrow.Author.Tests.{eqb-true, eqb-false, eq-eqb, ne_eqb}
-use Rattle.numbers_definitions.specs.First.{everywhere}
 use Rattle.numbers_definitions.proofs.Laws.First.{everywhere_is, everywhere_not, everywhere_at}
 use Rattle.numbers_definitions.proofs.Laws.Tests.{and_right, both}
 use Rattle.elf_read.specs.Headers.{section_count}

@@ -1,11 +1,9 @@
 -- `elf_check::check_sections` meets its contract.
 use mathlib.Core.Path.{◌≡◌, refl, sym, ap, ◌∙◌}
-use Prim.Native.Nat.{ℕ, ◌-◌, ◌≤◌, ◌<◌}
-use mathlib.Core.Bool.{true, false, not, ◌&&◌}
+use mathlib.Core.Bool.{true, not, ◌&&◌}
 use native.Mathlib.Omega.{arith}
 use lib.Dec.{leb}
 use borrow.Author.Count.{below_more}
-use borrow.Author.Tests.{not-true, not-false}
 use Rattle.numbers_definitions.proofs.Laws.Lists.{zeros_length, zeros_at}
 use Rattle.elf_read.specs.Headers.{max_sections}
 use Rattle.elf_read.specs.Sections.{relocations_below}

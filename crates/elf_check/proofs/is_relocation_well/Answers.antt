@@ -1,7 +1,6 @@
 -- `elf_check::is_relocation_well` meets its contract.
 use mathlib.Core.Path.{◌≡◌, sym, ap, ◌∙◌}
 use mathlib.Core.Bool.{true, false}
-use borrow.Author.Tests.{not-true, not-false}
 use Rattle.elf_read.specs.Sections.{section_at, targets}
 use Rattle.elf_read.proofs.Laws.Sections.{allocated_there}
 use Rattle.elf_check.proofs.Laws.Tables.{well_untargeted, broken_rel, well_other, well_rela}

@@ -1,16 +1,9 @@
 -- `elf_check::is_target_new` meets its contract.
-use mathlib.Core.Path.{◌≡◌, sym, ap, ◌∙◌}
+use mathlib.Core.Path.{◌≡◌}
 use Prim.Native.Nat.{ℕ, ◌-◌, ◌≤◌, ◌<◌}
-use mathlib.Core.Bool.{Bool, true, not, ◌&&◌}
-use native.Mathlib.Omega.{arith}
+use mathlib.Core.Bool.{true, not, ◌&&◌}
 use lib.Dec.{eqb}
-use borrow.Author.Count.{below_more}
-use Rattle.numbers_definitions.specs.First.{everywhere}
-use Rattle.numbers_definitions.proofs.Laws.First.{everywhere_is, everywhere_not}
 use Rattle.elf_read.specs.Sections.{section_at, counting_rela}
-use Rattle.elf_check.specs.Requires.{target_new}
-use Rattle.elf_check.proofs.Laws.Targets.{differ_new}
-use borrow.Author.Rules.{rules}
 use Rattle.elf_check.proofs.is_target_new.Given as goal
 
 abbrev pub invariant-loop-j : goal.invariant-loop-j

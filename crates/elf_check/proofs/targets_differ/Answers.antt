@@ -2,10 +2,9 @@
 use mathlib.Core.Path.{◌≡◌, refl, sym, ap, ◌∙◌, subst}
 use mathlib.Core.Bool.{true}
 use mathlib.Core.List.{List}
-use Prim.Native.Nat.{ℕ, ◌-◌, ◌≤◌, ◌<◌}
+use Prim.Native.Nat.{ℕ, ◌<◌}
 use native.Mathlib.Omega.{arith}
-use lib.ListN.{length, get_or, length-set}
-use borrow.Author.Tests.{not-true, not-false}
+use lib.ListN.{get_or, length-set}
 use Rattle.elf_read.specs.Headers.{section_count}
 use Rattle.elf_read.specs.Sections.{section_at, counting_rela}
 use Rattle.elf_check.proofs.Laws.Targets.{MarkedBelow, mark_none, mark_skip, mark_twice, mark_more, mark_all, target_there}

@@ -4,9 +4,9 @@ use native.Mathlib.Numerals.{add-one}
 use borrow.Author.Count.{below_more}
 use borrow.Author.Tests.{le-ltb}
 use Rattle.elf_read.specs.Headers.{section_count}
-use Rattle.elf_read.proofs.Laws.Entries.{NotBelow, located, located_nowhere}
+use Rattle.elf_read.proofs.Laws.Entries.{located, located_nowhere}
 use mathlib.Core.Path.{◌≡◌, refl, ap, ◌∙◌}
-use Prim.Native.Nat.{suc, ◌-◌, ◌^◌, ◌≤◌, ◌<◌}
+use Prim.Native.Nat.{suc, ◌^◌, ◌≤◌, ◌<◌}
 use native.Mathlib.Omega.{arith}
 use Rattle.numbers_definitions.specs.Sums.{sum}
 use Rattle.numbers_definitions.proofs.Laws.Sums.{sum_mono}

@@ -1,11 +1,7 @@
 -- `elf_read::relocations_below` meets its contract.
-use mathlib.Core.Path.{◌≡◌, refl, ap, ◌∙◌}
-use Prim.Native.Nat.{suc, ◌-◌, ◌≤◌}
-use native.Mathlib.Numerals.{add-one}
-use native.Mathlib.Omega.{arith}
-use Rattle.numbers_definitions.specs.Sums.{sum}
-use Rattle.numbers_definitions.proofs.Laws.Sums.{sum_mono}
-use Rattle.elf_read.specs.Sections.{relocations_in, relocations_below}
+use mathlib.Core.Path.{◌≡◌}
+use Prim.Native.Nat.{◌-◌, ◌≤◌}
+use Rattle.elf_read.specs.Sections.{relocations_below}
 use Rattle.elf_read.proofs.relocations_below.Given as goal
 
 abbrev pub invariant-loop-j : goal.invariant-loop-j

@@ -1,6 +1,6 @@
 -- `elf_read::relocations_within` meets its contract.
 use mathlib.Core.Path.{◌≡◌, sym}
-use Prim.Native.Nat.{suc, ◌+◌, ◌-◌, ◌≤◌}
+use Prim.Native.Nat.{suc, ◌≤◌}
 use native.Mathlib.Numerals.{add-one}
 use native.Mathlib.Omega.{arith}
 use borrow.Author.Tests.{le-leb, lt-leb}

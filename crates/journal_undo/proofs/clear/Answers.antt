@@ -1,9 +1,7 @@
 -- `journal_undo::clear` meets its contract.
 use mathlib.Core.Path.{◌≡◌, refl}
-use Prim.Native.Nat.{◌-◌, ◌≤◌}
 use native.Mathlib.Omega.{arith}
-use lib.ListN.{length, replicate, length-replicate, length-set}
-use lib.Seq.{sets}
+use lib.ListN.{replicate, length-replicate, length-set}
 use Rattle.numbers_definitions.proofs.Laws.Lists.{sets_snoc, replicate_snoc}
 use Rattle.journal_undo.proofs.clear.Goals as goal
 

@@ -1,10 +1,8 @@
 -- `journal_undo::clear` meets its contract. The invariant: the first i zeros are stored.
-use mathlib.Core.Path.{◌≡◌, refl}
+use mathlib.Core.Path.{◌≡◌}
 use Prim.Native.Nat.{◌-◌, ◌≤◌}
-use native.Mathlib.Omega.{arith}
-use lib.ListN.{length, replicate, length-replicate, length-set}
+use lib.ListN.{length, replicate}
 use lib.Seq.{sets}
-use Rattle.numbers_definitions.proofs.Laws.Lists.{sets_snoc, replicate_snoc}
 use Rattle.journal_undo.proofs.clear.Given as goal
 
 abbrev pub invariant-loop-i : goal.invariant-loop-i

@@ -5,7 +5,6 @@ use mathlib.Core.List.{List}
 use Prim.Native.Nat.{ℕ}
 use lib.ListN.{length}
 use native.Mathlib.Omega.{arith}
-use borrow.Author.Tests.{not-true, not-false}
 use Rattle.order_format.specs.Windows.{length_allowed}
 use Rattle.journal_format.specs.Journals.{count, sound}
 use Rattle.journal_format.proofs.Laws.Sound.{test_sound}

@@ -1,6 +1,5 @@
 -- `numbers_arithmetic::add64` meets its contract.
 use Rattle.numbers_definitions.specs.Whole.{plus}
-use Rattle.std.proofs.Common.{rules}
 use Rattle.numbers_arithmetic.proofs.add64.Goals as goal
 
 pub returns : goal.returns

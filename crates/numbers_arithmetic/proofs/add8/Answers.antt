@@ -1,5 +1,5 @@
 -- `numbers_arithmetic::add8` meets its contract.
-use Rattle.std.proofs.Common.{◌^◌, ◌∙◌, rules}
+use Rattle.std.proofs.Common.{◌^◌, ◌∙◌}
 use native.Mathlib.Nat.{add-mod-mod}
 use Rattle.numbers_definitions.specs.Whole.{plus}
 use Rattle.numbers_arithmetic.proofs.add8.Goals as goal

@@ -1,5 +1,5 @@
 -- `numbers_arithmetic::addend` meets its contract.
-use Rattle.std.proofs.Common.{◌≡◌, ℕ, ◌+◌, ◌^◌, ◌<◌, sym, refl, ap, ◌∙◌, arith, rules}
+use Rattle.std.proofs.Common.{◌≡◌, ℕ, ◌+◌, ◌^◌, ◌<◌, sym, refl, ap, ◌∙◌, arith}
 use native.Mathlib.Decide.{dec_lt}
 use Rattle.numbers_definitions.specs.Whole.{residue, signed, plus}
 use Rattle.numbers_definitions.proofs.Laws.Whole.{extend_low, extend_high}

@@ -1,5 +1,5 @@
 -- `numbers_arithmetic::ceil_power` meets its contract.
-use Rattle.std.proofs.Common.{◌-◌, arith, rules}
+use Rattle.std.proofs.Common.{◌-◌, arith}
 use Rattle.numbers_definitions.proofs.Laws.Powers.{shift_ceil}
 use lib.Count.{leading_le}
 use Rattle.numbers_definitions.specs.First.{first}

@@ -1,5 +1,5 @@
 -- `numbers_arithmetic::difference` meets its contract.
-use Rattle.std.proofs.Common.{◌≡◌, ◌%◌, ◌^◌, ℤ, pos, ◌-ℤ◌, ap, ◌∙◌, rules}
+use Rattle.std.proofs.Common.{◌≡◌, ◌%◌, ◌^◌, ℤ, pos, ◌-ℤ◌, ap, ◌∙◌}
 use Rattle.numbers_definitions.specs.declared.Class.{Class}
 use Rattle.numbers_definitions.specs.declared.Class.TheVariants.{Elf32, Elf64}
 use Rattle.numbers_definitions.specs.Classes.{bits}

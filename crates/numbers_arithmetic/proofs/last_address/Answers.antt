@@ -1,5 +1,5 @@
 -- `numbers_arithmetic::last_address` meets its contract.
-use Rattle.std.proofs.Common.{◌-◌, ◌^◌, sym, ap, rules}
+use Rattle.std.proofs.Common.{◌-◌, ◌^◌, sym, ap}
 use Rattle.numbers_definitions.specs.Classes.{bits}
 use Rattle.numbers_arithmetic.proofs.last_address.Goals as goal
 

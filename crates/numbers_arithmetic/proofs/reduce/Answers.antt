@@ -1,5 +1,5 @@
 -- `numbers_arithmetic::reduce` meets its contract.
-use Rattle.std.proofs.Common.{ap, ◌∙◌, rules}
+use Rattle.std.proofs.Common.{ap, ◌∙◌}
 use lib.Bits.{bit_and, and_mask}
 use Rattle.numbers_definitions.specs.Classes.{bits}
 use Rattle.numbers_arithmetic.proofs.reduce.Goals as goal

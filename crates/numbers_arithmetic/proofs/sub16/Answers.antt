@@ -1,5 +1,5 @@
 -- `numbers_arithmetic::sub16` meets its contract.
-use Rattle.std.proofs.Common.{arith, rules}
+use Rattle.std.proofs.Common.{arith}
 use Rattle.numbers_definitions.proofs.Laws.Whole.{minus_wrapped}
 use Rattle.numbers_arithmetic.proofs.sub16.Goals as goal
 

@@ -1,5 +1,5 @@
 -- `numbers_arithmetic::sub64` meets its contract.
-use Rattle.std.proofs.Common.{sym, ◌∙◌, mod-eq_of_lt, arith, rules}
+use Rattle.std.proofs.Common.{sym, ◌∙◌, mod-eq_of_lt, arith}
 use Rattle.numbers_definitions.proofs.Laws.Whole.{minus_unique}
 use Rattle.numbers_arithmetic.proofs.sub64.Goals as goal
 

@@ -1,5 +1,5 @@
 -- `numbers_arithmetic::sum` meets its contract.
-use Rattle.std.proofs.Common.{◌≡◌, ℕ, ◌+◌, ◌%◌, ◌^◌, ap, ◌∙◌, arith, rules}
+use Rattle.std.proofs.Common.{◌≡◌, ℕ, ◌+◌, ◌%◌, ◌^◌, ap, ◌∙◌, arith}
 use Rattle.numbers_definitions.specs.declared.Class.{Class}
 use Rattle.numbers_definitions.specs.declared.Class.TheVariants.{Elf32, Elf64}
 use Rattle.numbers_definitions.specs.Classes.{bits}

@@ -1,9 +1,8 @@
 -- `numbers_bytes::copy` meets its contract.
 use mathlib.Core.Path.{◌≡◌, refl}
-use Prim.Native.Nat.{◌+◌, ◌-◌, ◌≤◌}
+use Prim.Native.Nat.{◌+◌}
 use native.Mathlib.Omega.{arith}
-use lib.ListN.{length, get_or, length-set}
-use lib.Seq.{sets}
+use lib.ListN.{get_or, length-set}
 use Rattle.numbers_definitions.specs.Bytes.{part}
 use Rattle.numbers_definitions.proofs.Laws.Lists.{sets_snoc, part_snoc, length_part}
 use Rattle.numbers_bytes.proofs.copy.Goals as goal

@@ -1,11 +1,9 @@
 -- `numbers_bytes::copy` meets its contract. The invariant: the first i bytes are stored.
-use mathlib.Core.Path.{◌≡◌, refl}
-use Prim.Native.Nat.{◌+◌, ◌-◌, ◌≤◌}
-use native.Mathlib.Omega.{arith}
-use lib.ListN.{length, get_or, length-set}
+use mathlib.Core.Path.{◌≡◌}
+use Prim.Native.Nat.{◌-◌, ◌≤◌}
+use lib.ListN.{length}
 use lib.Seq.{sets}
 use Rattle.numbers_definitions.specs.Bytes.{part}
-use Rattle.numbers_definitions.proofs.Laws.Lists.{sets_snoc, part_snoc, length_part}
 use Rattle.numbers_bytes.proofs.copy.Given as goal
 
 abbrev pub invariant-loop-i : goal.invariant-loop-i

@@ -1,9 +1,8 @@
 -- `order_format::ascends` meets its contract.
 use mathlib.Core.Path.{◌≡◌, sym, ap}
-use Prim.Native.Nat.{ℕ, suc, ◌-◌, ◌≤◌, ◌<◌}
+use Prim.Native.Nat.{◌-◌}
 use native.Mathlib.Omega.{arith}
 use Rattle.order_format.specs.declared.Entry.{Entry}
-use Rattle.order_format.specs.Orders.{entry_at}
 use Rattle.order_format.proofs.Laws.Ascending.{steps_more, ascending_is, ascending_not}
 use Rattle.order_format.proofs.Laws.Sizes.{entry_inside}
 use borrow.Author.Rules.{rules}

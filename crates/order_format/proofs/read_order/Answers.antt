@@ -4,7 +4,6 @@ use mathlib.Core.Bool.{not}
 use mathlib.Core.List.{List}
 use Prim.Native.Nat.{ℕ}
 use native.Mathlib.Omega.{arith}
-use borrow.Author.Tests.{not-false}
 use Rattle.numbers_definitions.proofs.Laws.Tests.{not_both}
 use Rattle.numbers_definitions.specs.Bytes.{le_at}
 use Rattle.numbers_definitions.specs.declared.Class.{Class}

@@ -3,10 +3,9 @@ use Rattle.order_lookup.proofs.Laws.Values.{value_in_between, value_in_read}
 use Rattle.order_format.proofs.Laws.Ascending.{ascending_below, ascending_above}
 use Rattle.order_format.proofs.Laws.Sizes.{entry_inside}
 use mathlib.Core.Path.{◌≡◌, sym, ap}
-use Prim.Native.Nat.{ℕ, ◌+◌, ◌-◌, ◌/◌, ◌≤◌, ◌<◌}
+use Prim.Native.Nat.{ℕ, ◌+◌, ◌-◌, ◌/◌}
 use native.Mathlib.Omega.{arith}
 use Rattle.order_format.specs.declared.Entry.{Entry}
-use Rattle.order_format.specs.Orders.{entry_at}
 use borrow.Author.Rules.{rules}
 use Rattle.order_lookup.proofs.find.Goals as goal
 

@@ -1,5 +1,4 @@
 -- An answer with a small number, a small reason and a place of 32 bits is read out of its code again.
-use mathlib.Core.Path.{◌≡◌}
 use Prim.Native.Nat.{◌^◌, ◌<◌}
 use native.Mathlib.Omega.{arith}
 use Rattle.plan_pieces.specs.Answers.{Answer, packed, Reads}

@@ -1,5 +1,5 @@
 -- `relocations_types::decide` meets its contract.
-use mathlib.Core.Path.{refl, sym, ap, ◌∙◌}
+use mathlib.Core.Path.{refl, sym, ◌∙◌}
 use mathlib.Core.Logic.{⊎_elim}
 use native.Mathlib.Omega.{arith}
 use Rattle.relocations_types.proofs.Laws.Types.{listed, doubled, others_refused, call_types, too_low, too_high}

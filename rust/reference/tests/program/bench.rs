@@ -23,7 +23,7 @@ impl Program {
         let built = Path::new(env!("CARGO_MANIFEST_DIR")).join("../../target/bin/aktinoph");
         let path = env::var_os("AKTINOPH_PROGRAM").map_or(built, PathBuf::from);
         let Ok(path) = fs::canonicalize(&path) else {
-            panic!("{} is missing: make it by `rt check aktinoph`, or name the program in AKTINOPH_PROGRAM", path.display());
+            panic!("{} is missing: make it by `tools/build program`, or name the program in AKTINOPH_PROGRAM", path.display());
         };
         path
     }

@@ -1,6 +1,5 @@
 -- `instructions_riscv::ranges::in_reach` meets its contract.
 use mathlib.Core.Path.{◌≡◌, sym, ap, ◌∙◌}
-use Prim.Native.Nat.{ℕ, ◌≤◌, ◌<◌}
 use native.Mathlib.Omega.{arith}
 use lib.IntN.{pos, neg_ℤ}
 use Rattle.numbers_definitions.specs.Classes.{bits}
