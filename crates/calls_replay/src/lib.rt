@@ -113,7 +113,8 @@ pub fn read_list(calls: &[u8]) -> List
         at = call_end(calls, at);
         i += 1;
     }
-    if at != calls.len() {
+    let is_left_over = at != calls.len();
+    if is_left_over {
         return List::Malformed;
     }
     List::Calls(n)

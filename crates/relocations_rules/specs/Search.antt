@@ -8,7 +8,7 @@ use Rattle.relocations_rules.specs.declared.Finding.{Finding}
 use Rattle.relocations_rules.specs.declared.Finding.TheVariants.{Kept, BadShape, BadSymbol, BadForm, NoPair, OutOfReach, OffBoundary}
 use Rattle.relocations_rules.specs.declared.RelocationCheck.{RelocationCheck}
 use Rattle.relocations_rules.specs.declared.RelocationCheck.TheVariants.{Passed, Broken}
-use Rattle.relocations_rela.specs.Sites.{site_at, entry, decision_at, A, P}
+use Rattle.relocations_rela.specs.Sites.{site_at, decision_at, A, P}
 use Rattle.placing_symbols.specs.Reasons.{reason_number}
 use Rattle.relocations_values.specs.Values.{value_at, target_at}
 use Rattle.relocations_rela.specs.Shape.{shape_well}

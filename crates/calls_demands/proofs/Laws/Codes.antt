@@ -5,7 +5,6 @@ use mathlib.Core.Bool.{Bool, true, false}
 use mathlib.Core.List.{List}
 use Prim.Native.Nat.{ℕ, ◌^◌, ◌≤◌, ◌<◌}
 use native.Mathlib.Omega.{arith}
-use lib.ListN.{length}
 use lib.Dec.{eqb}
 use borrow.Author.Tests.{eqb-true, eqb-false}
 use Rattle.plan_pieces.proofs.Laws.Answers.{unpacked}
@@ -17,7 +16,7 @@ use Rattle.elf_check.specs.Sound.{SoundSection}
 use Rattle.elf_check.proofs.Laws.Bounds.{relocations_few}
 use Rattle.journal_history.specs.Calls.{Files}
 use Rattle.calls_demands.specs.Rules.{HeaderWell, TableWell}
-use Rattle.calls_demands.specs.First.{rule, nil, Checks, HoldBelow, FirstBroken, table}
+use Rattle.calls_demands.specs.First.{Checks, table}
 use Rattle.calls_demands.specs.Demands.{rollback_table}
 use Rattle.calls_demands.specs.Ours.{our_install, our_rollback}
 use Rattle.calls_demands.specs.Codes.{FitGives, TakeBackGives, CarriesReason}

@@ -1,14 +1,13 @@
 -- Demand 3 follows: calls that meet demands 1 and 2 and the sentences about the ledger meet demand 3 on bytes, whatever their code is.
 use mathlib.Core.Path.{◌≡◌, refl, sym, ap, ap₂, ◌∙◌, subst}
-use mathlib.Core.Bool.{cond}
 use mathlib.Core.List.{List, [], ◌∷◌, ◌++◌}
 use Prim.Native.Nat.{ℕ}
 use lib.ListN.{length}
 use Rattle.plan_pieces.specs.Answers.{Answer}
 use Rattle.plan_pieces.specs.Plans.{Verdict, refused, plan, span_of}
 use Rattle.journal_format.specs.Journals.{no_room}
-use Rattle.journal_history.specs.Calls.{journal_full, Files, Outcome, refuse, succeed, Call, Install, Rollback, InstallCall, RollbackCall, calling, answers, run}
-use Rattle.journal_history.specs.Histories.{Standing, History, begin, count_of, held_of, stand, fall, told, Start, history_of, AsTold, Alike, alone, standing_alone, Kind, FilesAre, CallIs, CallsAre}
+use Rattle.journal_history.specs.Calls.{Files, Outcome, Call, Install, Rollback, InstallCall, RollbackCall, calling, answers, run}
+use Rattle.journal_history.specs.Histories.{Standing, History, begin, count_of, held_of, stand, fall, told, history_of, AsTold, Alike, alone, standing_alone, FilesAre, CallIs, CallsAre}
 use Rattle.journal_history.proofs.Laws.Corollaries.{either}
 use Rattle.calls_judgement.specs.Judgement.{judgement}
 use Rattle.calls_demands.specs.Demands.{AreBytes, Meets, Demand3}

@@ -3,14 +3,14 @@ use mathlib.Core.Logic.{◌⊎◌, inl, inr, ⊎_elim}
 use mathlib.Core.Path.{◌≡◌, refl, sym, ap, ◌∙◌, subst}
 use mathlib.Core.Bool.{Bool, true, false, cond}
 use mathlib.Core.List.{List}
-use Prim.Native.Nat.{ℕ, zero, suc, ◌+◌, ◌-◌, ◌≤◌, ◌<◌}
+use Prim.Native.Nat.{ℕ, zero, suc, ◌+◌, ◌≤◌, ◌<◌}
 use native.Mathlib.Omega.{arith}
 use native.Mathlib.Decide.{dec_lt}
 use lib.ListN.{length, get_or}
 use lib.Seq.{sets, length-sets}
 use Rattle.numbers_definitions.proofs.Laws.Lists.{part_stored, part_other, get_d_sets_other}
 use Rattle.elf_read.specs.Headers.{section_count}
-use Rattle.elf_read.specs.Sections.{section_at, loaded}
+use Rattle.elf_read.specs.Sections.{section_at}
 use Rattle.order_format.specs.declared.OrderHeader.{OrderHeader}
 use Rattle.order_lookup.specs.Addresses.{addresses_for, base_for}
 use Rattle.plan_pieces.specs.Plans.{overwritten}

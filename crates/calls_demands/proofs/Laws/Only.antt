@@ -10,7 +10,7 @@ use lib.Seq.{ext_get_or}
 use Rattle.plan_pieces.specs.declared.Span.{Span}
 use Rattle.journal_format.specs.Journals.{max_entries, old_at, count, held, entry, Sound}
 use Rattle.journal_history.specs.Writes.{newest, held_below}
-use Rattle.plan_pieces.specs.Answers.{Answer, done}
+use Rattle.plan_pieces.specs.Answers.{Answer}
 use Rattle.journal_history.specs.Calls.{Files, Outcome, InstallCall, RollbackCall}
 use Rattle.journal_history.specs.Histories.{FilesAre}
 use Rattle.journal_history.specs.Records.{Appended, Released}

@@ -27,7 +27,6 @@ use Rattle.placing_match.specs.declared.Fault.TheVariants.{Nowhere, At}
 use Rattle.placing_match.specs.Placements.{lowest, differs}
 use Rattle.placing_match.specs.Externals.{is_undefined}
 use Rattle.placing_check.specs.Placing.{end_of, aligned, ends_in_memory, has_bytes, in_window, share, apart, misplaced}
-use Rattle.relocations_rela.specs.Sites.{A}
 use Rattle.calls_demands.specs.Laid.{IsSpan}
 use Rattle.calls_demands.proofs.Laws.Journals.{one_span}
 use Rattle.calls_demands.specs.Rules.{OrderWell, WindowWell, HeaderWell, TableWell, PlacedAsAllocated, Undefined, ValuedIfUndefined, PlacedWell, Room}

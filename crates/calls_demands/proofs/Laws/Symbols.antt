@@ -23,7 +23,7 @@ use Rattle.plan_pieces.specs.Answers.{Answer, says_why}
 use Rattle.placing_symbols.specs.declared.Reason.{Reason}
 use Rattle.placing_symbols.specs.declared.Reason.TheVariants.{PastTable, NotAllocated, Common, Reserved, Undefined, WrongType, OutsideTarget}
 use Rattle.placing_symbols.specs.declared.SymbolValue.{SymbolValue}
-use Rattle.placing_symbols.specs.declared.SymbolValue.TheVariants.{Resolved, Unresolved}
+use Rattle.placing_symbols.specs.declared.SymbolValue.TheVariants.{Resolved}
 use Rattle.placing_symbols.specs.Reasons.{reason_number, because}
 use Rattle.placing_symbols.specs.Values.{not_allocated, is_common, is_reserved, is_missing, is_wrong_type, of_section, of_entry, symbol_value}
 use Rattle.relocations_types.specs.declared.Decision.{Decision}

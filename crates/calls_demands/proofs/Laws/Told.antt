@@ -26,7 +26,7 @@ use Rattle.order_format.specs.Windows.{window_allowed}
 use Rattle.order_format.proofs.Laws.Sound.{order_header_of, well_formed_sound, sound_reading}
 use Rattle.order_lookup.specs.Addresses.{addresses_for, base_for}
 use Rattle.journal_format.specs.Journals.{count, held, Sound, sound, no_room}
-use Rattle.plan_pieces.specs.Plans.{Verdict, refused, plan, span_of}
+use Rattle.plan_pieces.specs.Plans.{Verdict, plan, span_of}
 use Rattle.plan_pieces.specs.Answers.{Answer, says, says_why}
 use Rattle.journal_history.specs.Calls.{journal_unsound, journal_full, Files, refuse, succeed, installed, settle, install}
 use Rattle.journal_format.proofs.Laws.Sound.{test_sound, sound_test}

@@ -45,7 +45,7 @@ use Rattle.calls_demands.proofs.Laws.First.{at_once, at_each}
 use Rattle.calls_demands.specs.Demands.{rollback_table, Demand1, Demand2, Demand3, Journalled, AnyList}
 use Rattle.calls_demands.proofs.Laws.Sample.{words, object, order, files, journal_is, header_is, table_is, sections_are, keeps_all}
 use Rattle.calls_demands.proofs.Laws.Demands.{Done, done_leaves, demand_2}
-use Rattle.calls_demands.proofs.Laws.Rules.{order_well, window_well, header_well}
+use Rattle.calls_demands.proofs.Laws.Rules.{order_well, window_well}
 
 -- ---- wrong fitters
 

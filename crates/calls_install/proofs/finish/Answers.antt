@@ -5,7 +5,6 @@ use Prim.Native.Nat.{ℕ, ◌≤◌}
 use native.Mathlib.Omega.{arith}
 use lib.Dec.{leb}
 use borrow.Author.Tests.{leb-true}
-use Rattle.elf_read.specs.Headers.{section_count}
 use Rattle.elf_read.specs.Sections.{relocations_below}
 use Rattle.elf_read.specs.Entries.{relocation_count}
 use Rattle.elf_check.specs.Requires.{SoundObject}

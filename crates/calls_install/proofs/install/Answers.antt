@@ -4,7 +4,6 @@ use mathlib.Core.Bool.{true}
 use mathlib.Core.List.{List}
 use Prim.Native.Nat.{ℕ}
 use lib.ListN.{length}
-use borrow.Author.Tests.{not-true, not-false}
 use Rattle.elf_read.specs.Headers.{class_of}
 use Rattle.elf_read.proofs.Laws.Headers.{header_there}
 use Rattle.elf_header.specs.Headers.{header_allowed}

@@ -1,11 +1,7 @@
 -- `calls_install::judge_and_fit` meets its contract.
-use mathlib.Core.Path.{◌≡◌, sym, ◌∙◌}
-use mathlib.Core.Bool.{true}
-use lib.Dec.{eqb}
-use borrow.Author.Tests.{not-true, not-false}
+use mathlib.Core.Path.{sym, ◌∙◌}
 use Rattle.journal_history.proofs.Laws.Install.{refused_by}
 use Rattle.calls_judgement.specs.Judgement.{judgement}
-use Rattle.calls_judge.specs.Answers.{answer_of}
 use Rattle.calls_install.proofs.judge_and_fit.Goals as goal
 
 pub returns-then-not-is_done : goal.returns-then-not-is_done

@@ -3,7 +3,6 @@ use mathlib.Core.Path.{◌≡◌, sym, ◌∙◌}
 use mathlib.Core.List.{List}
 use Prim.Native.Nat.{ℕ}
 use lib.ListN.{length}
-use borrow.Author.Tests.{not-true, not-false}
 use Rattle.journal_history.specs.Calls.{Files}
 use Rattle.plan_pieces.specs.Plans.{plan}
 use Rattle.journal_history.proofs.Laws.Install.{refused_by}

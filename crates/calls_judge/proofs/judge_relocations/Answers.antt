@@ -1,5 +1,4 @@
 -- `calls_judge::judge_relocations` meets its contract.
-use native.Mathlib.Omega.{arith}
 use Rattle.elf_check.proofs.Laws.Objects.{sound_object}
 use Rattle.calls_judge.proofs.judge_relocations.Goals as goal
 

@@ -3,7 +3,6 @@ use mathlib.Core.Path.{◌≡◌, refl, sym, ap, ◌∙◌}
 use mathlib.Core.Bool.{true}
 use mathlib.Core.List.{List}
 use Prim.Native.Nat.{ℕ}
-use borrow.Author.Tests.{not-true, not-false}
 use Rattle.order_lookup.specs.Addresses.{base_for}
 use Rattle.elf_read.specs.Headers.{class_of, address_width}
 use Rattle.elf_read.proofs.Laws.Headers.{header_there}

@@ -1,11 +1,10 @@
 -- `calls_lay::lay_all` meets its contract.
 use mathlib.Core.Path.{◌≡◌, refl, sym, ap, ◌∙◌, subst}
 use mathlib.Core.List.{List}
-use Prim.Native.Nat.{ℕ, ◌-◌, ◌≤◌}
+use Prim.Native.Nat.{ℕ}
 use native.Mathlib.Numerals.{add-one}
 use native.Mathlib.Omega.{arith}
 use lib.ListN.{length}
-use Rattle.order_lookup.specs.Addresses.{addresses}
 use Rattle.elf_read.specs.Headers.{section_count}
 use Rattle.calls_judgement.specs.Requires.{Fitting, with_section}
 use Rattle.calls_judgement.proofs.Laws.Laying.{is_sound, laid_below, laid_none, laid_more, laid_all}

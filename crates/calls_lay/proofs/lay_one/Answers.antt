@@ -6,7 +6,6 @@ use Prim.Native.Nat.{ℕ, ◌+◌, ◌-◌, ◌≤◌}
 use native.Mathlib.Omega.{arith}
 use lib.ListN.{length, get_or}
 use lib.Seq.{sets}
-use borrow.Author.Tests.{not-true, not-false}
 use Rattle.order_lookup.specs.Addresses.{addresses_for, base_for}
 use Rattle.order_format.proofs.Laws.Sound.{reading_sound}
 use Rattle.elf_read.specs.Headers.{class_of}

@@ -55,14 +55,13 @@ is_symbol_table_well-requires c =
     (inside (goal.at.is_symbol_table_well-requires c).Else-not-check_table, omega (arith, c.section_count-n.ensures), c.symbol_table-table.ensures)
 
 pub is_relocation_well-requires : goal.is_relocation_well-requires
-is_relocation_well-requires c =
-    (
-      inside (goal.at.is_relocation_well-requires c).Else-not-check_table,
-      omega (arith, c.section_count-n.ensures),
-      c.symbol_table-table.ensures,
-      c.relocations_within-few.ensures ∙ ap (λ m. leb (relocations_below c.args.object.now m) max_relocations) c.section_count-n.ensures,
-      c.targets_differ-differ.ensures,
-    )
+is_relocation_well-requires c = (
+  inside (goal.at.is_relocation_well-requires c).Else-not-check_table,
+  omega (arith, c.section_count-n.ensures),
+  c.symbol_table-table.ensures,
+  c.relocations_within-few.ensures ∙ ap (λ m. leb (relocations_below c.args.object.now m) max_relocations) c.section_count-n.ensures,
+  c.targets_differ-differ.ensures,
+)
 
 pub overflow_cast-result : goal.overflow_cast-result
 overflow_cast-result c =

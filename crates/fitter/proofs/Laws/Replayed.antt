@@ -1,7 +1,7 @@
 -- For a list that was run, demand 3 holds for its answers and for what it left.
 use mathlib.Core.Path.{◌≡◌, refl, sym, ap, ◌∙◌, subst}
 use mathlib.Core.Bool.{Bool, true, false, cond, ◌&&◌}
-use mathlib.Core.List.{List, [], ◌∷◌, ◌++◌}
+use mathlib.Core.List.{List, [], ◌∷◌}
 use Prim.Native.Nat.{ℕ, ◌+◌, ◌≤◌}
 use native.Mathlib.Omega.{arith}
 use lib.ListN.{length, take, drop}
@@ -12,7 +12,6 @@ use Rattle.numbers_definitions.proofs.Laws.Tests.{and_right}
 use Rattle.plan_pieces.specs.Answers.{Answer}
 use Rattle.journal_history.specs.Calls.{Files, Call, Install, Rollback, calling, answers, run}
 use Rattle.journal_history.specs.Histories.{Start, CallsAre}
-use Rattle.calls_replay.specs.declared.List.{List as Listing}
 use Rattle.calls_replay.specs.declared.List.TheVariants.{Malformed, Calls}
 use Rattle.calls_replay.specs.Lists.{call_count, is_list, calls_of}
 use Rattle.calls_replay.specs.Replays.{Replay, codes, replay}

@@ -1,9 +1,6 @@
 -- `fitter::aktinoph_replay` meets its contract.
-use mathlib.Core.Path.{◌≡◌, sym, ◌∙◌}
-use mathlib.Core.Bool.{true}
-use Prim.Native.Nat.{ℕ}
+use mathlib.Core.Path.{sym, ◌∙◌}
 use native.Mathlib.Omega.{arith}
-use Rattle.journal_history.specs.Calls.{Files}
 use Rattle.calls_replay.specs.Lists.{call_count, is_list}
 use Rattle.calls_replay.proofs.Laws.Replays.{not_run}
 use Rattle.calls_demands.specs.Ours.{our_install, our_rollback}

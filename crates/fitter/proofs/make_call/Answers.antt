@@ -1,11 +1,10 @@
 -- `fitter::make_call` meets its contract.
 use mathlib.Core.Path.{◌≡◌, sym, ap, ap₂, ◌∙◌}
-use Prim.Native.Nat.{◌+◌, ◌≤◌}
 use native.Mathlib.Omega.{arith}
-use borrow.Author.Tests.{not-true, not-false, eqb-true, eqb-false}
+use borrow.Author.Tests.{eqb-true, eqb-false}
 use Rattle.plan_pieces.specs.Answers.{packed}
 use Rattle.journal_history.specs.Calls.{Files, Call, Install, Rollback, calling}
-use Rattle.calls_replay.specs.Lists.{FIT, kind_at, object_length, order_length, call_at}
+use Rattle.calls_replay.specs.Lists.{FIT, kind_at, call_at}
 use Rattle.calls_replay.specs.Requires.{FitInside}
 use Rattle.calls_replay.proofs.Laws.Lists.{ends_inside, end_of_fit}
 use Rattle.calls_replay.proofs.Laws.Replays.{call_fit, call_other}

@@ -1,9 +1,8 @@
 -- `fitter::make_calls` meets its contract.
 use mathlib.Core.Path.{◌≡◌, refl, sym, ap, ◌∙◌}
 use mathlib.Core.Bool.{true}
-use Prim.Native.Nat.{◌+◌, ◌-◌, ◌≤◌, ◌<◌}
 use native.Mathlib.Omega.{arith}
-use lib.ListN.{length, length-set}
+use lib.ListN.{length}
 use lib.Seq.{sets, length-sets}
 use Rattle.journal_history.specs.Calls.{Files, run, answers}
 use Rattle.numbers_definitions.specs.First.{tabulate}

@@ -1,17 +1,10 @@
 -- `fitter::make_calls` meets its contract.
-use mathlib.Core.Path.{◌≡◌, refl, sym, ap, ◌∙◌}
-use mathlib.Core.Bool.{true}
-use Prim.Native.Nat.{◌+◌, ◌-◌, ◌≤◌, ◌<◌}
-use native.Mathlib.Omega.{arith}
-use lib.ListN.{length, length-set}
-use lib.Seq.{sets, length-sets}
-use Rattle.journal_history.specs.Calls.{Files, run, answers}
-use Rattle.numbers_definitions.specs.First.{tabulate}
-use Rattle.calls_replay.specs.Lists.{call_end, is_call, call_start}
-use Rattle.calls_replay.specs.Replays.{codes}
+use mathlib.Core.Path.{◌≡◌}
+use Prim.Native.Nat.{◌-◌, ◌≤◌}
+use lib.ListN.{length}
+use lib.Seq.{sets}
+use Rattle.calls_replay.specs.Lists.{call_start}
 use Rattle.calls_replay.specs.Requires.{left_by, codes_of}
-use Rattle.calls_replay.proofs.Laws.Lists.{start_next, list_call}
-use Rattle.calls_replay.proofs.Laws.Replays.{left_made, codes_made}
 use Rattle.calls_demands.specs.Ours.{our_install, our_rollback}
 use Rattle.fitter.proofs.make_calls.Given as goal
 

@@ -1,5 +1,5 @@
 -- `fitter::replay_list` meets its contract.
-use mathlib.Core.Path.{sym, ap, ◌∙◌}
+use mathlib.Core.Path.{ap, ◌∙◌}
 use native.Mathlib.Omega.{arith}
 use lib.Seq.{sets}
 use Rattle.journal_history.specs.Calls.{Files}

@@ -28,8 +28,8 @@ loop-i-preserved c =
     let inside : c.loop-i.i < c.args.counts.placements = omega arith in (
       search rules,
       elim c.if-section-lt-MAX_SECTIONS.branch [
-      | then-section-lt-MAX_SECTIONS w ↦ w.array-is ∙ ap (λ a. set a e.index e.value.0) c.loop-i.invariant.1 ∙ filled_in _ _ _ _ is _ k.placed inside
-      | else-section-lt-MAX_SECTIONS w ↦ w.array-is ∙ c.loop-i.invariant.1 ∙ filled_out _ _ _ _ is w.if-section-lt-MAX_SECTIONS.false
+        | then-section-lt-MAX_SECTIONS w ↦ w.array-is ∙ ap (λ a. set a e.index e.value.0) c.loop-i.invariant.1 ∙ filled_in _ _ _ _ is _ k.placed inside
+        | else-section-lt-MAX_SECTIONS w ↦ w.array-is ∙ c.loop-i.invariant.1 ∙ filled_out _ _ _ _ is w.if-section-lt-MAX_SECTIONS.false
       ],
     )
 

@@ -10,7 +10,6 @@ use Rattle.numbers_definitions.specs.declared.Class.{Class}
 use Rattle.elf_read.specs.Headers.{class_of, section_count}
 use Rattle.elf_read.specs.Sections.{is_allocated}
 use Rattle.elf_read.proofs.Laws.Headers.{header_there}
-use Rattle.order_format.specs.declared.Entry.{Entry}
 use Rattle.order_format.specs.Orders.{entry_at, placement, placements_start, placement_count}
 use Rattle.order_format.proofs.Laws.Sizes.{entry_inside}
 use Rattle.order_format.proofs.Laws.Sound.{Sound, reading_sound}

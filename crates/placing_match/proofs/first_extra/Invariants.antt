@@ -1,15 +1,9 @@
 -- `placing_match::first_extra` meets its contract.
-use mathlib.Core.Path.{◌≡◌, sym, ap, ◌∙◌}
+use mathlib.Core.Path.{◌≡◌}
 use Prim.Native.Nat.{ℕ, ◌-◌, ◌≤◌, ◌<◌}
-use mathlib.Core.Bool.{true, false, not}
-use native.Mathlib.Omega.{arith}
-use borrow.Author.Count.{below_more}
-use Rattle.numbers_definitions.proofs.Laws.First.{first_is}
+use mathlib.Core.Bool.{false, not}
 use Rattle.elf_read.specs.Sections.{is_allocated}
-use Rattle.order_format.specs.Orders.{entry_at, placement, placement_count}
-use Rattle.order_format.proofs.Laws.Sizes.{entry_inside}
-use Rattle.order_format.proofs.Laws.Sound.{Sound, reading_sound}
-use borrow.Author.Rules.{rules}
+use Rattle.order_format.specs.Orders.{placement}
 use Rattle.placing_match.proofs.first_extra.Given as goal
 
 abbrev pub invariant-loop-j : goal.invariant-loop-j

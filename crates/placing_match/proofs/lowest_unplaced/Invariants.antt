@@ -1,15 +1,10 @@
 -- `placing_match::lowest_unplaced` meets its contract.
-use mathlib.Core.Path.{◌≡◌, sym, ◌∙◌}
+use mathlib.Core.Path.{◌≡◌}
 use Prim.Native.Nat.{ℕ, ◌-◌, ◌≤◌, ◌<◌}
-use mathlib.Core.Bool.{true, false, not, ◌&&◌}
-use native.Mathlib.Omega.{arith}
-use borrow.Author.Count.{below_more}
-use Rattle.numbers_definitions.proofs.Laws.First.{first_is}
-use Rattle.elf_read.specs.Headers.{section_count}
+use mathlib.Core.Bool.{false, not, ◌&&◌}
 use Rattle.elf_read.specs.Sections.{is_allocated}
 use Rattle.order_lookup.specs.Addresses.{placed_at}
 use Rattle.order_lookup.specs.Values.{is_given}
-use borrow.Author.Rules.{rules}
 use Rattle.placing_match.proofs.lowest_unplaced.Given as goal
 
 abbrev pub invariant-loop-i : goal.invariant-loop-i

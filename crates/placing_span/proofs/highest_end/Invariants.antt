@@ -1,14 +1,7 @@
 -- `placing_span::highest_end` meets its contract.
-use mathlib.Core.Path.{◌≡◌, refl, sym, ap, ◌∙◌}
-use mathlib.Core.Bool.{true}
+use mathlib.Core.Path.{◌≡◌}
 use Prim.Native.Nat.{◌-◌, ◌≤◌}
-use native.Mathlib.Numerals.{add-one}
-use native.Mathlib.Omega.{arith}
-use Rattle.elf_read.specs.declared.Section.{Section}
-use Rattle.elf_read.specs.Sections.{section_at}
-use Rattle.placing_check.specs.Placing.{end_of, has_bytes}
 use Rattle.placing_span.specs.Spans.{highest}
-use Rattle.placing_span.proofs.Laws.Bounds.{highest_end}
 use Rattle.placing_span.proofs.highest_end.Given as goal
 
 abbrev pub invariant-loop-i : goal.invariant-loop-i

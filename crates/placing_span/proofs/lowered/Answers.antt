@@ -1,7 +1,6 @@
 -- `placing_span::lowered` meets its contract.
 use mathlib.Core.Path.{◌≡◌, sym, ◌∙◌}
 use mathlib.Core.Bool.{true, false}
-use borrow.Author.Tests.{not-true, not-false}
 use Rattle.placing_check.specs.Placing.{has_bytes}
 use Rattle.placing_span.proofs.lowered.Goals as goal
 

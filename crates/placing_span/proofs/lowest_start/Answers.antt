@@ -1,6 +1,5 @@
 -- `placing_span::lowest_start` meets its contract.
 use mathlib.Core.Path.{◌≡◌, refl}
-use Prim.Native.Nat.{◌-◌, ◌≤◌}
 use native.Mathlib.Numerals.{add-one}
 use native.Mathlib.Omega.{arith}
 use Rattle.placing_span.specs.Spans.{lowest_byte}

@@ -1,8 +1,6 @@
 -- `placing_span::lowest_start` meets its contract.
-use mathlib.Core.Path.{◌≡◌, refl}
+use mathlib.Core.Path.{◌≡◌}
 use Prim.Native.Nat.{◌-◌, ◌≤◌}
-use native.Mathlib.Numerals.{add-one}
-use native.Mathlib.Omega.{arith}
 use Rattle.placing_span.specs.Spans.{lowest_byte}
 use Rattle.placing_span.proofs.lowest_start.Given as goal
 

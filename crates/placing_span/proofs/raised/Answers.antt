@@ -1,7 +1,6 @@
 -- `placing_span::raised` meets its contract.
 use mathlib.Core.Path.{◌≡◌, sym, ◌∙◌}
 use mathlib.Core.Bool.{true, false}
-use borrow.Author.Tests.{not-true, not-false}
 use Rattle.placing_check.specs.Placing.{has_bytes}
 use Rattle.placing_span.proofs.raised.Goals as goal
 use Rattle.placing_span.proofs.raised.Goals.{Else-not-has_bytes}

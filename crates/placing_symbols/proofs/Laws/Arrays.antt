@@ -17,7 +17,7 @@ use Rattle.placing_symbols.specs.declared.SymbolValue.{SymbolValue}
 use Rattle.placing_symbols.specs.declared.SymbolValue.TheVariants.{Resolved, Unresolved}
 use Rattle.placing_symbols.specs.Reasons.{reason_number}
 use Rattle.placing_symbols.specs.Values.{symbol_value}
-use Rattle.placing_symbols.specs.Arrays.{no_values, RESOLVED, state_of, number_of, decoded, listed, ValueArrays, Long, Blank, Valued}
+use Rattle.placing_symbols.specs.Arrays.{no_values, RESOLVED, state_of, number_of, decoded, listed, Long, Blank, Valued}
 use Rattle.placing_symbols.proofs.Laws.Values.{value_past}
 
 -- what is stored for S is read as S

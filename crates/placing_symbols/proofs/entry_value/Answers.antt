@@ -1,7 +1,6 @@
 -- `placing_symbols::entry_value` meets its contract.
 use mathlib.Core.Path.{◌≡◌, sym, ap, ◌∙◌}
 use native.Mathlib.Omega.{arith}
-use borrow.Author.Tests.{not-true, not-false}
 use Rattle.numbers_definitions.specs.Classes.{bits}
 use Rattle.numbers_definitions.specs.Places.{address}
 use Rattle.numbers_definitions.specs.Whole.{plus}

@@ -1,7 +1,6 @@
 -- `placing_symbols::symbol_values` meets its contract.
 use mathlib.Core.Path.{◌≡◌, refl, sym, ap, ◌∙◌}
-use mathlib.Core.Logic.{⊎_elim}
-use Prim.Native.Nat.{◌-◌, ◌≤◌, ◌<◌}
+use Prim.Native.Nat.{◌≤◌, ◌<◌}
 use native.Mathlib.Omega.{arith}
 use lib.ListN.{length, get_or, length-set, get_or-eq_default}
 use Rattle.elf_read.specs.Sections.{section_at, symbol_table}
@@ -11,11 +10,10 @@ use Rattle.elf_check.proofs.Laws.Bounds.{symbol_inside, symbols_few}
 use Rattle.elf_read.proofs.Laws.Headers.{header_there}
 use Rattle.order_format.specs.declared.Reading.TheVariants.{WellFormed}
 use Rattle.order_format.specs.Orders.{reading}
-use Rattle.order_lookup.specs.Requires.{Reached}
 use Rattle.order_lookup.specs.Values.{external_value}
 use Rattle.placing_symbols.specs.Values.{of_entry, symbol_value}
 use Rattle.placing_symbols.proofs.Laws.Values.{value_read}
-use Rattle.placing_symbols.proofs.Laws.Arrays.{ValuedBelow, below_one, below_next, below_all}
+use Rattle.placing_symbols.proofs.Laws.Arrays.{below_one, below_next, below_all}
 use borrow.Author.Rules.{rules}
 use Rattle.placing_symbols.proofs.symbol_values.Goals as goal
 use Rattle.placing_symbols.proofs.symbol_values.Goals.{then-section-lt-MAX_SECTIONS, else-section-lt-MAX_SECTIONS, After-class_of-class, In-loop-k, Joined-section-lt-MAX_SECTIONS}
@@ -59,8 +57,8 @@ read_symbol-symbol-requires c =
 start_is : (c : Joined-section-lt-MAX_SECTIONS) → c.if-section-lt-MAX_SECTIONS.start ≡ get_or c.args.addresses c.read_symbol-symbol.result.section 0
 start_is c =
     elim c.if-section-lt-MAX_SECTIONS.branch [
-    | then-section-lt-MAX_SECTIONS w ↦ w.start-is
-    | else-section-lt-MAX_SECTIONS w ↦ w.start-is ∙ sym (get_or-eq_default c.args.addresses 0 (omega arith))
+      | then-section-lt-MAX_SECTIONS w ↦ w.start-is
+      | else-section-lt-MAX_SECTIONS w ↦ w.start-is ∙ sym (get_or-eq_default c.args.addresses 0 (omega arith))
     ]
 
 pub loop-k-preserved : goal.loop-k-preserved

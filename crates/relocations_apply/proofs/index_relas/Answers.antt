@@ -2,14 +2,13 @@
 use mathlib.Core.Path.{◌≡◌, refl, sym, ap, ◌∙◌, subst}
 use mathlib.Core.Bool.{true}
 use mathlib.Core.List.{List}
-use Prim.Native.Nat.{ℕ, suc, ◌+◌, ◌-◌, ◌≤◌, ◌<◌}
+use Prim.Native.Nat.{ℕ, suc, ◌≤◌, ◌<◌}
 use native.Mathlib.Numerals.{add-one}
 use native.Mathlib.Omega.{arith}
-use lib.ListN.{length, set, length-set}
-use borrow.Author.Tests.{not-true, not-false}
+use lib.ListN.{length-set}
 use Rattle.numbers_definitions.specs.Sums.{sum}
 use Rattle.elf_read.specs.Headers.{class_of, section_count}
-use Rattle.elf_read.specs.Sections.{section_at, counting_rela, relocation_entries, relocations_in, relocations_below}
+use Rattle.elf_read.specs.Sections.{section_at, counting_rela, relocation_entries, relocations_in}
 use Rattle.elf_check.specs.Rules.{max_relocations}
 use Rattle.elf_check.proofs.Laws.Bounds.{few_below}
 use Rattle.relocations_apply.proofs.Laws.Relas.{IndexedBelow, index_none, index_skip, index_stored, index_all}

@@ -3,7 +3,7 @@ use mathlib.Core.Path.{◌≡◌, refl, sym, ap, ◌∙◌, subst}
 use mathlib.Core.Bool.{Bool, true, false, not, cond, ◌&&◌}
 use mathlib.Core.List.{List}
 use Prim.Native.Nat.{ℕ, ◌+◌, ◌%◌, ◌^◌, ◌≤◌, ◌<◌}
-use lib.IntN.{ℤ, pos, ◌+ℤ◌, ◌-ℤ◌}
+use lib.IntN.{ℤ, pos, ◌+ℤ◌}
 use lib.Dec.{ltb, eqb}
 use native.Mathlib.Nat.{mod-eq_of_lt}
 use native.Mathlib.Omega.{arith}
@@ -27,7 +27,6 @@ use Rattle.placing_symbols.specs.declared.SymbolValue.{SymbolValue}
 use Rattle.placing_symbols.specs.Values.{symbol_value}
 use Rattle.relocations_types.specs.declared.Decision.TheVariants.{Marker, Align, Store, Refused}
 use Rattle.relocations_types.specs.declared.Decision.{Decision}
-use Rattle.relocations_types.specs.Types.{decision}
 use Rattle.relocations_types.specs.declared.Rule.{Rule}
 use Rattle.relocations_decisions.specs.Decisions.{is_store, touched, stack_width, takes_pair}
 use Rattle.relocations_rela.specs.declared.sites.Site.{Site}
@@ -40,7 +39,7 @@ use Rattle.relocations_rela.proofs.Laws.Trails.{shape_by_lem}
 use Rattle.relocations_values.specs.Values.{S, T}
 use Rattle.relocations_values.specs.declared.pairs.Pair.{Pair}
 use Rattle.relocations_values.specs.Pairs.{pair_of}
-use Rattle.relocations_rules.specs.Rules.{is_resolved, in_target, symbol, symbol_well, why, form_well, is_one, pair_well, reaches_well, distance_well, boundary_well}
+use Rattle.relocations_rules.specs.Rules.{is_resolved, in_target, symbol, symbol_well, why, form_well, is_one, pair_well, reaches_well, boundary_well}
 use Rattle.relocations_rules.specs.declared.Finding.TheVariants.{Kept, BadSymbol, BadForm, NoPair, OutOfReach, OffBoundary}
 use Rattle.relocations_rules.specs.Search.{number, first_broken, finding}
 use Rattle.relocations_bytes.specs.Sections.{sum_at, distance_at}

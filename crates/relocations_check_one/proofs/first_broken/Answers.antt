@@ -1,5 +1,4 @@
 -- `relocations_check_one::first_broken` meets its contract.
-use borrow.Author.Tests.{not-true, not-false}
 use Rattle.relocations_check_one.specs.Outcomes.{store_number}
 use Rattle.relocations_check_one.proofs.first_broken.Goals as goal
 

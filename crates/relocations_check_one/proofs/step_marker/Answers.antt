@@ -2,7 +2,6 @@
 use mathlib.Core.Path.{◌≡◌, sym, ◌∙◌}
 use mathlib.Core.Bool.{true, false}
 use native.Mathlib.Omega.{arith}
-use borrow.Author.Tests.{not-true, not-false}
 use Rattle.relocations_types.specs.declared.Decision.TheVariants.{Marker}
 use Rattle.relocations_rela.specs.Trails.{shape_by}
 use Rattle.relocations_rela.proofs.Laws.Trails.{no_width_shares}

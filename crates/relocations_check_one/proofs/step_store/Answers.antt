@@ -2,7 +2,6 @@
 use mathlib.Core.Path.{◌≡◌, refl, sym, ap, ◌∙◌, subst}
 use mathlib.Core.Bool.{cond}
 use native.Mathlib.Omega.{arith}
-use borrow.Author.Tests.{not-true, not-false}
 use Rattle.numbers_definitions.specs.Bytes.{le_at}
 use Rattle.placing_symbols.specs.Arrays.{listed}
 use Rattle.relocations_types.specs.declared.Decision.TheVariants.{Store}

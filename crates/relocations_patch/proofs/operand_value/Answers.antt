@@ -1,5 +1,5 @@
 -- `relocations_patch::operand_value` meets its contract.
-use mathlib.Core.Path.{◌≡◌, sym, ap, ◌∙◌}
+use mathlib.Core.Path.{sym, ap, ◌∙◌}
 use Rattle.numbers_definitions.specs.Classes.{bits}
 use Rattle.numbers_definitions.specs.Whole.{residue, signed}
 use Rattle.relocations_patch.specs.Regular.{operand_by}

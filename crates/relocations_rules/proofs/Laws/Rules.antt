@@ -1,14 +1,13 @@
 -- Laws of checks 10 to 14.
 use mathlib.Core.Path.{◌≡◌, refl, sym, ap, ◌∙◌}
-use mathlib.Core.Bool.{Bool, true, false, not, cond, ◌&&◌, ◌||◌}
+use mathlib.Core.Bool.{Bool, true, false, not, ◌&&◌, ◌||◌}
 use mathlib.Core.List.{List}
 use Prim.Native.Nat.{ℕ, ◌+◌, ◌*◌, ◌%◌, ◌^◌, ◌≤◌, ◌<◌}
-use native.Mathlib.Nat.{mod-eq_of_lt}
 use native.Mathlib.Omega.{arith}
 use lib.Dec.{leb, ltb, eqb}
 use borrow.Author.Tests.{ne_eqb, ltb-true, leb-false}
 use Rattle.numbers_definitions.specs.Bytes.{le_at}
-use Rattle.numbers_definitions.specs.Whole.{signed, plus}
+use Rattle.numbers_definitions.specs.Whole.{signed}
 use Rattle.numbers_definitions.specs.Powers.{ceil_power}
 use Rattle.numbers_definitions.proofs.Laws.Tests.{and_left, never}
 use Rattle.elf_read.specs.declared.Relocation.{Relocation}
@@ -24,10 +23,9 @@ use Rattle.relocations_types.specs.declared.Decision.TheVariants.{Marker, Align,
 use Rattle.relocations_types.specs.Types.{decision}
 use Rattle.relocations_rela.specs.declared.sites.Site.{Site}
 use Rattle.relocations_rela.specs.Sites.{entry, offset, decision_at, A, P, found}
-use Rattle.relocations_values.specs.Values.{S, T}
 use Rattle.relocations_decisions.specs.Decisions.{is_store, touched, needs_pair}
 use Rattle.relocations_rela.specs.Shape.{end}
-use Rattle.relocations_rules.specs.Rules.{is_resolved, in_target, symbol_well, stands_well, asks_well, form_well, distance_well, boundary_well}
+use Rattle.relocations_rules.specs.Rules.{is_resolved, in_target, symbol_well, stands_well, asks_well, form_well, boundary_well}
 use Rattle.relocations_rela.specs.Requires.{SoundSite}
 use Rattle.relocations_decisions.proofs.Laws.Decisions.{store_width, width_some}
 use Rattle.relocations_rela.proofs.Laws.Addends.{signed_low}

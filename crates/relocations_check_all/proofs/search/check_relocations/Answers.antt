@@ -1,11 +1,10 @@
 -- `relocations_check_all::search::check_relocations` meets its contract.
 use mathlib.Core.Path.{◌≡◌, refl, sym, ap, ◌∙◌, subst}
 use mathlib.Core.Bool.{true}
-use Prim.Native.Nat.{◌+◌, ◌-◌, ◌≤◌, ◌<◌}
+use Prim.Native.Nat.{◌+◌, ◌≤◌, ◌<◌}
 use native.Mathlib.Numerals.{add-one}
 use native.Mathlib.Omega.{arith}
 use lib.ListN.{length}
-use borrow.Author.Tests.{not-true, not-false}
 use Rattle.elf_read.specs.Headers.{section_count}
 use Rattle.elf_read.specs.Sections.{counting_rela}
 use Rattle.elf_read.specs.Entries.{relocation_count}
@@ -16,7 +15,7 @@ use Rattle.relocations_rela.specs.declared.sites.Site.{Site}
 use Rattle.relocations_rela.specs.Sites.{site_at, count, entry}
 use Rattle.relocations_rela.specs.Requires.{SoundSite}
 use Rattle.relocations_rela.proofs.Laws.Sites.{sound_site}
-use Rattle.relocations_rules.specs.declared.RelocationCheck.TheVariants.{Passed, Broken}
+use Rattle.relocations_rules.specs.declared.RelocationCheck.TheVariants.{Broken}
 use Rattle.relocations_rules.specs.Rules.{is_resolved, why}
 use Rattle.relocations_rules.proofs.Laws.Rules.{resolved_there}
 use Rattle.relocations_check_all.proofs.Laws.Search.{Below, below_start, below_skip, site_room, below_site, broken_there, below_broken, below_all, broken_passed}

@@ -1,20 +1,17 @@
 -- `relocations_check_all::search::check_site` meets its contract.
 use mathlib.Core.Path.{◌≡◌, refl, sym, ap, ◌∙◌, subst}
-use mathlib.Core.List.{List}
-use Prim.Native.Nat.{ℕ, ◌+◌, ◌-◌, ◌≤◌, ◌<◌}
+use Prim.Native.Nat.{◌+◌, ◌<◌}
 use native.Mathlib.Numerals.{add-one}
 use native.Mathlib.Omega.{arith}
 use lib.ListN.{length, length-set}
 use Rattle.elf_read.specs.Headers.{class_of, has_rvc}
 use Rattle.elf_read.proofs.Laws.Headers.{header_there}
-use Rattle.placing_symbols.specs.Arrays.{Valued}
 use Rattle.relocations_types.specs.Types.{decision}
 use Rattle.relocations_decisions.specs.Decisions.{touched}
 use Rattle.relocations_decisions.proofs.Laws.Decisions.{touched_small}
 use Rattle.relocations_rela.specs.Sites.{count, decision_at}
 use Rattle.relocations_rela.specs.Trails.{trail_at}
 use Rattle.relocations_check_one.specs.Outcomes.{Onward}
-use Rattle.relocations_check_one.specs.Requires.{Listing}
 use Rattle.relocations_check_all.specs.Sites.{KeptBelow, Worded}
 use Rattle.relocations_check_all.proofs.Laws.Sites.{Searching, searching_start, searching_next, trail_next, number_found}
 use Rattle.relocations_check_all.proofs.search.check_site.Goals as goal

@@ -1,7 +1,6 @@
 -- `relocations_check_all::search::reason_at` meets its contract.
 use mathlib.Core.Path.{◌≡◌, sym, ap, ◌∙◌}
 use Rattle.elf_read.specs.declared.Relocation.{Relocation}
-use Rattle.placing_symbols.specs.declared.SymbolValue.{SymbolValue}
 use Rattle.placing_symbols.specs.Arrays.{listed}
 use Rattle.relocations_rela.specs.Sites.{entry}
 use Rattle.relocations_rules.specs.Rules.{why}

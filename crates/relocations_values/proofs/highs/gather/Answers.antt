@@ -1,10 +1,10 @@
 -- `relocations_values::highs::gather` meets its contract.
 use mathlib.Core.Path.{◌≡◌, refl}
-use Prim.Native.Nat.{◌-◌, ◌≤◌, ◌<◌}
+use Prim.Native.Nat.{◌<◌}
 use native.Mathlib.Omega.{arith}
 use lib.ListN.{length, length-set}
 use Rattle.relocations_rela.specs.Sites.{count}
-use Rattle.relocations_values.proofs.Laws.Highs.{Gathering, gathering_start, read_passed, read_more, gathered}
+use Rattle.relocations_values.proofs.Laws.Highs.{gathering_start, read_passed, read_more, gathered}
 use Rattle.relocations_values.proofs.highs.gather.Goals as goal
 use Rattle.relocations_values.proofs.highs.gather.Goals.{In-loop-k}
 
@@ -19,12 +19,11 @@ pub bounds-highs-m : goal.bounds-highs-m
 bounds-highs-m c = room (goal.at.bounds-highs-m c).In-loop-k
 
 pub loop-k-preserved-then-is_high : goal.loop-k-preserved-then-is_high
-loop-k-preserved-then-is_high c =
-    (
-      omega (arith, c.loop-k-test.true),
-      simp length-set c.loop-k.invariant.1,
-      read_more _ _ _ _ _ _ _ c.loop-k.invariant.2 _ c.read_kind.ensures _ (c.is_high.ensures _ _) c.if-is_high.true (room (goal.at.loop-k-preserved-then-is_high c).In-loop-k) _ c.read_offset-offset.ensures,
-    )
+loop-k-preserved-then-is_high c = (
+  omega (arith, c.loop-k-test.true),
+  simp length-set c.loop-k.invariant.1,
+  read_more _ _ _ _ _ _ _ c.loop-k.invariant.2 _ c.read_kind.ensures _ (c.is_high.ensures _ _) c.if-is_high.true (room (goal.at.loop-k-preserved-then-is_high c).In-loop-k) _ c.read_offset-offset.ensures,
+)
 
 pub loop-k-preserved : goal.loop-k-preserved
 loop-k-preserved c =

@@ -1,10 +1,8 @@
 -- `relocations_values::highs::gather` meets its contract. The loop's invariant: the high halves below k are listed. The measure is what is left.
-use mathlib.Core.Path.{◌≡◌, refl}
-use Prim.Native.Nat.{◌-◌, ◌≤◌, ◌<◌}
-use native.Mathlib.Omega.{arith}
-use lib.ListN.{length, length-set}
-use Rattle.relocations_rela.specs.Sites.{count}
-use Rattle.relocations_values.proofs.Laws.Highs.{Gathering, gathering_start, read_passed, read_more, gathered}
+use mathlib.Core.Path.{◌≡◌}
+use Prim.Native.Nat.{◌-◌, ◌≤◌}
+use lib.ListN.{length}
+use Rattle.relocations_values.proofs.Laws.Highs.{Gathering}
 use Rattle.relocations_values.proofs.highs.gather.Given as goal
 
 abbrev pub invariant-loop-k : goal.invariant-loop-k

@@ -1,9 +1,7 @@
 -- `relocations_values::pairs::first_not_below` meets its contract. The loop's invariant: what is before `low` is below the offset, and what is
 -- `more` - 1 places on, or further, is not. The measure is `more`.
-use Prim.Native.Nat.{ℕ, ◌+◌, ◌-◌, ◌/◌, ◌≤◌, ◌<◌}
-use native.Mathlib.Omega.{arith}
+use Prim.Native.Nat.{ℕ, ◌+◌, ◌≤◌, ◌<◌}
 use Rattle.relocations_values.specs.Sorting.{keys}
-use Rattle.relocations_values.proofs.Laws.Lookup.{listed_stands, halves_below, halves_from}
 use Rattle.relocations_values.proofs.pairs.first_not_below.Given as goal
 
 abbrev pub invariant-loop-more : goal.invariant-loop-more

@@ -1,11 +1,9 @@
 -- `relocations_values::pairs::pair_at` meets its contract.
-use mathlib.Core.Logic.{⊎_elim}
 use mathlib.Core.Path.{◌≡◌, sym, ap, ◌∙◌}
 use mathlib.Core.Bool.{false}
-use Prim.Native.Nat.{◌+◌, ◌-◌, ◌≤◌, ◌<◌}
+use Prim.Native.Nat.{◌+◌}
 use native.Mathlib.Omega.{arith}
 use Rattle.relocations_values.specs.declared.pairs.Pair.TheVariants.{At}
-use Rattle.relocations_values.specs.Sorting.{keys}
 use Rattle.relocations_values.proofs.Laws.Lookup.{is_there, lookup_none, lookup_one, lookup_two}
 use Rattle.relocations_values.proofs.pairs.pair_at.Goals as goal
 use Rattle.relocations_values.proofs.pairs.pair_at.Goals.{Left-search, else-search-test, then-search-test+then-n-eq2}
@@ -22,8 +20,8 @@ search-preserved c =
 met : (c : Left-search) → c.search-test.n ≡ 1 → (c.search.n ≡ 1) × (c.is_at.result ≡ false)
 met c e =
     elim c.search-test.branch [
-    | else-search-test w ↦ (sym w.n-is ∙ e, w.search-test.false)
-    | then-search-test+then-n-eq2 w ↦ absurd (omega arith)
+      | else-search-test w ↦ (sym w.n-is ∙ e, w.search-test.false)
+      | then-search-test+then-n-eq2 w ↦ absurd (omega arith)
     ]
 
 pub number_at-requires : goal.number_at-requires
@@ -40,12 +38,12 @@ returns-then-n-eq1 c =
 pub returns : goal.returns
 returns c =
     elim c.search-test.branch [
-    | else-search-test w ↦
-    let none : c.search.n ≡ 0 = omega (arith, w.n-is, c.if-n-eq1.false) in
-    sym (lookup_none _ _ _ _ c.requires.1 _ _ c.first_not_below-first.ensures _ (omega arith) (sym c.is_at.ensures ∙ w.search-test.false))
-    | then-search-test+then-n-eq2 w ↦
-    let one : c.search.n ≡ 1 = omega arith in
-    let first = c.search.invariant.1 (omega arith) in
-    let second = is_there _ _ _ _ c.requires.1 _ (c.first_not_below-first.result + 1) _ (omega arith) (sym c.is_at.ensures ∙ w.search-test.true) in
-    sym (lookup_two _ _ _ _ c.requires.1 _ _ c.first_not_below-first.ensures second.0 first.1 second.1)
+      | else-search-test w ↦
+          let none : c.search.n ≡ 0 = omega (arith, w.n-is, c.if-n-eq1.false) in
+          sym (lookup_none _ _ _ _ c.requires.1 _ _ c.first_not_below-first.ensures _ (omega arith) (sym c.is_at.ensures ∙ w.search-test.false))
+      | then-search-test+then-n-eq2 w ↦
+          let one : c.search.n ≡ 1 = omega arith in
+          let first = c.search.invariant.1 (omega arith) in
+          let second = is_there _ _ _ _ c.requires.1 _ (c.first_not_below-first.result + 1) _ (omega arith) (sym c.is_at.ensures ∙ w.search-test.true) in
+          sym (lookup_two _ _ _ _ c.requires.1 _ _ c.first_not_below-first.ensures second.0 first.1 second.1)
     ]

@@ -1,13 +1,8 @@
 -- `relocations_values::pairs::pair_at` meets its contract. The loop's invariant: at most one high half at the offset was met, and it is the first
 -- that is not below it. The measure is how many more may be met.
-use mathlib.Core.Logic.{⊎_elim}
-use mathlib.Core.Path.{◌≡◌, sym, ap, ◌∙◌}
-use mathlib.Core.Bool.{false}
-use Prim.Native.Nat.{◌+◌, ◌-◌, ◌≤◌, ◌<◌}
-use native.Mathlib.Omega.{arith}
-use Rattle.relocations_values.specs.declared.pairs.Pair.TheVariants.{At}
+use mathlib.Core.Path.{◌≡◌}
+use Prim.Native.Nat.{◌-◌, ◌≤◌, ◌<◌}
 use Rattle.relocations_values.specs.Sorting.{keys}
-use Rattle.relocations_values.proofs.Laws.Lookup.{is_there, lookup_none, lookup_one, lookup_two}
 use Rattle.relocations_values.proofs.pairs.pair_at.Given as goal
 
 abbrev pub invariant-search : goal.invariant-search
