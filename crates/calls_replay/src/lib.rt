@@ -113,8 +113,7 @@ pub fn read_list(calls: &[u8]) -> List
         at = call_end(calls, at);
         i += 1;
     }
-    let is_left_over = at != calls.len();
-    if is_left_over {
+    if at != calls.len() {
         return List::Malformed;
     }
     List::Calls(n)

@@ -69,12 +69,12 @@ end_at c =
     let last : c.loop-i.i ≡ call_count s = omega (arith, c.loop-i.invariant.0, c.loop-i-test.false, c.read32-n.ensures) in
     c.loop-i.invariant.1 ∙ ap (call_start s) last
 
-pub returns-then-is_left_over : goal.returns-then-is_left_over
-returns-then-is_left_over c =
+pub returns-then-at-calls : goal.returns-then-at-calls
+returns-then-at-calls c =
     let s = c.args.calls.now in
-    sym (malformed s (not_list_end s (λ e. c.if-is_left_over.true (end_at (goal.at.returns-then-is_left_over c).After-loop-i ∙ e))))
+    sym (malformed s (not_list_end s (λ e. c.if-at-calls.true (end_at (goal.at.returns-then-at-calls c).After-loop-i ∙ e))))
 
 pub returns : goal.returns
 returns c =
     let s = c.args.calls.now in
-    listed s _ c.read32-n.ensures (list_is s (all_calls (goal.at.returns c).After-loop-i) (sym (end_at (goal.at.returns c).After-loop-i) ∙ c.if-is_left_over.false))
+    listed s _ c.read32-n.ensures (list_is s (all_calls (goal.at.returns c).After-loop-i) (sym (end_at (goal.at.returns c).After-loop-i) ∙ c.if-at-calls.false))
