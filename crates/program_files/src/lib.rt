@@ -5,7 +5,7 @@
 // malformed one.
 #![tactic(auto)]
 
-ghost use Rattle.std.specs.Prelude.{◌≡◌};
+ghost use Rattle.std.specs.Prelude.{◌≡◌, IsUtf8, MatchResult};
 ghost use Rattle.std.specs.Io.{ReadsAtMost};
 ghost use Rattle.io.specs.Counts.{IsPrefixLen};
 
@@ -137,8 +137,10 @@ pub fn open_read(rt: HostRuntime, path: &[u8]) -> io::Result<fs::File> {
     fs::open(&rt, text(path)?)
 }
 
-// The path as text, by which `std` reaches a file.
-pub fn text(path: &[u8]) -> io::Result<&str> {
+// The path as text, by which `std` reaches a file, or an error where its bytes are none.
+pub fn text(path: &[u8]) -> io::Result<&str>
+    ensures { MatchResult result (λ text. text.now ≡ path.now) (λ _. ¬ (IsUtf8 path.now)) }
+{
     match str::from_utf8(path) {
         Ok(text) => Ok(text),
         Err(_) => Err(io::Error::from_raw_os_error(EILSEQ)),
