@@ -1,5 +1,5 @@
 -- What a done install leaves in the image (demand 2: "Once done, ..").
-use Rattle.std.specs.Prelude.{◌≡◌, true, List, ℕ, ◌+◌, ◌-◌, ◌≤◌, ◌<◌, length, get_or}
+use Rattle.std.specs.Prelude.{◌≡◌, true, List, ℕ, ◌+◌, ◌-◌, ◌≤◌, ◌<◌, length, get_or, Some}
 use Rattle.numbers_definitions.specs.Bytes.{le_at, part}
 use Rattle.elf_read.specs.Headers.{address_width, section_count}
 use Rattle.elf_read.specs.Sections.{section_at, counting_rela}
@@ -16,7 +16,6 @@ use Rattle.relocations_types.specs.declared.Decision.TheVariants.{Store}
 use Rattle.relocations_rela.specs.declared.sites.Site.{Site}
 use Rattle.relocations_rela.specs.Sites.{site_at, count, decision_at, offset}
 use Rattle.relocations_rela.specs.Shape.{end}
-use Rattle.relocations_values.specs.declared.pairs.Pair.TheVariants.{At}
 use Rattle.relocations_values.specs.Values.{target_at}
 use Rattle.relocations_values.specs.Pairs.{pair_of}
 use Rattle.relocations_rules.specs.Rules.{symbol}
@@ -85,5 +84,5 @@ module _ (object order : List ℕ) where
         → AddUp (address_width object) a.field (bytes_at after h i a.size) b.field (bytes_at after l j b.size) (target h i)
     -- ".. or distance": 24 or 25 with the one 23 that is its pair
     pub distances_whole : (i j : ℕ) → IsRelocation i j → (b : Rule) → decision_at object (site_of i) j ≡ Store b → b.calculation ≡ Of Low Paired
-        → (k : ℕ) × (k < count object (site_of i)) × (pair_of object (site_of i) (symbol object (site_of i) j).value ≡ At k)
+        → (k : ℕ) × (k < count object (site_of i)) × (pair_of object (site_of i) (symbol object (site_of i) j).value ≡ Some k)
         × AddUp (address_width object) U (bytes_at after i k 4) b.field (bytes_at after i j b.size) (distance_at object order (addresses_for object order) (site_of i) k)

@@ -1,5 +1,5 @@
 -- Every rule of document 01 as a proposition, in the order of the numbers of "When the fitter says no".
-use Rattle.std.specs.Prelude.{◌⊎◌, ◌≡◌, Bool, true, false, List, ℕ, suc, ◌+◌, ◌*◌, ◌/◌, ◌%◌, ◌^◌, ◌≤◌, ◌<◌, length, get_or, ℤ, pos, negsuc, nat_abs}
+use Rattle.std.specs.Prelude.{◌⊎◌, ◌≡◌, Bool, true, false, List, ℕ, suc, ◌+◌, ◌*◌, ◌/◌, ◌%◌, ◌^◌, ◌≤◌, ◌<◌, length, get_or, ℤ, pos, negsuc, nat_abs, Some}
 use Rattle.numbers_definitions.specs.Bytes.{le_at}
 use Rattle.numbers_definitions.specs.declared.Class.{Class}
 use Rattle.numbers_definitions.specs.declared.Class.TheVariants.{Elf32, Elf64}
@@ -32,7 +32,6 @@ use Rattle.plan_pieces.specs.declared.Span.{Span}
 use Rattle.journal_history.specs.Calls.{Files}
 use Rattle.placing_check.specs.Placing.{end_of, unit, has_bytes}
 use Rattle.relocations_rela.specs.declared.sites.Site.{Site}
-use Rattle.relocations_rela.specs.declared.shape.Previous.TheVariants.{Entry}
 use Rattle.relocations_rela.specs.Sites.{site_at, count, entry, decision_at, offset, A, P, found}
 use Rattle.relocations_decisions.specs.Decisions.{is_store, is_refused, stack_width, needs_pair}
 use Rattle.relocations_rela.specs.Shape.{end, previous}
@@ -157,7 +156,7 @@ pub record ShapeWell (object : List ℕ) (x : Site) (j : ℕ) : Type 0 where
   -- "The bytes touched lie in the row; a marker's offset is at most the row size."
   pub inside : end object x j ≤ x.target.size
   -- "A non-marker starts at or after the end of the previous non-marker, or" shares its place
-  pub clear : is_store (decision_at object x j) ≡ true → (i : ℕ) → previous object x j ≡ Entry i → (end object x i ≤ offset object x j) ⊎ SharePlace object x i j
+  pub clear : is_store (decision_at object x j) ≡ true → (i : ℕ) → previous object x j ≡ Some i → (end object x i ≤ offset object x j) ⊎ SharePlace object x i j
   -- the addend rules of 43, and of 24 and 25: "A must be 0"
   pub padding : decision_at object x j ≡ Align → PaddingWell object x j
   pub no_addend : needs_pair (decision_at object x j) ≡ true → nat_abs (A object x j) ≡ 0

@@ -18,7 +18,7 @@ use calls_judge::{Answer, is_done, judge_relocations, judge_sections};
 use elf_check::MAX_RELOCATIONS;
 use elf_read::MAX_SECTIONS;
 use journal_undo::RolledBack;
-use order_format::{OrderHeader, Reading};
+use order_format::OrderHeader;
 use order_lookup::Addresses;
 
 // Check 15. If it passes, the span's old bytes are recorded, and then the sections are laid.
@@ -180,7 +180,7 @@ fn judge_and_fit(
     image: &mut [u8],
     journal: &mut [u8],
 ) -> Answer
-    requires { (header_allowed object.now ≡ true) × (reading (class_of object.now) order.now ≡ Reading.WellFormed counts) × (sound journal.old (length image.old) ≡ true) }
+    requires { (header_allowed object.now ≡ true) × (reading (class_of object.now) order.now ≡ Some counts) × (sound journal.old (length image.old) ≡ true) }
     ensures { record { answer = answer_of result; after = files image.new journal.new }
         ≡ our_install object.now order.now (files image.old journal.old) }
 {
@@ -206,8 +206,8 @@ pub fn install(object: &[u8], order: &[u8], image: &mut [u8], journal: &mut [u8]
         return Answer::BadHeader;
     }
     match order_format::read_order(elf_read::class_of(object), order) {
-        Reading::Malformed => Answer::OrderMalformed,
-        Reading::WellFormed(counts) => judge_and_fit(object, order, counts, image, journal),
+        None => Answer::OrderMalformed,
+        Some(counts) => judge_and_fit(object, order, counts, image, journal),
     }
 }
 

@@ -15,11 +15,10 @@ ghost use Rattle.order_lookup.specs.Addresses.{no_addresses, addresses_for};
 ghost use Rattle.calls_judge.specs.Answers.{answer_of};
 ghost use Rattle.calls_judge.specs.Judged.{Lent, PlacedWell, JudgedWell};
 
-use elf_check::{MAX_SYMBOLS, SectionCheck};
+use elf_check::MAX_SYMBOLS;
 use elf_read::class_of;
-use order_format::{OrderHeader, Reading};
+use order_format::OrderHeader;
 use order_lookup::Addresses;
-use placing_match::Fault;
 use placing_symbols::{Reason, Symbols, reason_number, symbol_values};
 use relocations_check_all::search::check_relocations;
 use relocations_rules::{Finding, RelocationCheck};
@@ -214,11 +213,11 @@ fn judge_placing(
     let placed = placing.addresses;
     let fault = placing.fault;
     match fault {
-        Fault::Nowhere => Judged {
+        Ok(()) => Judged {
             answer: Answer::Done,
             addresses: placed,
         },
-        Fault::At(i) => Judged {
+        Err(i) => Judged {
             answer: Answer::Misplaced(i),
             addresses: placed,
         },
@@ -233,12 +232,12 @@ fn judge_externals(
     len: usize,
     addresses: Addresses,
 ) -> Judged
-    requires { Readable object.now order.now counts len × (placement_check object.now order.now ≡ Fault.Nowhere) × (addresses ≡ no_addresses) }
+    requires { Readable object.now order.now counts len × (placement_check object.now order.now ≡ Ok tt) × (addresses ≡ no_addresses) }
     ensures { PlacedWell object.now order.now counts len result }
 {
     match placing_match::check_externals(object, order, counts) {
-        Fault::Nowhere => judge_placing(object, order, counts, len, addresses),
-        Fault::At(k) => Judged {
+        Ok(()) => judge_placing(object, order, counts, len, addresses),
+        Err(k) => Judged {
             answer: Answer::WrongExternal(k),
             addresses,
         },
@@ -257,8 +256,8 @@ fn judge_placements(
     ensures { PlacedWell object.now order.now counts len result }
 {
     match placing_match::check_placements(object, order, counts) {
-        Fault::Nowhere => judge_externals(object, order, counts, len, addresses),
-        Fault::At(i) => Judged {
+        Ok(()) => judge_externals(object, order, counts, len, addresses),
+        Err(i) => Judged {
             answer: Answer::PlacementsDiffer(i),
             addresses,
         },
@@ -274,7 +273,7 @@ pub fn judge_sections(
     len: usize,
     addresses: Addresses,
 ) -> Judged
-    requires { (header_allowed object.now ≡ true) × (reading (class_of object.now) order.now ≡ Reading.WellFormed counts) × (addresses ≡ no_addresses) }
+    requires { (header_allowed object.now ≡ true) × (reading (class_of object.now) order.now ≡ Some counts) × (addresses ≡ no_addresses) }
     ensures { PlacedWell object.now order.now counts len result }
 {
     if !order_format::window_allowed(class_of(object), counts.base, len) {
@@ -284,8 +283,8 @@ pub fn judge_sections(
         };
     }
     match elf_check::check_sections(object) {
-        SectionCheck::Sound => judge_placements(object, order, counts, len, addresses),
-        SectionCheck::Broken(i) => Judged {
+        Ok(()) => judge_placements(object, order, counts, len, addresses),
+        Err(i) => Judged {
             answer: Answer::BadSection(i),
             addresses,
         },

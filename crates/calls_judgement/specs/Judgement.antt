@@ -1,18 +1,14 @@
 -- Document 01, "When the fitter says no": checks 2 to 14 in their order, and the plan of an install that passes them all. It depends
 -- on object, order and image length alone. Document 02: "the class is read before the order, so the checks run 1, 4, 2, 3, 5 for both classes".
-use Rattle.std.specs.Prelude.{ℕ, Bool, cond, List}
+use Rattle.std.specs.Prelude.{ℕ, Bool, cond, List, Err, Ok, Result, ⊤}
 use Rattle.order_format.specs.Orders.{base, well_formed}
 use Rattle.order_format.specs.Windows.{window_allowed}
 use Rattle.order_lookup.specs.Addresses.{addresses, addresses_for, base_for}
 use Rattle.elf_read.specs.Headers.{class_of, address_width, section_count}
 use Rattle.elf_header.specs.Headers.{header_allowed}
-use Rattle.elf_check.specs.declared.SectionCheck.{SectionCheck}
-use Rattle.elf_check.specs.declared.SectionCheck.TheVariants.{Sound, Broken as BrokenAt}
 use Rattle.elf_check.specs.Rules.{section_check}
 use Rattle.plan_pieces.specs.Answers.{says, says_why}
 use Rattle.plan_pieces.specs.Plans.{Piece, Verdict, refused, plan, Judge}
-use Rattle.placing_match.specs.declared.Fault.{Fault}
-use Rattle.placing_match.specs.declared.Fault.TheVariants.{Nowhere, At}
 use Rattle.placing_match.specs.Placements.{placement_check}
 use Rattle.placing_match.specs.Externals.{external_check}
 use Rattle.placing_check.specs.Placing.{placing_check}
@@ -29,14 +25,14 @@ abbrev pub after_test : ℕ → Bool → Verdict → Verdict
 after_test n kept next = cond kept next (refused (says n 0))
 
 -- 5
-abbrev pub after_sections : SectionCheck → Verdict → Verdict
-after_sections Sound next = next
-after_sections (BrokenAt i) next = refused (says 5 i)
+abbrev pub after_sections : Result ⊤ ℕ → Verdict → Verdict
+after_sections (Ok _) next = next
+after_sections (Err i) next = refused (says 5 i)
 
 -- 6, 7, 8
-abbrev pub after_fault : ℕ → Fault → Verdict → Verdict
-after_fault n Nowhere next = next
-after_fault n (At place) next = refused (says n place)
+abbrev pub after_fault : ℕ → Result ⊤ ℕ → Verdict → Verdict
+after_fault n (Ok _) next = next
+after_fault n (Err place) next = refused (says n place)
 
 -- 9 to 14; 10 carries its reason
 abbrev pub after_relocations : RelocationCheck → Verdict → Verdict

@@ -14,13 +14,6 @@ pub const TAKE_BACK: u32 = 2;
 // Where the first call starts: after the count.
 pub const FIRST_AT: usize = 4;
 
-// How many calls a list has, or that the bytes are no list.
-#[derive(Clone, Copy)]
-pub enum List {
-    Malformed,
-    Calls(usize),
-}
-
 // Whether the fit at a place lies inside the bytes. Its object and its order each follow their length.
 fn is_fit_inside(calls: &[u8], at: usize) -> bool
     requires { IsFit calls.now at }
@@ -95,26 +88,26 @@ pub fn order_of(calls: &[u8], at: usize) -> &[u8]
     &calls[from..to]
 }
 
-// How many calls the bytes list, or `Malformed` if they are no list. Every call is checked, and no byte may be left
+// How many calls the bytes list, or nothing if they are no list. Every call is checked, and no byte may be left
 // over.
-pub fn read_list(calls: &[u8]) -> List
-    ensures { result ≡ cond (is_list calls.now) (List.Calls (call_count calls.now)) List.Malformed }
+pub fn read_list(calls: &[u8]) -> Option<usize>
+    ensures { result ≡ cond (is_list calls.now) (Some (call_count calls.now)) None }
 {
     if calls.len() < FIRST_AT {
-        return List::Malformed;
+        return None;
     }
     let n = numbers_bytes::read32(calls, 0) as usize;
     let mut at = FIRST_AT;
     let mut i: usize = 0;
     while i < n {
         if !is_call(calls, at) {
-            return List::Malformed;
+            return None;
         }
         at = call_end(calls, at);
         i += 1;
     }
     if at != calls.len() {
-        return List::Malformed;
+        return None;
     }
-    List::Calls(n)
+    Some(n)
 }

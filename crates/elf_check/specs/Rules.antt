@@ -1,12 +1,10 @@
 -- "Row rules": each sentence as a test of section i. `Sound` has the same sentences as propositions.
-use Rattle.std.specs.Prelude.{ℕ, suc, ◌+◌, ◌%◌, Bool, not, cond, ◌&&◌, ◌||◌, List, length, leb, ltb, eqb}
+use Rattle.std.specs.Prelude.{ℕ, suc, ◌+◌, ◌%◌, Bool, not, cond, ◌&&◌, ◌||◌, List, length, leb, ltb, eqb, Err, Ok, Result, ⊤}
 use Rattle.numbers_definitions.specs.First.{first, everywhere}
 use Rattle.numbers_definitions.specs.Powers.{one_bit}
 use Rattle.elf_read.specs.Headers.{class_of, symbol_size, relocation_size, section_count}
 use Rattle.elf_read.specs.Sections.{NULL, SYMTAB, RELA, NOBITS, REL, section_at, allocated, loaded, symbol_table, counting_rel, counting_rela, relocations_below}
 use Rattle.elf_read.specs.Entries.{symbol_entries}
-use Rattle.elf_check.specs.declared.SectionCheck.{SectionCheck}
-use Rattle.elf_check.specs.declared.SectionCheck.TheVariants.{Sound, Broken}
 use Rattle.elf_header.specs.Headers.{table_allowed}
 
 -- "at most 1,024" symbols and "at most 4,096 records"; document 02: "symbols and outside values up to 8,192, records up to 32,768"
@@ -78,7 +76,7 @@ section_well s i =
     && relocations_well s i
 
 -- check 5: place 0 if the table itself is at fault, else the first section that breaks a rule
-unfoldable pub section_check : List ℕ → SectionCheck
+unfoldable pub section_check : List ℕ → Result ⊤ ℕ
 section_check s =
     let i = first (λ j. not (section_well s j)) (section_count s) in
-    cond (table_allowed s) (cond (ltb i (section_count s)) (Broken i) Sound) (Broken 0)
+    cond (table_allowed s) (cond (ltb i (section_count s)) (Err i) (Ok tt)) (Err 0)

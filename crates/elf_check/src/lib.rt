@@ -16,13 +16,6 @@ pub const MAX_SYMBOLS: usize = 8192;
 
 pub const MAX_RELOCATIONS: usize = 32768;
 
-// What check 5 finds: nothing, or the first section that breaks a rule. A fault of the table itself has place 0.
-#[derive(Clone, Copy)]
-pub enum SectionCheck {
-    Sound,
-    Broken(u32),
-}
-
 // Whether no two counting RELA sections have one target, in one way through the sections. `marks` has an entry for each section, which comes
 // as 0 and gets one more than the number of the RELA section that relocates it.
 fn targets_differ(object: &[u8], marks: &mut [u32]) -> bool
@@ -143,13 +136,13 @@ fn is_relocation_well(object: &[u8], table: usize, few: bool, differ: bool, i: u
     is_rela_kept(object, table, few, differ, i)
 }
 
-// Check 5.
-pub fn check_sections(object: &[u8]) -> SectionCheck
+// Check 5. An error is the first section that breaks a rule. A fault of the table itself has place 0.
+pub fn check_sections(object: &[u8]) -> Result<(), u32>
     requires { HeaderInside object.now }
     ensures { result ≡ section_check object.now }
 {
     if !elf_header::check_table(object) {
-        return SectionCheck::Broken(0);
+        return Err(0);
     }
     let n = elf_read::section_count(object);
     let table = elf_read::symbol_table(object);
@@ -162,9 +155,9 @@ pub fn check_sections(object: &[u8]) -> SectionCheck
             & is_symbol_table_well(object, table, i)
             & is_relocation_well(object, table, few, differ, i))
         {
-            return SectionCheck::Broken(i as u32);
+            return Err(i as u32);
         }
         i += 1;
     }
-    SectionCheck::Sound
+    Ok(())
 }

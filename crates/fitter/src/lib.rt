@@ -14,7 +14,7 @@ ghost use Rattle.fitter.specs.Replayed.{Demand3Of};
 
 use calls_install::{install, rollback};
 use calls_judge::code_of;
-use calls_replay::{FIRST_AT, List};
+use calls_replay::FIRST_AT;
 
 // `install` for callers in other languages. The four buffers must not overlap.
 pub fn aktinoph_fit(object: &[u8], order: &[u8], image: &mut [u8], ledger: &mut [u8]) -> u64
@@ -95,7 +95,7 @@ pub fn aktinoph_replay(
         → Demand3Of calls.now (files image.old ledger.old) answers.new (files image.new ledger.new) }
 {
     match calls_replay::read_list(calls) {
-        List::Malformed => 0,
-        List::Calls(n) => replay_list(calls, n, image, ledger, answers),
+        None => 0,
+        Some(n) => replay_list(calls, n, image, ledger, answers),
     }
 }

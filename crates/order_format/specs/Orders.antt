@@ -8,7 +8,8 @@
 -- and outside values up to 8,192".
 --
 -- "Both lists strictly ascending by index; no byte left over."
-use Rattle.std.specs.Prelude.{ℕ, suc, ◌+◌, ◌-◌, ◌*◌, Bool, cond, ◌&&◌, List, [], ◌∷◌, ◌++◌, length, leb, ltb, eqb}
+use Rattle.order_format.specs.declared.OrderHeader.{OrderHeader}
+use Rattle.std.specs.Prelude.{ℕ, suc, ◌+◌, ◌-◌, ◌*◌, Bool, cond, ◌&&◌, List, [], ◌∷◌, ◌++◌, length, leb, ltb, eqb, None, Option, Some}
 use Rattle.numbers_definitions.specs.Bytes.{le_at, bytes}
 use Rattle.numbers_definitions.specs.Classes.{address_bytes}
 use Rattle.numbers_definitions.specs.First.{everywhere, tabulate}
@@ -16,8 +17,6 @@ use Rattle.numbers_definitions.specs.Places.{address}
 use Rattle.numbers_definitions.specs.declared.Address.{Address}
 use Rattle.numbers_definitions.specs.declared.Class.{Class}
 use Rattle.order_format.specs.declared.Entry.{Entry}
-use Rattle.order_format.specs.declared.Reading.{Reading}
-use Rattle.order_format.specs.declared.Reading.TheVariants.{Malformed, WellFormed}
 
 -- ---- the format
 
@@ -118,9 +117,9 @@ order_of c s =
       externals = tabulate (external c s) (external_count c s);
     }
 
--- the base and the counts, or malformed
-unfoldable pub reading : Class → List ℕ → Reading
+-- the base and the counts, or nothing if the bytes are malformed
+unfoldable pub reading : Class → List ℕ → Option OrderHeader
 reading c s =
     cond (well_formed c s)
-    (WellFormed (record { base = address (base c s); placements = placement_count c s; externals = external_count c s }))
-    Malformed
+    (Some (record { base = address (base c s); placements = placement_count c s; externals = external_count c s }))
+    None

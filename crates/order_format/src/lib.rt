@@ -30,12 +30,6 @@ pub struct OrderHeader {
     pub externals: usize,
 }
 
-#[derive(Clone, Copy)]
-pub enum Reading {
-    Malformed,
-    WellFormed(OrderHeader),
-}
-
 // The size in bytes of an order without entries, which is three counts and the base.
 fn empty_size(class: Class) -> usize
     ensures { result ≡ empty_size class }
@@ -104,40 +98,40 @@ fn ascends(class: Class, order: &[u8], at: usize, n: usize) -> bool
     true
 }
 
-// Check 2: the base and the counts of an order, or that the bytes are not an order. The count of a list is the four bytes before
+// Check 2: the base and the counts of an order, or nothing where the bytes are not an order. The count of a list is the four bytes before
 // the list.
-pub fn read_order(class: Class, order: &[u8]) -> Reading
+pub fn read_order(class: Class, order: &[u8]) -> Option<OrderHeader>
     ensures { result ≡ reading class order.now }
 {
     if order.len() < empty_size(class) {
-        return Reading::Malformed;
+        return None;
     }
     if numbers_bytes::read32(order, 0) != 1 {
-        return Reading::Malformed;
+        return None;
     }
     let first = placements_start(class);
     let placements = numbers_bytes::read32(order, first - 4) as usize;
     if MAX_PLACEMENTS < placements {
-        return Reading::Malformed;
+        return None;
     }
     let start = externals_start(class, placements);
     if order.len() < start {
-        return Reading::Malformed;
+        return None;
     }
     let externals = numbers_bytes::read32(order, start - 4) as usize;
     if MAX_EXTERNALS < externals {
-        return Reading::Malformed;
+        return None;
     }
     if order.len() != entry_place(class, start, externals) {
-        return Reading::Malformed;
+        return None;
     }
     if !ascends(class, order, first, placements) {
-        return Reading::Malformed;
+        return None;
     }
     if !ascends(class, order, start, externals) {
-        return Reading::Malformed;
+        return None;
     }
-    Reading::WellFormed(OrderHeader {
+    Some(OrderHeader {
         base: Address(numbers_bytes::read_address(class, order, 4)),
         placements,
         externals,

@@ -9,17 +9,10 @@ ghost use Rattle.order_lookup.specs.Addresses.{placed_at, no_addresses, addresse
 
 use elf_read::MAX_SECTIONS;
 use numbers_definitions::{Address, Class};
-use order_format::{OrderHeader, Reading};
+use order_format::OrderHeader;
 
-// The address or value that an order gives.
-#[derive(Clone, Copy)]
-pub enum Value {
-    Given(Address),
-    NotGiven,
-}
-
-// The value that the n entries from `at` on give to number k. They ascend strictly, so this is a binary search.
-fn find(class: Class, order: &[u8], at: usize, n: usize, k: u32) -> Value
+// The value that the n entries from `at` on give to number k, if they give one. They ascend strictly, so this is a binary search.
+fn find(class: Class, order: &[u8], at: usize, n: usize, k: u32) -> Option<Address>
     requires { Searchable class order.now at n }
     ensures { result ≡ value_in class order.now at n k }
 {
@@ -30,7 +23,7 @@ fn find(class: Class, order: &[u8], at: usize, n: usize, k: u32) -> Value
         let e = order_format::read_entry(class, order, at, middle);
         if e.index == k {
             let value = e.value;
-            return Value::Given(value);
+            return Some(value);
         }
         if e.index < k {
             low = middle + 1;
@@ -38,12 +31,17 @@ fn find(class: Class, order: &[u8], at: usize, n: usize, k: u32) -> Value
             high = middle;
         }
     }
-    Value::NotGiven
+    None
 }
 
 // The external value of a symbol.
-pub fn external_value(class: Class, order: &[u8], counts: OrderHeader, symbol: u32) -> Value
-    requires { reading class order.now ≡ Reading.WellFormed counts }
+pub fn external_value(
+    class: Class,
+    order: &[u8],
+    counts: OrderHeader,
+    symbol: u32,
+) -> Option<Address>
+    requires { reading class order.now ≡ Some counts }
     ensures { result ≡ external_value class order.now symbol }
 {
     let start = order_format::externals_start(class, counts.placements);
@@ -53,19 +51,19 @@ pub fn external_value(class: Class, order: &[u8], counts: OrderHeader, symbol: u
 // What the order gives to a symbol, and where the search for the next symbol goes on.
 #[derive(Clone, Copy)]
 pub struct Taken {
-    pub value: Value,
+    pub value: Option<Address>,
     pub next: usize,
 }
 
 // The external value of symbol k. The search begins at external value `from`: those before it are of lower symbols, and this one
 // and those behind it are not. So all symbols in turn cost one way through the external values.
 pub fn take_external(class: Class, order: &[u8], counts: OrderHeader, from: usize, k: u32) -> Taken
-    requires { (reading class order.now ≡ Reading.WellFormed counts) × Reached class order.now from k }
+    requires { (reading class order.now ≡ Some counts) × Reached class order.now from k }
     ensures { (result.value ≡ external_value class order.now k) × Reached class order.now result.next (k + 1) }
 {
     if counts.externals <= from {
         return Taken {
-            value: Value::NotGiven,
+            value: None,
             next: from,
         };
     }
@@ -73,20 +71,20 @@ pub fn take_external(class: Class, order: &[u8], counts: OrderHeader, from: usiz
     let e = order_format::read_entry(class, order, start, from);
     if e.index != k {
         return Taken {
-            value: Value::NotGiven,
+            value: None,
             next: from,
         };
     }
     let value = e.value;
     Taken {
-        value: Value::Given(value),
+        value: Some(value),
         next: from + 1,
     }
 }
 
 // The address that an order gives a section.
-pub fn placed_at(class: Class, order: &[u8], counts: OrderHeader, section: u32) -> Value
-    requires { reading class order.now ≡ Reading.WellFormed counts }
+pub fn placed_at(class: Class, order: &[u8], counts: OrderHeader, section: u32) -> Option<Address>
+    requires { reading class order.now ≡ Some counts }
     ensures { result ≡ placed_at class order.now section }
 {
     let start = order_format::placements_start(class);
@@ -104,7 +102,7 @@ pub fn fill_addresses(
     order: &[u8],
     counts: OrderHeader,
 ) -> Addresses
-    requires { (array ≡ no_addresses) × (reading class order.now ≡ Reading.WellFormed counts) }
+    requires { (array ≡ no_addresses) × (reading class order.now ≡ Some counts) }
     ensures { result ≡ addresses class order.now }
 {
     let n = counts.placements;

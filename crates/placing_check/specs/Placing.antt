@@ -1,10 +1,9 @@
 -- Check 8, "Placing". `addresses` is the array that has an entry for each section.
-use Rattle.std.specs.Prelude.{ℕ, ◌+◌, ◌%◌, ◌^◌, Bool, not, cond, ◌&&◌, ◌||◌, List, get_or, leb, ltb, eqb}
+use Rattle.std.specs.Prelude.{ℕ, ◌+◌, ◌%◌, ◌^◌, Bool, not, cond, ◌&&◌, ◌||◌, List, get_or, leb, ltb, eqb, Result, ⊤}
 use Rattle.numbers_definitions.specs.First.{everywhere}
 use Rattle.elf_read.specs.declared.Section.{Section}
 use Rattle.elf_read.specs.Headers.{address_width, section_count}
 use Rattle.elf_read.specs.Sections.{section_at, allocated, loaded}
-use Rattle.placing_match.specs.declared.Fault.{Fault}
 use Rattle.placing_match.specs.Placements.{lowest}
 
 -- the first address after a section
@@ -50,5 +49,5 @@ misplaced object addresses base len i =
     && not (aligned object addresses i && ends_in_memory object addresses i && in_window object addresses base len i && apart object addresses i)
 
 -- check 8: the lowest section that breaks a rule
-unfoldable pub placing_check : List ℕ → List ℕ → ℕ → ℕ → Fault
+unfoldable pub placing_check : List ℕ → List ℕ → ℕ → ℕ → Result ⊤ ℕ
 placing_check object addresses base len = lowest (misplaced object addresses base len) (section_count object)

@@ -14,31 +14,23 @@ ghost use Rattle.placing_symbols.specs.Requires.{SymbolsOf};
 ghost use Rattle.placing_match.specs.Externals.{is_undefined, external_check};
 
 use elf_read::{SHN_UNDEF, class_of};
-use numbers_definitions::Class;
-use order_format::{OrderHeader, Reading};
-use order_lookup::Value;
+use numbers_definitions::{Address, Class};
+use order_format::OrderHeader;
 use placing_symbols::{Symbols, symbols_of};
 
-// The lowest section or symbol that breaks a rule, if one does.
-#[derive(Clone, Copy)]
-pub enum Fault {
-    Nowhere,
-    At(u32),
-}
-
 // Whether an order gives a value.
-fn is_given(value: Value) -> bool
+fn is_given(value: Option<Address>) -> bool
     ensures { result ≡ is_given value }
 {
     match value {
-        Value::Given(_) => true,
-        Value::NotGiven => false,
+        Some(_) => true,
+        None => false,
     }
 }
 
 // The lowest allocated section that an order does not place, or the number of sections where there is none.
 fn lowest_unplaced(class: Class, object: &[u8], order: &[u8], counts: OrderHeader) -> usize
-    requires { SoundObject object.now × (reading class order.now ≡ Reading.WellFormed counts) }
+    requires { SoundObject object.now × (reading class order.now ≡ Some counts) }
     ensures { result ≡ first (λ i. is_allocated object.now i && not (is_given (placed_at class order.now i))) (section_count object.now) }
 {
     let n = elf_read::section_count(object);
@@ -56,7 +48,7 @@ fn lowest_unplaced(class: Class, object: &[u8], order: &[u8], counts: OrderHeade
 
 // The first placement whose number names no allocated section, or the number of placements where there is none.
 fn first_extra(class: Class, object: &[u8], order: &[u8], counts: OrderHeader) -> usize
-    requires { SoundObject object.now × (reading class order.now ≡ Reading.WellFormed counts) }
+    requires { SoundObject object.now × (reading class order.now ≡ Some counts) }
     ensures { result ≡ first (λ j. not (is_allocated object.now (placement class order.now j).index)) (placement_count class order.now) }
 {
     let start = order_format::placements_start(class);
@@ -73,8 +65,8 @@ fn first_extra(class: Class, object: &[u8], order: &[u8], counts: OrderHeader) -
 }
 
 // Check 6: the lowest number that is placed and not allocated, or allocated and not placed.
-pub fn check_placements(object: &[u8], order: &[u8], counts: OrderHeader) -> Fault
-    requires { SoundObject object.now × (reading (class_of object.now) order.now ≡ Reading.WellFormed counts) }
+pub fn check_placements(object: &[u8], order: &[u8], counts: OrderHeader) -> Result<(), u32>
+    requires { SoundObject object.now × (reading (class_of object.now) order.now ≡ Some counts) }
     ensures { result ≡ placement_check object.now order.now }
 {
     let class = class_of(object);
@@ -89,14 +81,14 @@ pub fn check_placements(object: &[u8], order: &[u8], counts: OrderHeader) -> Fau
             extra,
         );
         if missing & (unplaced < e.index as usize) {
-            return Fault::At(unplaced as u32);
+            return Err(unplaced as u32);
         }
-        return Fault::At(e.index);
+        return Err(e.index);
     }
     if missing {
-        return Fault::At(unplaced as u32);
+        return Err(unplaced as u32);
     }
-    Fault::Nowhere
+    Ok(())
 }
 
 // Whether a number names an undefined symbol.
@@ -114,8 +106,8 @@ fn is_undefined(object: &[u8], symbols: Symbols, k: u32) -> bool
 }
 
 // Check 7: the lowest symbol that has an external value and is not undefined.
-pub fn check_externals(object: &[u8], order: &[u8], counts: OrderHeader) -> Fault
-    requires { SoundObject object.now × (reading (class_of object.now) order.now ≡ Reading.WellFormed counts) }
+pub fn check_externals(object: &[u8], order: &[u8], counts: OrderHeader) -> Result<(), u32>
+    requires { SoundObject object.now × (reading (class_of object.now) order.now ≡ Some counts) }
     ensures { result ≡ external_check object.now order.now }
 {
     let class = class_of(object);
@@ -126,9 +118,9 @@ pub fn check_externals(object: &[u8], order: &[u8], counts: OrderHeader) -> Faul
     while j < n {
         let e = order_format::read_entry(class, order, start, j);
         if !is_undefined(object, symbols, e.index) {
-            return Fault::At(e.index);
+            return Err(e.index);
         }
         j += 1;
     }
-    Fault::Nowhere
+    Ok(())
 }

@@ -1,14 +1,12 @@
 -- S of every symbol, worked out once: an array of values, and an array of states. A state is the number of the reason, and 8 for a symbol that
 -- resolves; 0, which is there before anything is stored, is read as "past the table". Both arrays are of one length, with an entry for
 -- symbol 0 and for each symbol of the table.
-use Rattle.std.specs.Prelude.{◌≡◌, ℕ, ◌≤◌, ◌<◌, cond, List, length, get_or, replicate, ltb, eqb}
+use Rattle.std.specs.Prelude.{◌≡◌, ℕ, ◌≤◌, ◌<◌, cond, List, length, get_or, replicate, ltb, eqb, Err, Ok}
 use Rattle.numbers_definitions.specs.Places.{address}
 use Rattle.elf_read.specs.Entries.{symbol_count}
 use Rattle.placing_symbols.specs.declared.Reason.{Reason}
 use Rattle.placing_symbols.specs.declared.Reason.TheVariants.{PastTable, NotAllocated, Common, Reserved, Undefined, WrongType, OutsideTarget}
-use Rattle.placing_symbols.specs.declared.SymbolValue.{SymbolValue}
-use Rattle.placing_symbols.specs.declared.SymbolValue.TheVariants.{Resolved, Unresolved}
-use Rattle.placing_symbols.specs.Reasons.{reason_number}
+use Rattle.placing_symbols.specs.Reasons.{reason_number, SymbolValue}
 use Rattle.placing_symbols.specs.Values.{symbol_value}
 
 -- an array of n entries before anything is stored
@@ -30,20 +28,20 @@ reason_in state =
 
 -- the state and the value that are stored for S
 abbrev pub state_of : SymbolValue → ℕ
-state_of (Resolved a) = RESOLVED
-state_of (Unresolved reason) = reason_number reason
+state_of (Ok a) = RESOLVED
+state_of (Err reason) = reason_number reason
 
 abbrev pub number_of : SymbolValue → ℕ
-number_of (Resolved a) = a.0
-number_of (Unresolved reason) = 0
+number_of (Ok a) = a.0
+number_of (Err reason) = 0
 
 -- S, from a state and a value
 abbrev pub decoded : ℕ → ℕ → SymbolValue
-decoded state value = cond (eqb state RESOLVED) (Resolved (address value)) (Unresolved (reason_in state))
+decoded state value = cond (eqb state RESOLVED) (Ok (address value)) (Err (reason_in state))
 
 -- what two arrays say about symbol k; past their end is past the table
 unfoldable pub listed : List ℕ → List ℕ → ℕ → SymbolValue
-listed values states k = cond (ltb k (length states)) (decoded (get_or states k 0) (get_or values k 0)) (Unresolved PastTable)
+listed values states k = cond (ltb k (length states)) (decoded (get_or states k 0) (get_or values k 0)) (Err PastTable)
 
 -- arrays of one length
 pub record ValueArrays (values states : List ℕ) : Type 0 where

@@ -1,9 +1,12 @@
 -- Why a symbol has no value (document 02, Ticket 9), and the number of each reason.
-use Rattle.std.specs.Prelude.{ℕ, Bool, cond}
+use Rattle.std.specs.Prelude.{ℕ, Bool, cond, Result, Err}
+use Rattle.numbers_definitions.specs.declared.Address.{Address}
 use Rattle.placing_symbols.specs.declared.Reason.{Reason}
 use Rattle.placing_symbols.specs.declared.Reason.TheVariants.{PastTable, NotAllocated, Common, Reserved, Undefined, WrongType, OutsideTarget}
-use Rattle.placing_symbols.specs.declared.SymbolValue.{SymbolValue}
-use Rattle.placing_symbols.specs.declared.SymbolValue.TheVariants.{Unresolved}
+
+-- S: the value of a symbol, or why it has none
+abbrev pub SymbolValue : Type 0
+SymbolValue = Result Address Reason
 
 -- "past the table, row missing or not allocated .., common .., reserved section .., undefined, not weak and without a value in the order,
 -- wrong type .., not in the target row ..; .. in this order, numbered 1 to 7"
@@ -18,4 +21,4 @@ reason_number OutsideTarget = 7
 
 -- "the first that applies": this reason if it does, otherwise what those after it say
 abbrev pub because : Reason → Bool → SymbolValue → SymbolValue
-because reason applies next = cond applies (Unresolved reason) next
+because reason applies next = cond applies (Err reason) next

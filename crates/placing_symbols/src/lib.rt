@@ -15,8 +15,8 @@ use elf_read::{
     Section, Symbol, class_of,
 };
 use numbers_definitions::Address;
-use order_format::{OrderHeader, Reading};
-use order_lookup::{Addresses, Value, take_external};
+use order_format::OrderHeader;
+use order_lookup::{Addresses, take_external};
 
 // Why a symbol has no value, in the order in which the reasons are looked at. The last is one of relocations that take a pair.
 #[derive(Clone, Copy)]
@@ -31,11 +31,7 @@ pub enum Reason {
 }
 
 // The value of a symbol, or why it has none.
-#[derive(Clone, Copy)]
-pub enum SymbolValue {
-    Resolved(Address),
-    Unresolved(Reason),
-}
+pub type SymbolValue = Result<Address, Reason>;
 
 // The number of a reason (Ticket 9).
 pub fn reason_number(reason: Reason) -> u8
@@ -54,23 +50,23 @@ pub fn reason_number(reason: Reason) -> u8
 
 // A symbol's value, unless the symbol is of a type that has none.
 fn value_by_type(symbol: Symbol, value: Address) -> SymbolValue
-    ensures { result ≡ because Reason.WrongType (is_wrong_type symbol) (SymbolValue.Resolved value) }
+    ensures { result ≡ because Reason.WrongType (is_wrong_type symbol) (Ok value) }
 {
     if (symbol.kind == STT_TLS) | (symbol.kind == STT_GNU_IFUNC) {
-        return SymbolValue::Unresolved(Reason::WrongType);
+        return Err(Reason::WrongType);
     }
-    SymbolValue::Resolved(value)
+    Ok(value)
 }
 
 // The value of an undefined symbol: the order's, else 0 if it is weak.
-fn undefined_value(symbol: Symbol, given: Value) -> SymbolValue
+fn undefined_value(symbol: Symbol, given: Option<Address>) -> SymbolValue
     ensures { (object : List ℕ) (start : ℕ) → symbol.section ≡ 0 → result ≡ of_entry object given start symbol }
 {
     match given {
-        Value::Given(v) => value_by_type(symbol, v),
-        Value::NotGiven => {
+        Some(v) => value_by_type(symbol, v),
+        None => {
             if symbol.binding != STB_WEAK {
-                return SymbolValue::Unresolved(Reason::Undefined);
+                return Err(Reason::Undefined);
             }
             value_by_type(symbol, Address(0))
         }
@@ -79,7 +75,7 @@ fn undefined_value(symbol: Symbol, given: Value) -> SymbolValue
 
 // The value of a symbol of the table that is not symbol 0, by the section that it is defined in. `given` is what the order gives to the
 // symbol, and `start` is the address of that section.
-fn entry_value(object: &[u8], given: Value, start: u64, symbol: Symbol) -> SymbolValue
+fn entry_value(object: &[u8], given: Option<Address>, start: u64, symbol: Symbol) -> SymbolValue
     requires { SoundObject object.now }
     ensures { result ≡ of_entry object.now given start symbol }
 {
@@ -89,7 +85,7 @@ fn entry_value(object: &[u8], given: Value, start: u64, symbol: Symbol) -> Symbo
     }
     if section < SHN_LORESERVE {
         if !elf_read::is_allocated_section(object, section as u32) {
-            return SymbolValue::Unresolved(Reason::NotAllocated);
+            return Err(Reason::NotAllocated);
         }
         let sum = numbers_arithmetic::sum(class_of(object), start, symbol.value.0);
         return value_by_type(symbol, Address(sum));
@@ -99,9 +95,9 @@ fn entry_value(object: &[u8], given: Value, start: u64, symbol: Symbol) -> Symbo
         return value_by_type(symbol, Address(symbol.value.0));
     }
     if section == SHN_COMMON {
-        return SymbolValue::Unresolved(Reason::Common);
+        return Err(Reason::Common);
     }
-    SymbolValue::Unresolved(Reason::Reserved)
+    Err(Reason::Reserved)
 }
 
 // The symbol table: its header, and how many symbols it has. If it has none, nothing reads the header.
@@ -152,8 +148,8 @@ fn state_of(value: SymbolValue) -> u8
     ensures { result ≡ state_of value }
 {
     match value {
-        SymbolValue::Resolved(_) => RESOLVED,
-        SymbolValue::Unresolved(reason) => reason_number(reason),
+        Ok(_) => RESOLVED,
+        Err(reason) => reason_number(reason),
     }
 }
 
@@ -162,8 +158,8 @@ fn number_of(value: SymbolValue) -> u64
     ensures { result ≡ number_of value }
 {
     match value {
-        SymbolValue::Resolved(s) => s.0,
-        SymbolValue::Unresolved(_) => 0,
+        Ok(s) => s.0,
+        Err(_) => 0,
     }
 }
 
@@ -178,7 +174,7 @@ pub fn symbol_values(
     values: &mut [u64],
     states: &mut [u8],
 ) -> Addresses
-    requires { SoundObject object.now × (reading (class_of object.now) order.now ≡ Reading.WellFormed counts) × SymbolsOf object.now symbols × Blank object.now values.old states.old }
+    requires { SoundObject object.now × (reading (class_of object.now) order.now ≡ Some counts) × SymbolsOf object.now symbols × Blank object.now values.old states.old }
     ensures { (result ≡ addresses) × Valued object.now order.now addresses values.new states.new }
 {
     let table = symbols.table;
@@ -215,11 +211,11 @@ pub fn value_at(values: &[u64], states: &[u8], k: u32) -> SymbolValue
 {
     let at = k as usize;
     if states.len() <= at {
-        return SymbolValue::Unresolved(Reason::PastTable);
+        return Err(Reason::PastTable);
     }
     let state = states[at];
     if state != RESOLVED {
-        return SymbolValue::Unresolved(reason_in(state));
+        return Err(reason_in(state));
     }
-    SymbolValue::Resolved(Address(values[at]))
+    Ok(Address(values[at]))
 }

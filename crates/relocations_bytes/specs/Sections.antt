@@ -1,5 +1,5 @@
 -- A section after its relocations.
-use Rattle.std.specs.Prelude.{ℕ, zero, suc, cond, ◌&&◌, List, ltb, eqb, ℤ, pos, ◌+ℤ◌}
+use Rattle.std.specs.Prelude.{ℕ, zero, suc, cond, ◌&&◌, List, ltb, eqb, ℤ, pos, ◌+ℤ◌, None, Option, Some}
 use Rattle.std.proofs.lemmas.List.Edits.{sets}
 use Rattle.numbers_definitions.specs.Bytes.{le_at, bytes}
 use Rattle.numbers_definitions.specs.First.{first}
@@ -10,8 +10,6 @@ use Rattle.elf_read.specs.Entries.{bytes_of}
 use Rattle.relocations_types.specs.declared.Decision.{Decision}
 use Rattle.relocations_types.specs.declared.Decision.TheVariants.{Marker, Align, Store, Refused}
 use Rattle.relocations_rela.specs.declared.sites.Site.{Site}
-use Rattle.relocations_values.specs.declared.pairs.Pair.{Pair}
-use Rattle.relocations_values.specs.declared.pairs.Pair.TheVariants.{At, NotOne}
 use Rattle.relocations_rela.specs.Sites.{site_at, count, decision_at, offset, A, P, found}
 use Rattle.relocations_values.specs.Values.{S, value_at, target_at}
 use Rattle.relocations_values.specs.Pairs.{pair_of}
@@ -36,9 +34,9 @@ module _ (object order addresses : List ℕ) (x : Site) where
 
   -- "the partner's T - P": P is the partner's, never that of the low half. Without a partner it counts as 0. Check 12 has refused such a
   -- PCREL_LO12, and no other type uses the value.
-  abbrev pub distance_of : Pair → ℕ
-  distance_of (At k) = distance_at k
-  distance_of NotOne = 0
+  abbrev pub distance_of : Option ℕ → ℕ
+  distance_of (Some k) = distance_at k
+  distance_of None = 0
 
   abbrev pub pair_distance : ℕ → ℕ
   pair_distance j = distance_of (pair_of object x (symbol object x j).value)

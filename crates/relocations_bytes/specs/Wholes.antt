@@ -1,6 +1,6 @@
 -- What else the final bytes of one section say, about bytes that no relocation touches and about two halves of one number. `calls_demands`
 -- says the same about the image.
-use Rattle.std.specs.Prelude.{◌≡◌, Bool, not, ◌&&◌, List, ℕ, ◌<◌, leb, ltb}
+use Rattle.std.specs.Prelude.{◌≡◌, Bool, not, ◌&&◌, List, ℕ, ◌<◌, leb, ltb, Some}
 use Rattle.numbers_definitions.specs.Bytes.{le_at}
 use Rattle.numbers_definitions.specs.First.{everywhere}
 use Rattle.instructions_fields.specs.declared.Field.TheVariants.{U}
@@ -10,7 +10,6 @@ use Rattle.relocations_types.specs.declared.Calculation.TheVariants.{Of}
 use Rattle.relocations_types.specs.declared.Rule.{Rule}
 use Rattle.relocations_types.specs.declared.Decision.TheVariants.{Store}
 use Rattle.relocations_rela.specs.declared.sites.Site.{Site}
-use Rattle.relocations_values.specs.declared.pairs.Pair.TheVariants.{At}
 use Rattle.elf_read.specs.Headers.{address_width}
 use Rattle.relocations_rela.specs.Sites.{count, decision_at, offset}
 use Rattle.relocations_values.specs.Values.{target_at}
@@ -35,5 +34,5 @@ pub record Halves (object order addresses : List ℕ) (x : Site) (final : List �
       → AddUp (address_width object) a.field (le_at a.size final (offset object x i)) b.field (le_at b.size final (offset object x j)) (target_at object order addresses x i)
   -- 23 with 24 or 25: the low half has exactly one pair, and the two halves add up to the distance of that pair
   pub distance : (j : ℕ) → j < count object x → (b : Rule) → decision_at object x j ≡ Store b → b.calculation ≡ Of Low Paired
-      → (k : ℕ) × (k < count object x) × (pair_of object x (symbol object x j).value ≡ At k)
+      → (k : ℕ) × (k < count object x) × (pair_of object x (symbol object x j).value ≡ Some k)
       × AddUp (address_width object) U (le_at 4 final (offset object x k)) b.field (le_at b.size final (offset object x j)) (distance_at object order addresses x k)

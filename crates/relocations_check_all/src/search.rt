@@ -13,7 +13,7 @@ ghost use Rattle.relocations_check_one.specs.Requires.{Lookups};
 ghost use Rattle.relocations_check_all.specs.Sites.{finding_of_number, WordedBelow, Roomy, SiteChecked};
 
 use order_lookup::Addresses;
-use placing_symbols::{Reason, SymbolValue, Symbols, value_at};
+use placing_symbols::{Reason, Symbols, value_at};
 use relocations_check_one::check_one;
 use relocations_rela::shape::no_trail;
 use relocations_rela::sites::{Site, site_at};
@@ -35,8 +35,8 @@ fn reason_at(object: &[u8], site: Site, values: &[u64], states: &[u8], j: usize)
 {
     let here = elf_read::read_relocation(object, site.rela, j);
     match value_at(values, states, here.symbol) {
-        SymbolValue::Unresolved(reason) => reason,
-        SymbolValue::Resolved(_) => Reason::OutsideTarget,
+        Err(reason) => reason,
+        Ok(_) => Reason::OutsideTarget,
     }
 }
 

@@ -1,9 +1,9 @@
 -- Checks 9 to 14 of a relocation, and the bytes that it leaves, for any values of symbols: v gives S of each symbol.
-use Rattle.std.specs.Prelude.{◌≡◌, ℕ, Bool, true, not, cond, List, [], ◌∷◌, ℤ, pos, ◌+ℤ◌, eqb}
+use Rattle.placing_symbols.specs.Reasons.{SymbolValue}
+use Rattle.std.specs.Prelude.{◌≡◌, ℕ, Bool, true, not, cond, List, [], ◌∷◌, ℤ, pos, ◌+ℤ◌, eqb, None, Option, Some}
 use Rattle.numbers_definitions.specs.Whole.{minus}
 use Rattle.elf_read.specs.declared.Relocation.{Relocation}
 use Rattle.elf_read.specs.Headers.{class_of, has_rvc, address_width}
-use Rattle.placing_symbols.specs.declared.SymbolValue.{SymbolValue}
 use Rattle.relocations_types.specs.declared.Calculation.{Calculation}
 use Rattle.relocations_types.specs.declared.Decision.{Decision}
 use Rattle.relocations_decisions.specs.Decisions.{is_store, touched, takes_pair}
@@ -12,8 +12,6 @@ use Rattle.relocations_rela.specs.declared.shape.Trail.{Trail}
 use Rattle.relocations_rela.specs.Sites.{entry, decision_at, A, P}
 use Rattle.relocations_rela.specs.Shape.{shape_well}
 use Rattle.relocations_rela.specs.Trails.{advanced}
-use Rattle.relocations_values.specs.declared.pairs.Pair.{Pair}
-use Rattle.relocations_values.specs.declared.pairs.Pair.TheVariants.{At, NotOne}
 use Rattle.relocations_values.specs.Values.{S, T}
 use Rattle.relocations_values.specs.Pairs.{pair_of}
 use Rattle.relocations_rules.specs.declared.Finding.{Finding}
@@ -52,9 +50,9 @@ module _ (v : ℕ → SymbolValue) (object : List ℕ) (x : Site) where
   abbrev pub distance_by : ℕ → ℕ
   distance_by j = minus (address_width object) (target_by j) (P object x j)
 
-  abbrev pub distance_of_by : Pair → ℕ
-  distance_of_by (At k) = distance_by k
-  distance_of_by NotOne = 0
+  abbrev pub distance_of_by : Option ℕ → ℕ
+  distance_of_by (Some k) = distance_by k
+  distance_of_by None = 0
 
   abbrev pub pair_distance_by : ℕ → ℕ
   pair_distance_by j = distance_of_by (pair_of object x (symbol object x j).value)

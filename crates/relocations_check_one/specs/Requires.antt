@@ -1,9 +1,9 @@
 -- What functions require of their callers.
+use Rattle.placing_symbols.specs.Reasons.{SymbolValue}
 use Rattle.std.specs.Prelude.{◌≡◌, true, List, ℕ, ◌-◌, ◌^◌, ◌≤◌, ◌<◌, length}
 use Rattle.elf_read.specs.declared.Relocation.{Relocation}
 use Rattle.elf_read.specs.Entries.{symbol_count}
 use Rattle.elf_check.specs.Requires.{SoundObject}
-use Rattle.placing_symbols.specs.declared.SymbolValue.{SymbolValue}
 use Rattle.placing_symbols.specs.declared.Symbols.{Symbols}
 use Rattle.placing_symbols.specs.Requires.{SymbolsOf}
 use Rattle.placing_symbols.specs.Arrays.{listed, ValueArrays}

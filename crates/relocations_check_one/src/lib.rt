@@ -18,14 +18,14 @@ use elf_read::{Relocation, class_of};
 use numbers_arithmetic::{add64, difference};
 use numbers_bytes::read_bytes;
 use numbers_definitions::{Address, SectionOffset};
-use placing_symbols::{SymbolValue, Symbols, value_at};
+use placing_symbols::{Symbols, value_at};
 use relocations_decisions::{stack_bits, takes_pair};
 use relocations_patch::{apply_rule, symbol_sum};
 use relocations_rela::shape::{Trail, advance, is_shape_well, shares_place};
 use relocations_rela::sites::Site;
 use relocations_types::{Decision, Rule};
 use relocations_values::highs::list_highs;
-use relocations_values::pairs::{Pair, pair_at};
+use relocations_values::pairs::pair_at;
 use relocations_values::place_of;
 
 // What is found out about a relocation that keeps check 9: the number of the first of checks 10 to 14 that it breaks, or 0; the
@@ -133,20 +133,20 @@ fn high_half(
     site: Site,
     values: &[u64],
     states: &[u8],
-    pair: Pair,
+    pair: Option<usize>,
     made: u64,
 ) -> Partner
-    requires { SoundSite object.now site × ValueArrays values.now states.now × ((k : ℕ) → pair ≡ Pair.At k → k < count object.now site) }
+    requires { SoundSite object.now site × ValueArrays values.now states.now × ((k : ℕ) → pair ≡ Some k → k < count object.now site) }
     ensures { (not (eqb result.number 10) ≡ true) × (not (eqb result.number 12) ≡ is_one pair)
         × (result.distance ≡ distance_of_by (listed values.now states.now) object.now site pair) × (result.made ≡ made) }
 {
     match pair {
-        Pair::At(k) => Partner {
+        Some(k) => Partner {
             number: 0,
             distance: distance_at(object, site, values, states, k),
             made,
         },
-        Pair::NotOne => Partner {
+        None => Partner {
             number: 12,
             distance: 0,
             made,
@@ -241,7 +241,7 @@ fn check_resolved(
     j: usize,
 ) -> Outcome
     requires { Lookups object.now symbols values.now states.now × Storing object.now site j rule here × Listing object.now site highs.old made
-        × (SymbolValue.Resolved s ≡ listed values.now states.now here.symbol) }
+        × (Ok s ≡ listed values.now states.now here.symbol) }
     ensures { Comes (listed values.now states.now) object.now site j
         (cond shares last (le_at rule.size (found object.now site) here.offset.0)) result.number result.word
         × Listing object.now site highs.new result.made × (length highs.new ≡ length highs.old) }
@@ -249,7 +249,7 @@ fn check_resolved(
     let calculation = rule.calculation;
     let field = rule.field;
     let form = rule.form;
-    let value = SymbolValue::Resolved(s);
+    let value = Ok(s);
     let high = take_partner(
         object, symbols, site, values, states, highs, rule, here, made, j,
     );
@@ -309,10 +309,10 @@ fn check_store(
 {
     let value = value_at(values, states, here.symbol);
     match value {
-        SymbolValue::Resolved(s) => check_resolved(
+        Ok(s) => check_resolved(
             object, symbols, site, values, states, highs, rule, here, s, shares, last, made, j,
         ),
-        SymbolValue::Unresolved(_) => refused(10, made),
+        Err(_) => refused(10, made),
     }
 }
 

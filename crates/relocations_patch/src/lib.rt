@@ -205,7 +205,7 @@ pub fn symbol_sum(value: SymbolValue, addend: u64) -> u64
     ensures { result ≡ residue 64 (pos (S value) +ℤ signed 64 addend) }
 {
     match value {
-        SymbolValue::Resolved(s) => numbers_arithmetic::add64(s.0, addend),
-        SymbolValue::Unresolved(_) => numbers_arithmetic::add64(0, addend),
+        Ok(s) => numbers_arithmetic::add64(s.0, addend),
+        Err(_) => numbers_arithmetic::add64(0, addend),
     }
 }

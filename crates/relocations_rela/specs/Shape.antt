@@ -1,11 +1,9 @@
 -- Check 9: "type, offset, overlap, addend rule".
-use Rattle.std.specs.Prelude.{ℕ, zero, suc, ◌+◌, Bool, true, not, cond, ◌&&◌, ◌||◌, List, leb, ltb, eqb, ℤ, nat_abs}
+use Rattle.std.specs.Prelude.{ℕ, zero, suc, ◌+◌, Bool, true, not, cond, ◌&&◌, ◌||◌, List, leb, ltb, eqb, ℤ, nat_abs, None, Option, Some}
 use Rattle.numbers_definitions.specs.Whole.{within, even}
 use Rattle.relocations_types.specs.declared.Decision.{Decision}
 use Rattle.relocations_types.specs.declared.Decision.TheVariants.{Marker, Align, Store, Refused}
 use Rattle.relocations_rela.specs.declared.sites.Site.{Site}
-use Rattle.relocations_rela.specs.declared.shape.Previous.{Previous}
-use Rattle.relocations_rela.specs.declared.shape.Previous.TheVariants.{Nothing, Entry}
 use Rattle.relocations_rela.specs.Sites.{offset, decision_at, A}
 use Rattle.relocations_decisions.specs.Decisions.{is_store, is_refused, touched, stack_width, takes_pair}
 
@@ -23,9 +21,9 @@ unfoldable pub stays_inside : List ℕ → Site → ℕ → Bool
 stays_inside object x j = leb (end object x j) x.target.size
 
 -- "the previous non-marker": the last one before relocation j
-unfoldable pub previous : List ℕ → Site → ℕ → Previous
-previous object x zero = Nothing
-previous object x (suc j) = cond (is_store (decision_at object x j)) (Entry j) (previous object x j)
+unfoldable pub previous : List ℕ → Site → ℕ → Option ℕ
+previous object x zero = None
+previous object x (suc j) = cond (is_store (decision_at object x j)) (Some j) (previous object x j)
 
 -- "both are of 33..40, 52..56 with equal offset and width"
 unfoldable pub shares_place : List ℕ → Site → ℕ → ℕ → Bool
@@ -35,9 +33,9 @@ shares_place object x k j =
     && eqb (stack_width (decision_at object x k)) (stack_width (decision_at object x j))
 
 -- "A non-marker starts at or after the end of the previous non-marker, or" shares its place
-abbrev pub clears : List ℕ → Site → ℕ → Previous → Bool
-clears object x j Nothing = true
-clears object x j (Entry k) = leb (end object x k) (offset object x j) || shares_place object x k j
+abbrev pub clears : List ℕ → Site → ℕ → Option ℕ → Bool
+clears object x j None = true
+clears object x j (Some k) = leb (end object x k) (offset object x j) || shares_place object x k j
 
 unfoldable pub no_overlap : List ℕ → Site → ℕ → Bool
 no_overlap object x j = not (is_store (decision_at object x j)) || clears object x j (previous object x j)

@@ -11,13 +11,6 @@ use numbers_definitions::SectionOffset;
 use relocations_decisions::{bytes_touched, is_refused, is_store, needs_pair};
 use relocations_types::Decision;
 
-// The previous non-marker of a relocation, among the relocations of its site.
-#[derive(Clone, Copy)]
-pub enum Previous {
-    Nothing,
-    Entry(usize),
-}
-
 // What check 9 has to know about the relocations before: the offset of the one before; and of the previous non-marker
 // the offset, the end, and the width as a stack. What is not there counts as 0.
 #[derive(Clone, Copy)]

@@ -1,5 +1,6 @@
 -- Checks 10 to 14 of one relocation.
-use Rattle.std.specs.Prelude.{ℕ, ◌+◌, ◌/◌, ◌%◌, ◌^◌, Bool, true, false, not, ◌&&◌, ◌||◌, List, ltb, eqb, ℤ, pos, nat_abs}
+use Rattle.placing_symbols.specs.Reasons.{SymbolValue}
+use Rattle.std.specs.Prelude.{ℕ, ◌+◌, ◌/◌, ◌%◌, ◌^◌, Bool, true, false, not, ◌&&◌, ◌||◌, List, ltb, eqb, ℤ, pos, nat_abs, Err, None, Ok, Option, Some}
 use Rattle.numbers_definitions.specs.declared.Class.{Class}
 use Rattle.numbers_definitions.specs.Classes.{bits}
 use Rattle.numbers_definitions.specs.Bytes.{le_at}
@@ -11,8 +12,6 @@ use Rattle.elf_read.specs.Sections.{section_at, symbol_table}
 use Rattle.elf_read.specs.Entries.{symbol_at}
 use Rattle.placing_symbols.specs.declared.Reason.{Reason}
 use Rattle.placing_symbols.specs.declared.Reason.TheVariants.{OutsideTarget}
-use Rattle.placing_symbols.specs.declared.SymbolValue.{SymbolValue}
-use Rattle.placing_symbols.specs.declared.SymbolValue.TheVariants.{Resolved, Unresolved}
 use Rattle.instructions_fields.specs.declared.Field.{Field}
 use Rattle.instructions_riscv.specs.declared.forms.Form.{Form}
 use Rattle.instructions_riscv.specs.declared.forms.Form.TheVariants.{Any, Lui, Auipc, Jal, Branch, LowI, LowS, CallPair, CBranch, CJump}
@@ -27,8 +26,6 @@ use Rattle.relocations_types.specs.declared.Decision.TheVariants.{Marker, Align,
 use Rattle.instructions_riscv.specs.Forms.{has_form}
 use Rattle.instructions_riscv.specs.Ranges.{distance, range_of, reaches, keeps_alignment, halves_reach}
 use Rattle.relocations_rela.specs.declared.sites.Site.{Site}
-use Rattle.relocations_values.specs.declared.pairs.Pair.{Pair}
-use Rattle.relocations_values.specs.declared.pairs.Pair.TheVariants.{At, NotOne}
 use Rattle.relocations_rela.specs.Sites.{entry, offset, decision_at, P, found}
 use Rattle.relocations_decisions.specs.Decisions.{is_store, needs_pair}
 use Rattle.relocations_values.specs.Pairs.{pair_of}
@@ -36,8 +33,8 @@ use Rattle.relocations_values.specs.Pairs.{pair_of}
 -- ---- check 10
 
 abbrev pub is_resolved : SymbolValue → Bool
-is_resolved (Resolved v) = true
-is_resolved (Unresolved reason) = false
+is_resolved (Ok v) = true
+is_resolved (Err reason) = false
 
 -- the symbol's entry in the table
 abbrev pub symbol : List ℕ → Site → ℕ → Symbol
@@ -56,8 +53,8 @@ symbol_well object x j value =
 -- Why check 10 is broken: the reason for which the symbol has no value; of one that has a value, that it is "not in the target row (24 and
 -- 25 only)", which comes last. Document 02: "Symbol 0 always has its value, so only 7 can apply to it."
 abbrev pub why : SymbolValue → Reason
-why (Unresolved reason) = reason
-why (Resolved v) = OutsideTarget
+why (Err reason) = reason
+why (Ok v) = OutsideTarget
 
 -- ---- check 11
 
@@ -90,9 +87,9 @@ form_well object x j = asks_well (class_of object) (decision_at object x j) (P o
 
 -- ---- check 12
 
-abbrev pub is_one : Pair → Bool
-is_one (At k) = true
-is_one NotOne = false
+abbrev pub is_one : Option ℕ → Bool
+is_one (Some k) = true
+is_one None = false
 
 unfoldable pub pair_well : List ℕ → Site → ℕ → Bool
 pair_well object x j = not (needs_pair (decision_at object x j)) || is_one (pair_of object x (symbol object x j).value)

@@ -1,8 +1,7 @@
 -- S and T of a relocation ("How a record is read").
-use Rattle.std.specs.Prelude.{List, ℕ, ℤ, pos, ◌+ℤ◌}
+use Rattle.placing_symbols.specs.Reasons.{SymbolValue}
+use Rattle.std.specs.Prelude.{List, ℕ, ℤ, pos, ◌+ℤ◌, Err, Ok}
 use Rattle.numbers_definitions.specs.Whole.{residue}
-use Rattle.placing_symbols.specs.declared.SymbolValue.{SymbolValue}
-use Rattle.placing_symbols.specs.declared.SymbolValue.TheVariants.{Resolved, Unresolved}
 use Rattle.placing_symbols.specs.Values.{symbol_value}
 use Rattle.relocations_rela.specs.declared.sites.Site.{Site}
 use Rattle.elf_read.specs.Headers.{address_width}
@@ -14,8 +13,8 @@ value_at object order addresses x j = symbol_value object order addresses (entry
 
 -- S. A symbol that does not resolve counts as 0 here; check 10 has refused it before the value is used.
 abbrev pub S : SymbolValue → ℕ
-S (Resolved v) = v.0
-S (Unresolved reason) = 0
+S (Ok v) = v.0
+S (Err reason) = 0
 
 -- "S + A is reduced modulo 2^32, then called T": modulo 2^w, where addresses have w bits
 abbrev pub T : ℕ → ℕ → ℤ → ℕ

@@ -9,13 +9,6 @@ use super::sorting::{number_at, offset_at};
 use numbers_definitions::SectionOffset;
 use relocations_rela::sites::Site;
 
-// The one PCREL_HI20 at an offset, or `NotOne` if there is not exactly one.
-#[derive(Clone, Copy)]
-pub enum Pair {
-    At(usize),
-    NotOne,
-}
-
 // The first of the m listed high halves whose offset is not below the given one, by halving. It is `low` or one of the places
 // after it, of which there are `more` with itself.
 fn first_not_below(
@@ -62,8 +55,14 @@ fn is_at(
     here.0 == offset.0
 }
 
-// The one high half at an offset, or `NotOne` if there is not exactly one.
-pub fn pair_at(object: &[u8], site: Site, highs: &[u32], m: usize, offset: SectionOffset) -> Pair
+// The one high half at an offset, or nothing if there is not exactly one.
+pub fn pair_at(
+    object: &[u8],
+    site: Site,
+    highs: &[u32],
+    m: usize,
+    offset: SectionOffset,
+) -> Option<usize>
     requires { SoundSite object.now site × Listed object.now site highs.now m }
     ensures { result ≡ pair_of object.now site offset }
 {
@@ -76,7 +75,7 @@ pub fn pair_at(object: &[u8], site: Site, highs: &[u32], m: usize, offset: Secti
         }
     }
     if n == 1 {
-        return Pair::At(number_at(highs, first));
+        return Some(number_at(highs, first));
     }
-    Pair::NotOne
+    None
 }

@@ -8,12 +8,11 @@ ghost use Rattle.order_format.specs.Orders.{reading};
 ghost use Rattle.order_format.specs.Windows.{max_image};
 ghost use Rattle.placing_symbols.specs.Arrays.{ValueArrays};
 
-use elf_check::{MAX_SYMBOLS, SectionCheck};
+use elf_check::MAX_SYMBOLS;
 use elf_read::{MAX_SECTIONS, class_of};
 use numbers_definitions::Address;
-use order_format::{OrderHeader, Reading};
+use order_format::OrderHeader;
 use order_lookup::Addresses;
-use placing_match::Fault;
 use placing_symbols::{Reason, SymbolValue, reason_number};
 use std::io;
 use std::io::Write;
@@ -32,8 +31,8 @@ fn read(out: &mut impl Write, object: &[u8], order: &[u8], len: usize) -> io::Re
     requires { header_allowed object.now ≡ true }
 {
     match order_format::read_order(class_of(object), order) {
-        Reading::Malformed => tests_harness::answer(out, 2, 0),
-        Reading::WellFormed(counts) => sections(out, object, order, counts, len),
+        None => tests_harness::answer(out, 2, 0),
+        Some(counts) => sections(out, object, order, counts, len),
     }
 }
 
@@ -45,14 +44,14 @@ fn sections(
     counts: OrderHeader,
     len: usize,
 ) -> io::Result<()>
-    requires { (header_allowed object.now ≡ true) × (reading (class_of object.now) order.now ≡ Reading.WellFormed counts) }
+    requires { (header_allowed object.now ≡ true) × (reading (class_of object.now) order.now ≡ Some counts) }
 {
     if !order_format::window_allowed(class_of(object), counts.base, len) {
         return tests_harness::answer(out, 3, 0);
     }
     match elf_check::check_sections(object) {
-        SectionCheck::Broken(i) => tests_harness::answer(out, 5, i as u64),
-        SectionCheck::Sound => placements(out, object, order, counts, len),
+        Err(i) => tests_harness::answer(out, 5, i as u64),
+        Ok(()) => placements(out, object, order, counts, len),
     }
 }
 
@@ -64,11 +63,11 @@ fn placements(
     counts: OrderHeader,
     len: usize,
 ) -> io::Result<()>
-    requires { SoundObject object.now × (reading (class_of object.now) order.now ≡ Reading.WellFormed counts) × (len ≤ max_image) }
+    requires { SoundObject object.now × (reading (class_of object.now) order.now ≡ Some counts) × (len ≤ max_image) }
 {
     match placing_match::check_placements(object, order, counts) {
-        Fault::At(i) => tests_harness::answer(out, 6, i as u64),
-        Fault::Nowhere => externals(out, object, order, counts, len),
+        Err(i) => tests_harness::answer(out, 6, i as u64),
+        Ok(()) => externals(out, object, order, counts, len),
     }
 }
 
@@ -80,11 +79,11 @@ fn externals(
     counts: OrderHeader,
     len: usize,
 ) -> io::Result<()>
-    requires { SoundObject object.now × (reading (class_of object.now) order.now ≡ Reading.WellFormed counts) × (len ≤ max_image) }
+    requires { SoundObject object.now × (reading (class_of object.now) order.now ≡ Some counts) × (len ≤ max_image) }
 {
     match placing_match::check_externals(object, order, counts) {
-        Fault::At(k) => tests_harness::answer(out, 7, k as u64),
-        Fault::Nowhere => placing(out, object, order, counts, len),
+        Err(k) => tests_harness::answer(out, 7, k as u64),
+        Ok(()) => placing(out, object, order, counts, len),
     }
 }
 
@@ -96,15 +95,15 @@ fn placing(
     counts: OrderHeader,
     len: usize,
 ) -> io::Result<()>
-    requires { SoundObject object.now × (reading (class_of object.now) order.now ≡ Reading.WellFormed counts) × (len ≤ max_image) }
+    requires { SoundObject object.now × (reading (class_of object.now) order.now ≡ Some counts) × (len ≤ max_image) }
 {
     let given = order_lookup::fill_addresses(class_of(object), [0u64; MAX_SECTIONS], order, counts);
     let placed = placing_check::check_placing(object, given, counts.base, len);
     let fault = placed.fault;
     let array = placed.addresses;
     match fault {
-        Fault::At(i) => tests_harness::answer(out, 8, i as u64),
-        Fault::Nowhere => passed(out, object, order, counts, array),
+        Err(i) => tests_harness::answer(out, 8, i as u64),
+        Ok(()) => passed(out, object, order, counts, array),
     }
 }
 
@@ -115,7 +114,7 @@ fn passed(
     counts: OrderHeader,
     array: Addresses,
 ) -> io::Result<()>
-    requires { SoundObject object.now × (reading (class_of object.now) order.now ≡ Reading.WellFormed counts) }
+    requires { SoundObject object.now × (reading (class_of object.now) order.now ≡ Some counts) }
 {
     let symbols = placing_symbols::symbols_of(object);
     let mut numbers = [0u64; MAX_SYMBOLS];
@@ -162,8 +161,8 @@ fn values(out: &mut impl Write, numbers: &[u64], states: &[u8], n: usize) -> io:
 
 fn print(out: &mut impl Write, value: SymbolValue) -> io::Result<()> {
     match value {
-        SymbolValue::Resolved(s) => then(out, s),
-        SymbolValue::Unresolved(reason) => unresolved(out, reason),
+        Ok(s) => then(out, s),
+        Err(reason) => unresolved(out, reason),
     }
 }
 

@@ -8,7 +8,6 @@ ghost use Rattle.elf_header.specs.Headers.{header_allowed};
 ghost use Rattle.elf_check.specs.Requires.{SoundObject};
 
 use super::{digest, lines};
-use elf_check::SectionCheck;
 use elf_read::Section;
 use std::io;
 use std::io::Write;
@@ -26,8 +25,8 @@ fn check_sections(out: &mut impl Write, s: &[u8]) -> io::Result<()>
     requires { header_allowed s.now ≡ true }
 {
     match elf_check::check_sections(s) {
-        SectionCheck::Sound => passed(out, s),
-        SectionCheck::Broken(i) => lines::answer(out, b'o', 5, i as u64),
+        Ok(()) => passed(out, s),
+        Err(i) => lines::answer(out, b'o', 5, i as u64),
     }
 }
 

@@ -5,21 +5,21 @@ ghost use Rattle.order_format.specs.Orders.{entry_size, reading};
 use super::{digest, lines};
 use elf_read::MAX_SECTIONS;
 use numbers_definitions::Class;
-use order_format::{OrderHeader, Reading};
-use order_lookup::{Addresses, Value};
+use order_format::OrderHeader;
+use order_lookup::Addresses;
 use std::io;
 use std::io::Write;
 
 pub fn line(out: &mut impl Write, class: Class, s: &[u8]) -> io::Result<()> {
     match order_format::read_order(class, s) {
-        Reading::Malformed => lines::answer(out, lines::letter(class, b'r', b'R'), 2, 0),
-        Reading::WellFormed(counts) => well_formed(out, class, s, counts),
+        None => lines::answer(out, lines::letter(class, b'r', b'R'), 2, 0),
+        Some(counts) => well_formed(out, class, s, counts),
     }?;
     tests_harness::end(out)
 }
 
 fn well_formed(out: &mut impl Write, class: Class, s: &[u8], counts: OrderHeader) -> io::Result<()>
-    requires { reading class s.now ≡ Reading.WellFormed counts }
+    requires { reading class s.now ≡ Some counts }
 {
     lines::answer(out, lines::letter(class, b'r', b'R'), 0, 0)?;
     tests_harness::then(out, counts.base.0)?;
@@ -30,7 +30,7 @@ fn well_formed(out: &mut impl Write, class: Class, s: &[u8], counts: OrderHeader
 
 // Both lists; the array; and the values of numbers that are in the lists and of numbers that are not.
 fn digests(out: &mut impl Write, class: Class, s: &[u8], counts: OrderHeader) -> io::Result<()>
-    requires { reading class s.now ≡ Reading.WellFormed counts }
+    requires { reading class s.now ≡ Some counts }
 {
     let first = order_format::placements_start(class);
     let start = order_format::externals_start(class, counts.placements);
@@ -69,7 +69,7 @@ fn addresses(array: Addresses) -> u64 {
 
 // The values of the numbers 0 to 129.
 fn low_values(class: Class, s: &[u8], counts: OrderHeader) -> u64
-    requires { reading class s.now ≡ Reading.WellFormed counts }
+    requires { reading class s.now ≡ Some counts }
 {
     let mut d = digest::START;
     let mut k: u32 = 0;
@@ -82,7 +82,7 @@ fn low_values(class: Class, s: &[u8], counts: OrderHeader) -> u64
 
 // The values of each number in a list, of the number before it, and of the number after it.
 fn near_values(class: Class, s: &[u8], counts: OrderHeader, at: usize, n: usize) -> u64
-    requires { (reading class s.now ≡ Reading.WellFormed counts) × (at + entry_size class * n ≤ length s.now) }
+    requires { (reading class s.now ≡ Some counts) × (at + entry_size class * n ≤ length s.now) }
 {
     let mut d = digest::START;
     let mut i: usize = 0;
@@ -99,15 +99,15 @@ fn near_values(class: Class, s: &[u8], counts: OrderHeader, at: usize, n: usize)
 
 // What an order gives a number as a section and as a symbol.
 fn values(digest: u64, class: Class, s: &[u8], counts: OrderHeader, k: u32) -> u64
-    requires { reading class s.now ≡ Reading.WellFormed counts }
+    requires { reading class s.now ≡ Some counts }
 {
     let d = value(digest, order_lookup::placed_at(class, s, counts, k));
     value(d, order_lookup::external_value(class, s, counts, k))
 }
 
-fn value(digest: u64, v: Value) -> u64 {
+fn value(digest: u64, v: Option<Address>) -> u64 {
     match v {
-        Value::Given(x) => digest::mix(digest, x.0),
-        Value::NotGiven => digest::mix(digest, 0x1_0000_0000),
+        Some(x) => digest::mix(digest, x.0),
+        None => digest::mix(digest, 0x1_0000_0000),
     }
 }

@@ -14,7 +14,7 @@ use calls_judge::Answer;
 use elf_check::MAX_RELOCATIONS;
 use elf_header::MAX_OBJECT;
 use elf_read::MAX_SECTIONS;
-use order_format::{OrderHeader, Reading};
+use order_format::OrderHeader;
 use order_lookup::Addresses;
 use std::io;
 use std::io::Write;
@@ -33,8 +33,8 @@ fn read(out: &mut impl Write, object: &[u8], order: &[u8], len: usize) -> io::Re
     requires { header_allowed object.now ≡ true }
 {
     match order_format::read_order(elf_read::class_of(object), order) {
-        Reading::Malformed => write(out, Answer::OrderMalformed),
-        Reading::WellFormed(counts) => judged(out, object, order, counts, len),
+        None => write(out, Answer::OrderMalformed),
+        Some(counts) => judged(out, object, order, counts, len),
     }
 }
 
@@ -52,7 +52,7 @@ fn judged(
     counts: OrderHeader,
     len: usize,
 ) -> io::Result<()>
-    requires { (header_allowed object.now ≡ true) × (reading (class_of object.now) order.now ≡ Reading.WellFormed counts) }
+    requires { (header_allowed object.now ≡ true) × (reading (class_of object.now) order.now ≡ Some counts) }
 {
     let placed = calls_judge::judge_sections(object, order, counts, len, [0u64; MAX_SECTIONS]);
     let answer = placed.answer;

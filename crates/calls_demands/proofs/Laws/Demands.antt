@@ -1,4 +1,5 @@
 -- The demands, proved for document 01's judgement.
+use Rattle.std.specs.Prelude.{Err, Ok, Result, ⊤}
 use mathlib.Core.Logic.{◌⊎◌, inl, inr}
 use mathlib.Core.Path.{◌≡◌, refl, sym, ap, subst, ◌∙◌}
 use mathlib.Core.Bool.{Bool, true, false, not, cond}
@@ -14,8 +15,6 @@ use Rattle.elf_read.specs.Headers.{class_of, address_width}
 use Rattle.order_format.specs.Windows.{max_image, length_allowed, window_allowed}
 use Rattle.order_lookup.specs.Addresses.{addresses_for, base_for}
 use Rattle.elf_header.specs.Headers.{header_allowed}
-use Rattle.elf_check.specs.declared.SectionCheck.{SectionCheck}
-use Rattle.elf_check.specs.declared.SectionCheck.TheVariants.{Sound as AllSound, Broken as BrokenSection}
 use Rattle.elf_check.specs.Rules.{section_check}
 use Rattle.journal_format.specs.Journals.{count, held, Sound, sound, no_room}
 use Rattle.plan_pieces.specs.Plans.{Piece, Verdict, refused, plan, overwritten, span_of}
@@ -30,8 +29,6 @@ use Rattle.journal_history.proofs.Laws.Records.{installed_appends, releases}
 use Rattle.journal_history.proofs.Laws.Corollaries.{refusal_keeps}
 use Rattle.journal_history.proofs.Laws.Agree.{Stands, length_laid}
 use Rattle.journal_history.proofs.Laws.History.{run_over, agrees_after, history_holds}
-use Rattle.placing_match.specs.declared.Fault.{Fault}
-use Rattle.placing_match.specs.declared.Fault.TheVariants.{Nowhere, At}
 use Rattle.placing_match.specs.Placements.{placement_check}
 use Rattle.placing_match.specs.Externals.{external_check}
 use Rattle.placing_check.specs.Placing.{placing_check}
@@ -253,20 +250,20 @@ refused_above object order len answer h =
     by : (m q r : ℕ) → 0 < m → refused (says_why m q r) ≡ refused answer → 0 < answer.number
     by m q r l e = let same : says_why m q r ≡ answer = cc in omega (arith, ap (λ x. x.number) same)
 
-    go : (t a b : Bool) (c : SectionCheck) (d e f : Fault) (g : RelocationCheck) → relocation_check object order (addresses_for object order) ≡ g
+    go : (t a b : Bool) (c : Result ⊤ ℕ) (d e f : Result ⊤ ℕ) (g : RelocationCheck) → relocation_check object order (addresses_for object order) ≡ g
         → after_test 4 t (after_test 2 a (after_test 3 b (after_sections c (after_fault 6 d (after_fault 7 e (after_fault 8 f (after_relocations g (plan (plan_of object order))))))))) ≡ refused answer
         → 0 < answer.number
     go false a b c d e f g q h = by 4 0 0 (omega arith) h
     go true false b c d e f g q h = by 2 0 0 (omega arith) h
     go true true false c d e f g q h = by 3 0 0 (omega arith) h
-    go true true true (BrokenSection i) d e f g q h = by 5 i 0 (omega arith) h
-    go true true true AllSound (At i) e f g q h = by 6 i 0 (omega arith) h
-    go true true true AllSound Nowhere (At i) f g q h = by 7 i 0 (omega arith) h
-    go true true true AllSound Nowhere Nowhere (At i) g q h = by 8 i 0 (omega arith) h
-    go true true true AllSound Nowhere Nowhere Nowhere (Broken x k) q h =
+    go true true true (Err i) d e f g q h = by 5 i 0 (omega arith) h
+    go true true true (Ok _) (Err i) e f g q h = by 6 i 0 (omega arith) h
+    go true true true (Ok _) (Ok _) (Err i) f g q h = by 7 i 0 (omega arith) h
+    go true true true (Ok _) (Ok _) (Ok _) (Err i) g q h = by 8 i 0 (omega arith) h
+    go true true true (Ok _) (Ok _) (Ok _) (Ok _) (Broken x k) q h =
         let some : number x ≡ 0 → ⊥ = eqb-false (number x) 0 (some_number x (broken_is object order (addresses_for object order) x k q)) in
         by (number x) k (reason x) (omega arith) h
-    go true true true AllSound Nowhere Nowhere Nowhere AllKept q h =
+    go true true true (Ok _) (Ok _) (Ok _) (Ok _) AllKept q h =
         let z : ◌≡◌ {A = ℕ} 0 1 = cc in
         absurd (omega arith)
 

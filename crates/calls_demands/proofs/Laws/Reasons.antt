@@ -1,5 +1,6 @@
 -- Why a symbol failed, on whole objects: each reason of Ticket 9 is given where the ticket says so, as one list with one claim; and no call
 -- that leaves the reason out meets demand 2.
+use Rattle.std.specs.Prelude.{Ok}
 use mathlib.Core.Path.{◌≡◌, refl, sym, ap, ◌∙◌, subst}
 use mathlib.Core.Bool.{false, not, ◌&&◌}
 use mathlib.Core.List.{List, [], ◌∷◌, ◌++◌, map}
@@ -27,7 +28,6 @@ use Rattle.journal_format.specs.Journals.{entry, entries, total, is_blank, ends_
 use Rattle.plan_pieces.specs.Plans.{refused}
 use Rattle.plan_pieces.specs.Answers.{Answer, says_why, done}
 use Rattle.journal_history.specs.Calls.{Files, InstallCall, install, settle}
-use Rattle.placing_match.specs.declared.Fault.TheVariants.{Nowhere}
 use Rattle.placing_match.specs.Placements.{lowest, differs, placement_check}
 use Rattle.placing_match.specs.Externals.{is_undefined, external_check}
 use Rattle.placing_match.proofs.Laws.Lowest.{lowest_nowhere}
@@ -146,11 +146,11 @@ matches_are (suc (suc (suc (suc i)))) =
     let k : ℕ = suc (suc (suc (suc i))) in
     rw (ne_eqb 1 k (λ e. omega arith), le-ltb k 4 (omega arith))
 
-placements_match : placement_check object order ≡ Nowhere
+placements_match : placement_check object order ≡ Ok tt
 unfolding placement_check
 placements_match = lowest_nowhere (differs object order) (2 ^ 32) (λ i h. matches_are i)
 
-externals_match : external_check object order ≡ Nowhere
+externals_match : external_check object order ≡ Ok tt
 unfolding external_check object naming order words bytes le_at le class_of external_value value_in entry_at first
 externals_match = lowest_nowhere (λ k. is_given (external_value (class_of object) order k) && not (is_undefined object k)) (2 ^ 32) (λ k h. refl)
 

@@ -1,4 +1,5 @@
 -- Each test of checks 9 and 11 to 14 is equivalent to the rule that it is named after. Check 10 is in `Symbols`.
+use Rattle.std.specs.Prelude.{None, Option, Some}
 use mathlib.Core.Logic.{◌⊎◌, inl, inr, ⊎_elim}
 use mathlib.Core.Path.{◌≡◌, refl, sym, ap, ◌∙◌, subst}
 use mathlib.Core.Bool.{Bool, true, false, not, cond, ◌&&◌}
@@ -30,13 +31,10 @@ use Rattle.relocations_types.specs.declared.Decision.{Decision}
 use Rattle.relocations_types.specs.declared.Decision.TheVariants.{Marker, Align, Store, Refused}
 use Rattle.elf_read.specs.Headers.{class_of, has_rvc}
 use Rattle.relocations_rela.specs.declared.sites.Site.{Site}
-use Rattle.relocations_rela.specs.declared.shape.Previous.{Previous}
-use Rattle.relocations_rela.specs.declared.shape.Previous.TheVariants.{Nothing, Entry}
 use Rattle.relocations_rela.specs.Sites.{decision_at, offset, A, P, found}
 use Rattle.relocations_decisions.specs.Decisions.{is_store, is_refused, takes_pair, needs_pair}
 use Rattle.relocations_rela.specs.Shape.{never_falls, end, stays_inside, previous, shares_place, clears, no_overlap, addend_well, shape_well}
 use Rattle.relocations_values.specs.Pairs.{pair_of}
-use Rattle.relocations_values.specs.declared.pairs.Pair.TheVariants.{At, NotOne}
 use Rattle.relocations_rules.specs.Rules.{symbol, is_data, stands_well, asks_well, form_well, is_one, pair_well, operand_reaches, part_reaches, reaches_well, distance_well, boundary_well}
 use Rattle.calls_demands.specs.Rules.{Within, Even, SharePlace, PaddingWell, ShapeWell, FormWell, PairWell, KeepsAlignment, InHalvesReach, OperandReachable, PartReachable, Reachable, ReachWell, BoundaryWell}
 
@@ -86,21 +84,21 @@ module _ (object : List ℕ) (x : Site) where
   unfolding shares_place
   shares_back i j s = both _ _ (both _ _ (eq-eqb _ _ s.same_offset) (lt-ltb _ _ s.stacked)) (eq-eqb _ _ s.same_width)
 
-  cleared : (j : ℕ) → no_overlap object x j ≡ true → is_store (decision_at object x j) ≡ true → (i : ℕ) → previous object x j ≡ Entry i
+  cleared : (j : ℕ) → no_overlap object x j ≡ true → is_store (decision_at object x j) ≡ true → (i : ℕ) → previous object x j ≡ Some i
       → (end object x i ≤ offset object x j) ⊎ SharePlace object x i j
   unfolding no_overlap
   cleared j e s i p =
-      let clear : clears object x j (Entry i) ≡ true = ap (clears object x j) (sym p) ∙ given (is_store (decision_at object x j)) (clears object x j (previous object x j)) e s in
+      let clear : clears object x j (Some i) ≡ true = ap (clears object x j) (sym p) ∙ given (is_store (decision_at object x j)) (clears object x j (previous object x j)) e s in
       ⊎_elim (λ a. inl (leb-true _ _ a)) (λ a. inr (shares i j a)) (one_of_two (leb (end object x i) (offset object x j)) (shares_place object x i j) clear)
 
-  clear_back : (j : ℕ) → (is_store (decision_at object x j) ≡ true → (i : ℕ) → previous object x j ≡ Entry i → (end object x i ≤ offset object x j) ⊎ SharePlace object x i j)
+  clear_back : (j : ℕ) → (is_store (decision_at object x j) ≡ true → (i : ℕ) → previous object x j ≡ Some i → (end object x i ≤ offset object x j) ⊎ SharePlace object x i j)
       → no_overlap object x j ≡ true
   unfolding no_overlap
   clear_back j h = implied (is_store (decision_at object x j)) (clears object x j (previous object x j)) (λ s. go s (previous object x j) refl)
     where
-      go : is_store (decision_at object x j) ≡ true → (p : Previous) → previous object x j ≡ p → clears object x j p ≡ true
-      go s Nothing e = refl
-      go s (Entry i) e =
+      go : is_store (decision_at object x j) ≡ true → (p : Option ℕ) → previous object x j ≡ p → clears object x j p ≡ true
+      go s None e = refl
+      go s (Some i) e =
           or_two (leb (end object x i) (offset object x j)) (shares_place object x i j)
           (⊎_elim (λ a. inl (le-leb _ _ a)) (λ a. inr (shares_back i j a)) (h s i e))
 
@@ -180,7 +178,7 @@ module _ (object : List ℕ) (x : Site) where
 
   -- ---- 12
 
-  is_one_lem : (b : Bool) (k : ℕ) → is_one (cond b (At k) NotOne) ≡ b
+  is_one_lem : (b : Bool) (k : ℕ) → is_one (cond b (Some k) None) ≡ b
   is_one_lem true k = refl
   is_one_lem false k = refl
 

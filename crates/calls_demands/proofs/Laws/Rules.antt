@@ -1,4 +1,5 @@
 -- Each test of the judgement is equivalent to the rule that it is named after.
+use Rattle.std.specs.Prelude.{Err, Ok, Result, ⊤}
 use mathlib.Core.Logic.{◌⊎◌, ⊎_elim, inl, inr}
 use mathlib.Core.Path.{◌≡◌, refl, sym, ap, ◌∙◌}
 use mathlib.Core.Bool.{Bool, true, false, not, cond, ◌&&◌, ◌||◌}
@@ -23,7 +24,6 @@ use Rattle.order_lookup.specs.Addresses.{placed_at}
 use Rattle.order_format.proofs.Laws.Sound.{well_formed_sound, sound_well_formed}
 use Rattle.plan_pieces.specs.declared.Span.{Span}
 use Rattle.journal_format.specs.Journals.{max_entries, old_at, count, held, no_room}
-use Rattle.placing_match.specs.declared.Fault.TheVariants.{Nowhere, At}
 use Rattle.placing_match.specs.Placements.{lowest, differs}
 use Rattle.placing_match.specs.Externals.{is_undefined}
 use Rattle.placing_check.specs.Placing.{end_of, aligned, ends_in_memory, has_bytes, in_window, share, apart, misplaced}
@@ -33,11 +33,11 @@ use Rattle.calls_demands.specs.Rules.{OrderWell, WindowWell, HeaderWell, TableWe
 
 -- ---- the lowest place at which a test says broken
 
-pub lowest_found : (p : ℕ → Bool) (n k : ℕ) → lowest p n ≡ At k → (k < n) × ((j : ℕ) → j < k → p j ≡ false) × (p k ≡ true)
+pub lowest_found : (p : ℕ → Bool) (n k : ℕ) → lowest p n ≡ Err k → (k < n) × ((j : ℕ) → j < k → p j ≡ false) × (p k ≡ true)
 unfolding lowest
 lowest_found p n k e = go (ltb (first p n) n) refl e
   where
-    go : (b : Bool) → ltb (first p n) n ≡ b → cond b (At (first p n)) Nowhere ≡ At k → (k < n) × ((j : ℕ) → j < k → p j ≡ false) × (p k ≡ true)
+    go : (b : Bool) → ltb (first p n) n ≡ b → ◌≡◌ {A = Result ⊤ ℕ} (cond b (Err (first p n)) (Ok tt)) (Err k) → (k < n) × ((j : ℕ) → j < k → p j ≡ false) × (p k ≡ true)
     go true q r =
         let same : first p n ≡ k = cc in
         let below : first p n < n = ltb-true _ _ q in

@@ -1,4 +1,5 @@
 -- Check 10: a relocation's symbol has a value exactly when no reason applies, and otherwise the reason is the first that does.
+use Rattle.std.specs.Prelude.{Ok, Option}
 use mathlib.Core.Logic.{◌⊎◌, inl, inr, ⊎_elim}
 use mathlib.Core.Path.{◌≡◌, refl, sym, ap, ◌∙◌, subst}
 use mathlib.Core.Bool.{Bool, true, false, not, ◌&&◌, ◌||◌}
@@ -16,15 +17,12 @@ use Rattle.elf_read.specs.declared.Symbol.{Symbol}
 use Rattle.elf_read.specs.Headers.{class_of}
 use Rattle.elf_read.specs.Sections.{is_allocated}
 use Rattle.elf_read.specs.Entries.{symbol_count}
-use Rattle.order_lookup.specs.declared.Value.{Value}
 use Rattle.order_lookup.specs.Values.{is_given, external_value}
 use Rattle.order_lookup.specs.Addresses.{addresses_for}
 use Rattle.plan_pieces.specs.Answers.{Answer, says_why}
 use Rattle.placing_symbols.specs.declared.Reason.{Reason}
 use Rattle.placing_symbols.specs.declared.Reason.TheVariants.{PastTable, NotAllocated, Common, Reserved, Undefined, WrongType, OutsideTarget}
-use Rattle.placing_symbols.specs.declared.SymbolValue.{SymbolValue}
-use Rattle.placing_symbols.specs.declared.SymbolValue.TheVariants.{Resolved}
-use Rattle.placing_symbols.specs.Reasons.{reason_number, because}
+use Rattle.placing_symbols.specs.Reasons.{reason_number, because, SymbolValue}
 use Rattle.placing_symbols.specs.Values.{not_allocated, is_common, is_reserved, is_missing, is_wrong_type, of_section, of_entry, symbol_value}
 use Rattle.relocations_types.specs.declared.Decision.{Decision}
 use Rattle.relocations_types.specs.declared.Decision.TheVariants.{Marker, Align, Store, Refused}
@@ -57,7 +55,7 @@ module _ (object : List ℕ) (y : Symbol) where
       go false p true q = inr (eqb-true _ _ q)
       go false p false q = never (sym (rw (le-leb 0xFF00 y.section high, p, q) at e))
 
-  missing_if : (g : Value) → is_missing g y ≡ false → y.section ≡ 0 → (y.binding ≡ 2) ⊎ (is_given g ≡ true)
+  missing_if : (g : Option Address) → is_missing g y ≡ false → y.section ≡ 0 → (y.binding ≡ 2) ⊎ (is_given g ≡ true)
   missing_if g e none = go (eqb y.binding 2) refl (is_given g) refl
     where
       go : (a : Bool) → eqb y.binding 2 ≡ a → (b : Bool) → is_given g ≡ b → (y.binding ≡ 2) ⊎ (is_given g ≡ true)
@@ -83,7 +81,7 @@ module _ (object : List ℕ) (y : Symbol) where
       ⊎_elim (eqb-false _ _ (not-true absolute (and_right high (not absolute) first))) (eqb-false _ _ (not-true common (and_right (high && not absolute) (not common) e)))
       (h (leb-true _ _ (and_left high (not absolute) first)))
 
-  not_missing_if : (g : Value) → is_missing g y ≡ true → (y.section ≡ 0 → (y.binding ≡ 2) ⊎ (is_given g ≡ true)) → ⊥
+  not_missing_if : (g : Option Address) → is_missing g y ≡ true → (y.section ≡ 0 → (y.binding ≡ 2) ⊎ (is_given g ≡ true)) → ⊥
   not_missing_if g e h =
       let undefined : Bool = eqb y.section 0 in
       let weak : Bool = eqb y.binding 2 in
@@ -103,7 +101,7 @@ module _ (object order addresses : List ℕ) (x : Site) (j : ℕ) where
   abbrev y : Symbol
   y = symbol object x j
 
-  abbrev g : Value
+  abbrev g : Option Address
   g = external_value (class_of object) order k
 
   abbrev value : SymbolValue
@@ -111,7 +109,7 @@ module _ (object order addresses : List ℕ) (x : Site) (j : ℕ) where
 
   -- what is left of the reasons, from one on
   abbrev from6 : SymbolValue
-  from6 = because WrongType (is_wrong_type y) (Resolved (of_section object g (get_or addresses y.section 0) y))
+  from6 = because WrongType (is_wrong_type y) (Ok (of_section object g (get_or addresses y.section 0) y))
 
   abbrev from5 : SymbolValue
   from5 = because Undefined (is_missing g y) from6
@@ -132,7 +130,7 @@ module _ (object order addresses : List ℕ) (x : Site) (j : ℕ) where
   unfolding symbol_value of_entry
   looked_up some = rw (ne_eqb k 0 (λ z. omega arith))
 
-  zero_value : k ≡ 0 → value ≡ Resolved (address 0)
+  zero_value : k ≡ 0 → value ≡ Ok (address 0)
   unfolding symbol_value
   zero_value none = rw (eq-eqb k 0 none)
 
@@ -155,7 +153,7 @@ module _ (object order addresses : List ℕ) (x : Site) (j : ℕ) where
       let three = no_reason Common (is_common y) from4 two.1 in
       let four = no_reason Reserved (is_reserved y) from5 three.1 in
       let five = no_reason Undefined (is_missing g y) from6 four.1 in
-      let six = no_reason WrongType (is_wrong_type y) (Resolved (of_section object g (get_or addresses y.section 0) y)) five.1 in
+      let six = no_reason WrongType (is_wrong_type y) (Ok (of_section object g (get_or addresses y.section 0) y)) five.1 in
       (one.0, two.0, three.0, four.0, five.0, six.0)
 
   pub symbol_well_lem : symbol_well object x j value ≡ true → SymbolWell object order x j
@@ -277,7 +275,7 @@ module _ (object order : List ℕ) (l : Line) (n : ℕ) where
       s : Symbol
       s = y object order a at number
 
-      c : Value
+      c : Option Address
       c = g object order a at number
 
       here : Address
@@ -286,7 +284,7 @@ module _ (object order : List ℕ) (l : Line) (n : ℕ) where
       answers : Answer
       answers = says_why 10 n (reason_number (why found))
 
-      last : (z : Address) → found ≡ Resolved z → BrokenAt (rules7 object order l) answers
+      last : (z : Address) → found ≡ Ok z → BrokenAt (rules7 object order l) answers
       last z e = inl (ap (λ v. says_why 10 n (reason_number (why v))) e, outside object order a at number out n (ap is_resolved e))
 
       by : (R : ℕ → Type 0) (l : Line) (r : Reason) (t : Bool) (v : SymbolValue) → found ≡ because r t v → (t ≡ false → R n) → (t ≡ true → R n → ⊥) → (found ≡ v → BrokenAt l answers)
@@ -311,7 +309,7 @@ module _ (object order : List ℕ) (l : Line) (n : ℕ) where
           (λ e l. reserved_if object s e) (λ e h. not_reserved_if object s e (h looks))
           (λ e5. by (of_relocation object order (NotMissing object order)) (rules6 object order l) Undefined (is_missing c s) (from6 object order a at number) e5
           (λ e l. missing_if object s c e) (λ e h. not_missing_if object s c e (h looks))
-          (λ e6. by (of_relocation object order (RightType object)) (rules7 object order l) WrongType (is_wrong_type s) (Resolved here) e6
+          (λ e6. by (of_relocation object order (RightType object)) (rules7 object order l) WrongType (is_wrong_type s) (Ok here) e6
           (λ e l. type_if object s e) (λ e h. not_type_if object s e (h looks)) (λ e7. last here e7))))))
       go (no none) =
           let zero : k object order a at number ≡ 0 = omega arith in

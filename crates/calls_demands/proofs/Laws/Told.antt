@@ -1,4 +1,5 @@
 -- What an install answers is what the table says: done if every rule holds, otherwise the first broken rule.
+use Rattle.std.specs.Prelude.{Err, Ok, Result, ⊤}
 use mathlib.Core.Logic.{inl, inr}
 use mathlib.Core.Path.{◌≡◌, refl, sym, subst}
 use mathlib.Core.Bool.{Bool, true, false, not, cond, ◌&&◌}
@@ -14,8 +15,6 @@ use Rattle.numbers_definitions.proofs.Laws.First.{first_below, first_at}
 use Rattle.elf_read.specs.Headers.{class_of, has_rvc, address_width, section_count}
 use Rattle.elf_read.specs.Entries.{relocation_count}
 use Rattle.elf_header.specs.Headers.{header_allowed, table_allowed}
-use Rattle.elf_check.specs.declared.SectionCheck.{SectionCheck}
-use Rattle.elf_check.specs.declared.SectionCheck.TheVariants.{Sound as AllSound, Broken as BrokenSection}
 use Rattle.elf_check.specs.Rules.{section_well, section_check}
 use Rattle.elf_check.specs.Sound.{SoundSection}
 use Rattle.elf_check.proofs.Laws.Objects.{section_sound, well_section}
@@ -30,14 +29,11 @@ use Rattle.plan_pieces.specs.Plans.{Verdict, plan, span_of}
 use Rattle.plan_pieces.specs.Answers.{Answer, says, says_why}
 use Rattle.journal_history.specs.Calls.{journal_unsound, journal_full, Files, refuse, succeed, installed, settle, install}
 use Rattle.journal_format.proofs.Laws.Sound.{test_sound, sound_test}
-use Rattle.placing_match.specs.declared.Fault.{Fault}
-use Rattle.placing_match.specs.declared.Fault.TheVariants.{Nowhere, At}
 use Rattle.placing_match.specs.Placements.{lowest, differs, placement_check}
 use Rattle.placing_match.specs.Externals.{is_undefined, external_check}
 use Rattle.placing_check.specs.Placing.{misplaced, placing_check}
 use Rattle.placing_match.proofs.Laws.Theorems.{nowhere_holds}
-use Rattle.placing_symbols.specs.declared.SymbolValue.{SymbolValue}
-use Rattle.placing_symbols.specs.Reasons.{reason_number}
+use Rattle.placing_symbols.specs.Reasons.{reason_number, SymbolValue}
 use Rattle.relocations_types.specs.declared.Decision.{Decision}
 use Rattle.relocations_rela.specs.declared.sites.Site.{Site}
 use Rattle.relocations_rela.specs.Shape.{shape_well}
@@ -174,15 +170,15 @@ module _ (f : Files) (tail : Checks) (next : Verdict) where
   alone n R false t holds breaks = broken_once n tail (breaks refl)
 
   -- a check that names the lowest place where it is broken
-  at_lowest : (m n : ℕ) (R : ℕ → Type 0) (p : ℕ → Bool) → (lowest p m ≡ Nowhere → Told tail (settle f next).answer)
+  at_lowest : (m n : ℕ) (R : ℕ → Type 0) (p : ℕ → Bool) → (lowest p m ≡ Ok tt → Told tail (settle f next).answer)
       → ((k : ℕ) → p k ≡ false → R k) → ((k : ℕ) → p k ≡ true → R k → ⊥)
       → Told (each m n R tail) (settle f (after_fault n (lowest p m) next)).answer
   unfolding settle
   at_lowest m n R p t holds breaks = go (lowest p m) refl
     where
-      go : (r : Fault) → lowest p m ≡ r → Told (each m n R tail) (settle f (after_fault n r next)).answer
-      go Nowhere e = later m (rule n 0 R nil) tail (settle f next).answer (at_each m n (λ k l. holds k (nowhere_holds p m e k l))) (t e)
-      go (At k) e =
+      go : (r : Result ⊤ ℕ) → lowest p m ≡ r → Told (each m n R tail) (settle f (after_fault n r next)).answer
+      go (Ok _) e = later m (rule n 0 R nil) tail (settle f next).answer (at_each m n (λ k l. holds k (nowhere_holds p m e k l))) (t e)
+      go (Err k) e =
           let l = lowest_found p m k e in
           broken_at m n k tail l.0 (λ q h. holds q (l.1 q h)) (breaks k l.2)
 
@@ -198,7 +194,7 @@ module _ (object : List ℕ) where
   not_fine : (j : ℕ) → wrong j ≡ true → SoundSection object j → ⊥
   not_fine j e s = clash (section_well object j) (not-true (section_well object j) e) (well_section object j s)
 
-  module _ (f : Files) (tail : Checks) (next : Verdict) (t : section_check object ≡ AllSound → Told tail (settle f next).answer) where
+  module _ (f : Files) (tail : Checks) (next : Verdict) (t : section_check object ≡ Ok tt → Told tail (settle f next).answer) where
     abbrev sections : Checks
     sections = each (section_count object) 5 (SoundSection object) tail
 
@@ -208,7 +204,7 @@ module _ (object : List ℕ) where
     past_table : (a : Answer) → table_allowed object ≡ true → Told sections a → Told section_table a
     past_table a e h = later 1 (rule 5 0 (λ _. TableWell object) nil) sections a (at_once 5 (table_well object e)) h
 
-    by : (r : SectionCheck) → section_check object ≡ r → Told section_table (settle f (after_sections r next)).answer
+    by : (r : Result ⊤ ℕ) → section_check object ≡ r → Told section_table (settle f (after_sections r next)).answer
         → Told section_table (settle f (after_sections (section_check object) next)).answer
     by r e h = subst (λ o. Told section_table (settle f (after_sections o next)).answer) (sym e) h
 
@@ -224,17 +220,17 @@ module _ (object : List ℕ) where
 
         go : (b : Bool) → table_allowed object ≡ b → (c : Bool) → ltb k n ≡ c → Told section_table (settle f (after_sections (section_check object) next)).answer
         go false e₂ c e₃ =
-            by (BrokenSection 0) (check_table_broken object e₂)
+            by (Err 0) (check_table_broken object e₂)
             (broken_once 5 sections (λ h. clash (table_allowed object) e₂ (well_table object h)))
         go true e₂ true e₃ =
             let there : k < n = ltb-true k n e₃ in
             let here : wrong k ≡ true = first_at wrong n there in
-            by (BrokenSection k) (check_broken object k e₂ there (first_below wrong n) (not-true (section_well object k) here))
+            by (Err k) (check_broken object k e₂ there (first_below wrong n) (not-true (section_well object k) here))
             (past_table (says 5 k) e₂ (broken_at n 5 k tail there (λ j l. fine j (first_below wrong n j l)) (not_fine k here)))
         go true e₂ false e₃ =
             let all : (j : ℕ) → j < n → wrong j ≡ false = λ j l. first_below wrong n j (omega (arith, ltb-false k n e₃)) in
-            let passed : section_check object ≡ AllSound = check_sound object e₂ all in
-            by AllSound passed
+            let passed : section_check object ≡ (Ok tt) = check_sound object e₂ all in
+            by (Ok tt) passed
             (past_table (settle f next).answer e₂
             (later n (rule 5 0 (SoundSection object) nil) tail (settle f next).answer (at_each n 5 (λ j l. fine j (all j l))) (t passed)))
 
@@ -315,7 +311,7 @@ module _ (object order : List ℕ) (f : Files) where
       at_lowest f checks9 verdict9 (section_count object) 8 (PlacedIfAllocated object order len) (misplaced object (addresses_for object order) (base_for object order) len)
       (λ p. told9 (record { named = n; placing = p })) (placed_well object (addresses_for object order) (base_for object order) len) (placed_wrong object (addresses_for object order) (base_for object order) len)
 
-  told7 : Readable object order (order_header_of (class_of object) order) len → placement_check object order ≡ Nowhere → Told checks7 (settle f verdict7).answer
+  told7 : Readable object order (order_header_of (class_of object) order) len → placement_check object order ≡ Ok tt → Told checks7 (settle f verdict7).answer
   unfolding external_check
   told7 r p =
       at_lowest f checks8 verdict8 (2 ^ 32) 7 (ValuedIfUndefined object order) (λ k. is_given (external_value (class_of object) order k) && not (is_undefined object k))

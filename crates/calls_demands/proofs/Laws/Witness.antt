@@ -1,6 +1,7 @@
 -- Two installs of one object that stand in one image, so that the demands are not empty where they say most: a paired high and low half, a
 -- call, a branch back, ADD and SUB at one place, and a taking-back. What follows holds of any two calls that keep what is promised, and of
 -- ours.
+use Rattle.std.specs.Prelude.{None, Option, Some}
 use mathlib.Core.Path.{◌≡◌, refl, sym, ap, subst, ◌∙◌}
 use mathlib.Core.Bool.{true, not}
 use mathlib.Core.List.{List, [], ◌∷◌, ◌++◌}
@@ -55,8 +56,6 @@ use Rattle.placing_check.specs.Placing.{end_of, unit, aligned, ends_in_memory, h
 use Rattle.placing_symbols.specs.Values.{of_section, of_entry, symbol_value}
 use Rattle.relocations_rela.specs.Sites.{site_at, decision_at}
 use Rattle.relocations_rela.specs.Shape.{never_falls, stays_inside, previous, shares_place, no_overlap, shape_well}
-use Rattle.relocations_values.specs.declared.pairs.Pair.{Pair}
-use Rattle.relocations_values.specs.declared.pairs.Pair.TheVariants.{At, NotOne}
 use Rattle.relocations_values.specs.Pairs.{is_pair, how_many, pair_of}
 use Rattle.relocations_rules.specs.declared.RelocationCheck.TheVariants.{Passed}
 use Rattle.relocations_rules.specs.Rules.{symbol, in_target, symbol_well, stands_well, form_well, pair_well}
@@ -352,15 +351,15 @@ pub record Says (code value : List ℕ) (apart near total : ℕ) : Type 0 where
 -- the two halves of a pair add up, where it is known which relocation is the pair
 pub halves_add : (object order before after : List ℕ) → Laid object order before after → (i j k : ℕ) → IsRelocation object order i j
     → (b : Rule) → decision_at object (site_of object order i) j ≡ Store b → b.calculation ≡ Of Low Paired
-    → pair_of object (site_of object order i) (symbol object (site_of object order i) j).value ≡ At k
+    → pair_of object (site_of object order i) (symbol object (site_of object order i) j).value ≡ Some k
     → AddUp (address_width object) U (bytes_at object order after i k 4) b.field (bytes_at object order after i j b.size) (distance_at object order (addresses_for object order) (site_of object order i) k)
 halves_add object order before after l i j k is b d c pair =
     let halves = l.distances_whole i j is b d c in
     subst (λ n. AddUp (address_width object) U (bytes_at object order after i n 4) b.field (bytes_at object order after i j b.size) (distance_at object order (addresses_for object order) (site_of object order i) n)) (ap place (sym halves.2 ∙ pair)) halves.3
   where
-    place : Pair → ℕ
-    place (At n) = n
-    place NotOne = 0
+    place : Option ℕ → ℕ
+    place (Some n) = n
+    place None = 0
 
 -- what the table says about the type of its PCREL_LO12
 abbrev pub low_half : Rule

@@ -1,6 +1,7 @@
 -- An install of an object of class 2 above 2^32, and its taking-back, so that the demands are not empty there either: a paired high and low
 -- half whose distance is negative, and a word of 64 bits above 2^63. What follows holds of any two calls that keep what is promised, and of
 -- ours.
+use Rattle.std.specs.Prelude.{Ok}
 use mathlib.Core.Path.{◌≡◌, refl, sym, ap, ◌∙◌}
 use mathlib.Core.Bool.{false, not, ◌&&◌}
 use mathlib.Core.List.{List, [], ◌∷◌, ◌++◌}
@@ -36,7 +37,6 @@ use Rattle.plan_pieces.specs.Plans.{plan, overwritten, end, lowest as lowestOf, 
 use Rattle.plan_pieces.specs.Answers.{done}
 use Rattle.journal_history.specs.Calls.{Files, succeed, Install, Rollback, InstallCall, RollbackCall, install, settle, calling, run}
 use Rattle.journal_history.specs.Histories.{begin, spans, laid, stand, fall, told, Start}
-use Rattle.placing_match.specs.declared.Fault.TheVariants.{Nowhere}
 use Rattle.placing_match.specs.Placements.{lowest, differs, placement_check}
 use Rattle.placing_match.specs.Externals.{is_undefined, external_check}
 use Rattle.placing_match.proofs.Laws.Lowest.{lowest_nowhere}
@@ -115,11 +115,11 @@ externals_are (suc zero) = refl
 externals_are (suc (suc zero)) = refl
 externals_are (suc (suc (suc k))) = rw (ne_eqb 2 (suc (suc (suc k))) (λ e. omega arith))
 
-placements_match : placement_check object order ≡ Nowhere
+placements_match : placement_check object order ≡ Ok tt
 unfolding placement_check
 placements_match = lowest_nowhere (differs object order) (2 ^ 32) (λ i h. matches_are i)
 
-externals_match : external_check object order ≡ Nowhere
+externals_match : external_check object order ≡ Ok tt
 unfolding external_check
 externals_match = lowest_nowhere (λ k. is_given (external_value (class_of object) order k) && not (is_undefined object k)) (2 ^ 32) (λ k h. externals_are k)
 

@@ -51,11 +51,11 @@ class_of-requires c = header_there _ (header_long _ (allowed (goal.at.class_of-r
 
 pub judge_and_fit-requires : goal.judge_and_fit-requires
 judge_and_fit-requires c =
-    (allowed (goal.at.judge_and_fit-requires c).Else-not-check_header, read (goal.at.judge_and_fit-requires c).After-read_order ∙ c.in-WellFormed.is, ok (goal.at.judge_and_fit-requires c).Else-not-is_sound)
+    (allowed (goal.at.judge_and_fit-requires c).Else-not-check_header, read (goal.at.judge_and_fit-requires c).After-read_order ∙ c.in-Some.is, ok (goal.at.judge_and_fit-requires c).Else-not-is_sound)
 
-pub returns-in-Malformed : goal.returns-in-Malformed
-returns-in-Malformed c =
-    refused_by judgement (S (goal.at.returns-in-Malformed c).Start) (O (goal.at.returns-in-Malformed c).Start) (files (goal.at.returns-in-Malformed c).Start) (ok (goal.at.returns-in-Malformed c).Else-not-is_sound) _ (gives_2 (S (goal.at.returns-in-Malformed c).Start) (O (goal.at.returns-in-Malformed c).Start) (Len (goal.at.returns-in-Malformed c).Start) (allowed (goal.at.returns-in-Malformed c).Else-not-check_header) (read (goal.at.returns-in-Malformed c).After-read_order ∙ c.in-Malformed.is))
+pub returns-in-None : goal.returns-in-None
+returns-in-None c =
+    refused_by judgement (S (goal.at.returns-in-None c).Start) (O (goal.at.returns-in-None c).Start) (files (goal.at.returns-in-None c).Start) (ok (goal.at.returns-in-None c).Else-not-is_sound) _ (gives_2 (S (goal.at.returns-in-None c).Start) (O (goal.at.returns-in-None c).Start) (Len (goal.at.returns-in-None c).Start) (allowed (goal.at.returns-in-None c).Else-not-check_header) (read (goal.at.returns-in-None c).After-read_order ∙ c.in-None.is))
 
-pub returns-in-WellFormed : goal.returns-in-WellFormed
-returns-in-WellFormed c = c.judge_and_fit.ensures
+pub returns-in-Some : goal.returns-in-Some
+returns-in-Some c = c.judge_and_fit.ensures

@@ -12,13 +12,13 @@ check_externals-requires c =
 
 pub judge_placing-requires : goal.judge_placing-requires
 judge_placing-requires c =
-    (record { readable = c.requires.0; placements = c.requires.1; externals = sym c.check_externals.ensures ∙ c.in-Nowhere.is }, c.requires.2)
+    (record { readable = c.requires.0; placements = c.requires.1; externals = sym c.check_externals.ensures ∙ c.in-Ok.is }, c.requires.2)
 
-pub returns-in-Nowhere : goal.returns-in-Nowhere
-returns-in-Nowhere c = c.judge_placing.ensures
+pub returns-in-Ok : goal.returns-in-Ok
+returns-in-Ok c = c.judge_placing.ensures
 
-pub returns-in-At : goal.returns-in-At
-returns-in-At c =
+pub returns-in-Err : goal.returns-in-Err
+returns-in-Err c =
     let a = c.args in
     not_placed a.object.now a.order.now a.counts a.len _ refl
-    (gives_7 a.object.now a.order.now a.len a.counts _ c.requires.0 c.requires.1 (sym c.check_externals.ensures ∙ c.in-At.is))
+    (gives_7 a.object.now a.order.now a.len a.counts _ c.requires.0 c.requires.1 (sym c.check_externals.ensures ∙ c.in-Err.is))

@@ -12,13 +12,13 @@ check_placements-requires c =
 
 pub judge_externals-requires : goal.judge_externals-requires
 judge_externals-requires c =
-    (c.requires.0, sym c.check_placements.ensures ∙ c.in-Nowhere.is, c.requires.1)
+    (c.requires.0, sym c.check_placements.ensures ∙ c.in-Ok.is, c.requires.1)
 
-pub returns-in-Nowhere : goal.returns-in-Nowhere
-returns-in-Nowhere c = c.judge_externals.ensures
+pub returns-in-Ok : goal.returns-in-Ok
+returns-in-Ok c = c.judge_externals.ensures
 
-pub returns-in-At : goal.returns-in-At
-returns-in-At c =
+pub returns-in-Err : goal.returns-in-Err
+returns-in-Err c =
     let a = c.args in
     not_placed a.object.now a.order.now a.counts a.len _ refl
-    (gives_6 a.object.now a.order.now a.len a.counts _ c.requires.0 (sym c.check_placements.ensures ∙ c.in-At.is))
+    (gives_6 a.object.now a.order.now a.len a.counts _ c.requires.0 (sym c.check_placements.ensures ∙ c.in-Err.is))

@@ -49,10 +49,10 @@ check_placing-placing-requires c =
     let f = c.requires.0.readable in
     (sound_object (S (goal.at.check_placing-placing-requires c).Start) f.header f.sections, leb-true _ _ (and_left (length_allowed c.args.len) _ f.window))
 
-pub returns-in-Nowhere : goal.returns-in-Nowhere
-returns-in-Nowhere c =
-    all_placed (S (goal.at.returns-in-Nowhere c).Start) (O (goal.at.returns-in-Nowhere c).Start) c.args.counts c.args.len _ refl (record { named = c.requires.0; placing = found (goal.at.returns-in-Nowhere c).After-check_placing-placing ∙ c.in-Nowhere.is }) (c.check_placing-placing.ensures.1 ∙ array_is (goal.at.returns-in-Nowhere c).After-check_placing-placing)
+pub returns-in-Ok : goal.returns-in-Ok
+returns-in-Ok c =
+    all_placed (S (goal.at.returns-in-Ok c).Start) (O (goal.at.returns-in-Ok c).Start) c.args.counts c.args.len _ refl (record { named = c.requires.0; placing = found (goal.at.returns-in-Ok c).After-check_placing-placing ∙ c.in-Ok.is }) (c.check_placing-placing.ensures.1 ∙ array_is (goal.at.returns-in-Ok c).After-check_placing-placing)
 
-pub returns-in-At : goal.returns-in-At
-returns-in-At c =
-    not_placed (S (goal.at.returns-in-At c).Start) (O (goal.at.returns-in-At c).Start) c.args.counts c.args.len _ refl (gives_8 (S (goal.at.returns-in-At c).Start) (O (goal.at.returns-in-At c).Start) c.args.len c.args.counts _ c.requires.0 (found (goal.at.returns-in-At c).After-check_placing-placing ∙ c.in-At.is))
+pub returns-in-Err : goal.returns-in-Err
+returns-in-Err c =
+    not_placed (S (goal.at.returns-in-Err c).Start) (O (goal.at.returns-in-Err c).Start) c.args.counts c.args.len _ refl (gives_8 (S (goal.at.returns-in-Err c).Start) (O (goal.at.returns-in-Err c).Start) c.args.len c.args.counts _ c.requires.0 (found (goal.at.returns-in-Err c).After-check_placing-placing ∙ c.in-Err.is))

@@ -43,11 +43,11 @@ check_sections-requires c = header_long _ c.requires.0
 
 pub judge_placements-requires : goal.judge_placements-requires
 judge_placements-requires c =
-    (record { header = c.requires.0; reading_is = c.requires.1; window = window (goal.at.judge_placements-requires c).Else-not-window_allowed; sections = sym c.check_sections.ensures ∙ c.in-Sound.is }, c.requires.2)
+    (record { header = c.requires.0; reading_is = c.requires.1; window = window (goal.at.judge_placements-requires c).Else-not-window_allowed; sections = sym c.check_sections.ensures ∙ c.in-Ok.is }, c.requires.2)
 
-pub returns-in-Sound : goal.returns-in-Sound
-returns-in-Sound c = c.judge_placements.ensures
+pub returns-in-Ok : goal.returns-in-Ok
+returns-in-Ok c = c.judge_placements.ensures
 
-pub returns-in-Broken : goal.returns-in-Broken
-returns-in-Broken c =
-    not_placed (S (goal.at.returns-in-Broken c).Start) (O (goal.at.returns-in-Broken c).Start) c.args.counts c.args.len _ refl (gives_5 (S (goal.at.returns-in-Broken c).Start) (O (goal.at.returns-in-Broken c).Start) c.args.len c.args.counts _ c.requires.0 c.requires.1 (window (goal.at.returns-in-Broken c).Else-not-window_allowed) (sym c.check_sections.ensures ∙ c.in-Broken.is))
+pub returns-in-Err : goal.returns-in-Err
+returns-in-Err c =
+    not_placed (S (goal.at.returns-in-Err c).Start) (O (goal.at.returns-in-Err c).Start) c.args.counts c.args.len _ refl (gives_5 (S (goal.at.returns-in-Err c).Start) (O (goal.at.returns-in-Err c).Start) c.args.len c.args.counts _ c.requires.0 c.requires.1 (window (goal.at.returns-in-Err c).Else-not-window_allowed) (sym c.check_sections.ensures ∙ c.in-Err.is))

@@ -1,4 +1,5 @@
 -- Laws of the judgement: what each check gives.
+use Rattle.std.specs.Prelude.{Err, None, Ok, Result, Some, ⊤}
 use mathlib.Core.Path.{◌≡◌, refl, sym, ap, ◌∙◌, subst}
 use mathlib.Core.Bool.{Bool, true, false, cond}
 use mathlib.Core.List.{List}
@@ -10,22 +11,17 @@ use Rattle.numbers_definitions.proofs.Laws.Tests.{never}
 use Rattle.numbers_definitions.specs.First.{first}
 use Rattle.numbers_definitions.proofs.Laws.First.{first_at}
 use Rattle.order_format.specs.declared.OrderHeader.{OrderHeader}
-use Rattle.order_format.specs.declared.Reading.TheVariants.{Malformed, WellFormed}
 use Rattle.order_format.specs.Orders.{base, well_formed, reading}
 use Rattle.order_format.specs.Windows.{window_allowed}
 use Rattle.order_lookup.specs.Addresses.{addresses, addresses_for, base_for}
 use Rattle.order_format.proofs.Laws.Sound.{Sound, order_header_of, well_formed_sound, reading_sound, sound_reading, sound_counts, sound_well_formed}
 use Rattle.numbers_definitions.specs.declared.Class.{Class}
 use Rattle.elf_header.specs.Headers.{header_allowed}
-use Rattle.elf_check.specs.declared.SectionCheck.{SectionCheck}
-use Rattle.elf_check.specs.declared.SectionCheck.TheVariants.{Sound as AllSound, Broken as BrokenAt}
 use Rattle.elf_check.specs.Rules.{section_check}
 use Rattle.elf_read.specs.Headers.{class_of, address_width}
 use Rattle.elf_read.specs.Entries.{relocation_count}
 use Rattle.plan_pieces.specs.Answers.{Answer, says, says_why}
 use Rattle.plan_pieces.specs.Plans.{Piece, Verdict, refused, plan}
-use Rattle.placing_match.specs.declared.Fault.{Fault}
-use Rattle.placing_match.specs.declared.Fault.TheVariants.{Nowhere, At}
 use Rattle.placing_match.specs.Placements.{placement_check}
 use Rattle.placing_match.specs.Externals.{external_check}
 use Rattle.placing_check.specs.Placing.{placing_check}
@@ -40,16 +36,16 @@ use Rattle.calls_judgement.specs.Requires.{Readable, Named, Placeable, Fitting}
 -- ---- orders
 
 module _ (c : Class) (order : List ℕ) where
-  pub formed : (counts : OrderHeader) → reading c order ≡ WellFormed counts → well_formed c order ≡ true
+  pub formed : (counts : OrderHeader) → reading c order ≡ Some counts → well_formed c order ≡ true
   formed counts e =
       let s = reading_sound c order counts e in
       sound_well_formed c order (subst (Sound c order) (sound_counts c order counts s) s)
 
-  not_formed : reading c order ≡ Malformed → well_formed c order ≡ false
+  not_formed : reading c order ≡ None → well_formed c order ≡ false
   unfolding reading
   not_formed e = go (well_formed c order) refl e
     where
-      go : (b : Bool) → well_formed c order ≡ b → cond b (WellFormed (order_header_of c order)) Malformed ≡ Malformed → well_formed c order ≡ false
+      go : (b : Bool) → well_formed c order ≡ b → cond b (Some (order_header_of c order)) None ≡ None → well_formed c order ≡ false
       go true q r =
           let z : ◌≡◌ {A = ℕ} 0 1 = cc in
           absurd (omega arith)
@@ -90,18 +86,18 @@ module _ (object order : List ℕ) (len : ℕ) where
   unfolding judgement
   gives_4 h = rw h
 
-  pub gives_2 : header_allowed object ≡ true → reading (class_of object) order ≡ Malformed → judgement object order len ≡ refused (says 2 0)
+  pub gives_2 : header_allowed object ≡ true → reading (class_of object) order ≡ None → judgement object order len ≡ refused (says 2 0)
   unfolding judgement
   gives_2 h e = rw (h, not_formed (class_of object) order e)
 
   module _ (counts : OrderHeader) where
-    pub gives_3 : header_allowed object ≡ true → reading (class_of object) order ≡ WellFormed counts
+    pub gives_3 : header_allowed object ≡ true → reading (class_of object) order ≡ Some counts
         → window_allowed (address_width object) (base_for object order) len ≡ false → judgement object order len ≡ refused (says 3 0)
     unfolding judgement
     gives_3 h e w = rw (h, formed (class_of object) order counts e, w)
 
-    pub gives_5 : (i : ℕ) → header_allowed object ≡ true → reading (class_of object) order ≡ WellFormed counts
-        → window_allowed (address_width object) (base_for object order) len ≡ true → section_check object ≡ BrokenAt i → judgement object order len ≡ refused (says 5 i)
+    pub gives_5 : (i : ℕ) → header_allowed object ≡ true → reading (class_of object) order ≡ Some counts
+        → window_allowed (address_width object) (base_for object order) len ≡ true → section_check object ≡ Err i → judgement object order len ≡ refused (says 5 i)
     unfolding judgement
     gives_5 i h e w o = rw (h, formed (class_of object) order counts e, w, o)
 
@@ -114,16 +110,16 @@ module _ (object order : List ℕ) (len : ℕ) where
     unfolding judgement
     read_well r = rw (r.header, formed (class_of object) order counts r.reading_is, r.window, r.sections)
 
-    pub gives_6 : (i : ℕ) → Readable object order counts len → placement_check object order ≡ At i → judgement object order len ≡ refused (says 6 i)
+    pub gives_6 : (i : ℕ) → Readable object order counts len → placement_check object order ≡ Err i → judgement object order len ≡ refused (says 6 i)
     gives_6 i r p = read_well r ∙ rw p
 
-    pub gives_7 : (k : ℕ) → Readable object order counts len → placement_check object order ≡ Nowhere → external_check object order ≡ At k → judgement object order len ≡ refused (says 7 k)
+    pub gives_7 : (k : ℕ) → Readable object order counts len → placement_check object order ≡ Ok tt → external_check object order ≡ Err k → judgement object order len ≡ refused (says 7 k)
     gives_7 k r p x = read_well r ∙ rw (p, x)
 
     named_well : Named object order counts len → judgement object order len ≡ placed
     named_well n = read_well n.readable ∙ rw (n.placements, n.externals)
 
-    pub gives_8 : (i : ℕ) → Named object order counts len → placing_check object (addresses_for object order) (base_for object order) len ≡ At i
+    pub gives_8 : (i : ℕ) → Named object order counts len → placing_check object (addresses_for object order) (base_for object order) len ≡ Err i
         → judgement object order len ≡ refused (says 8 i)
     gives_8 i n p = named_well n ∙ rw p
 
@@ -156,19 +152,19 @@ plan_fits object order len ps h =
     c = class_of object
 
     go : (h : Bool) → header_allowed object ≡ h → (a : Bool) → well_formed c order ≡ a → (b : Bool) → window_allowed (address_width object) (base c order) len ≡ b
-        → (s : SectionCheck) → section_check object ≡ s → (d : Fault) → placement_check object order ≡ d → (e : Fault) → external_check object order ≡ e
-        → (f : Fault) → placing_check object (addresses c order) (base c order) len ≡ f → (g : RelocationCheck) → relocation_check object order (addresses c order) ≡ g
+        → (s : Result ⊤ ℕ) → section_check object ≡ s → (d : Result ⊤ ℕ) → placement_check object order ≡ d → (e : Result ⊤ ℕ) → external_check object order ≡ e
+        → (f : Result ⊤ ℕ) → placing_check object (addresses c order) (base c order) len ≡ f → (g : RelocationCheck) → relocation_check object order (addresses c order) ≡ g
         → after_test 4 h (after_test 2 a (after_test 3 b (after_sections s (after_fault 6 d (after_fault 7 e (after_fault 8 f (after_relocations g (plan (plan_of object order))))))))) ≡ plan ps
         → Fits object order len ps
     go false p₀ a p₁ b p₂ s p₃ d p₄ e p₅ f p₆ g p₇ h = wrong (says 4 0) ps h
     go true p₀ false p₁ b p₂ s p₃ d p₄ e p₅ f p₆ g p₇ h = wrong (says 2 0) ps h
     go true p₀ true p₁ false p₂ s p₃ d p₄ e p₅ f p₆ g p₇ h = wrong (says 3 0) ps h
-    go true p₀ true p₁ true p₂ (BrokenAt i) p₃ d p₄ e p₅ f p₆ g p₇ h = wrong (says 5 i) ps h
-    go true p₀ true p₁ true p₂ AllSound p₃ (At i) p₄ e p₅ f p₆ g p₇ h = wrong (says 6 i) ps h
-    go true p₀ true p₁ true p₂ AllSound p₃ Nowhere p₄ (At i) p₅ f p₆ g p₇ h = wrong (says 7 i) ps h
-    go true p₀ true p₁ true p₂ AllSound p₃ Nowhere p₄ Nowhere p₅ (At i) p₆ g p₇ h = wrong (says 8 i) ps h
-    go true p₀ true p₁ true p₂ AllSound p₃ Nowhere p₄ Nowhere p₅ Nowhere p₆ (Broken x k) p₇ h = wrong (says_why (number x) k (reason x)) ps h
-    go true p₀ true p₁ true p₂ AllSound p₃ Nowhere p₄ Nowhere p₅ Nowhere p₆ AllKept p₇ h =
+    go true p₀ true p₁ true p₂ (Err i) p₃ d p₄ e p₅ f p₆ g p₇ h = wrong (says 5 i) ps h
+    go true p₀ true p₁ true p₂ (Ok _) p₃ (Err i) p₄ e p₅ f p₆ g p₇ h = wrong (says 6 i) ps h
+    go true p₀ true p₁ true p₂ (Ok _) p₃ (Ok _) p₄ (Err i) p₅ f p₆ g p₇ h = wrong (says 7 i) ps h
+    go true p₀ true p₁ true p₂ (Ok _) p₃ (Ok _) p₄ (Ok _) p₅ (Err i) p₆ g p₇ h = wrong (says 8 i) ps h
+    go true p₀ true p₁ true p₂ (Ok _) p₃ (Ok _) p₄ (Ok _) p₅ (Ok _) p₆ (Broken x k) p₇ h = wrong (says_why (number x) k (reason x)) ps h
+    go true p₀ true p₁ true p₂ (Ok _) p₃ (Ok _) p₄ (Ok _) p₅ (Ok _) p₆ AllKept p₇ h =
         let s = well_formed_sound c order p₁ in
         record {
           counts = order_header_of c order;
@@ -189,16 +185,16 @@ plan_fits object order len ps h =
 -- ---- from a plan back to the checks
 
 module _ (object order : List ℕ) (len : ℕ) where
-  pub done_fits : (counts : OrderHeader) → judgement object order len ≡ plan (plan_of object order) → reading (class_of object) order ≡ WellFormed counts → Fitting object order counts len
+  pub done_fits : (counts : OrderHeader) → judgement object order len ≡ plan (plan_of object order) → reading (class_of object) order ≡ Some counts → Fitting object order counts len
   done_fits counts e r =
       let f = plan_fits object order len (plan_of object order) e in
-      let told : WellFormed f.counts ≡ WellFormed counts = sym f.fitting.placeable.named.readable.reading_is ∙ r in
+      let told : Some f.counts ≡ Some counts = sym f.fitting.placeable.named.readable.reading_is ∙ r in
       let same : f.counts ≡ counts = cc in
       subst (λ n. Fitting object order n len) same f.fitting
 
-  pub done_formed : judgement object order len ≡ plan (plan_of object order) → reading (class_of object) order ≡ Malformed → ⊥
+  pub done_formed : judgement object order len ≡ plan (plan_of object order) → reading (class_of object) order ≡ None → ⊥
   done_formed e r =
       let f = plan_fits object order len (plan_of object order) e in
-      let told : WellFormed f.counts ≡ Malformed = sym f.fitting.placeable.named.readable.reading_is ∙ r in
+      let told : Some f.counts ≡ None = sym f.fitting.placeable.named.readable.reading_is ∙ r in
       let z : ◌≡◌ {A = ℕ} 0 1 = cc in
       omega arith

@@ -1,21 +1,21 @@
 -- `calls_replay::read_list` meets its contract.
+use Rattle.std.specs.Prelude.{None, Some}
 use mathlib.Core.Path.{◌≡◌, refl, sym, ap, ◌∙◌}
 use mathlib.Core.Bool.{true, false, cond}
 use Prim.Native.Nat.{ℕ, ◌+◌, ◌<◌}
 use native.Mathlib.Omega.{arith}
 use borrow.Author.Count.{below_more}
-use Rattle.calls_replay.specs.declared.List.TheVariants.{Malformed, Calls}
 use Rattle.calls_replay.specs.Lists.{call_count, call_end, is_call, call_start, is_list}
 use Rattle.calls_replay.proofs.Laws.Lists.{ends_inside, start_above, start_next, list_is, not_list_call, not_list_end}
 use Rattle.calls_replay.proofs.read_list.Goals as goal
 use Rattle.calls_replay.proofs.read_list.Goals.{After-is_call, After-loop-i}
 
 -- a test of a list decides what is read
-malformed : (s : _) → is_list s ≡ false → cond (is_list s) (Calls (call_count s)) Malformed ≡ Malformed
+malformed : (s : _) → is_list s ≡ false → cond (is_list s) (Some (call_count s)) None ≡ None
 malformed s e = rw e
 
-listed : (s : _) (n : ℕ) → n ≡ call_count s → is_list s ≡ true → Calls n ≡ cond (is_list s) (Calls (call_count s)) Malformed
-listed s n c e = rw e (ap Calls c)
+listed : (s : _) (n : ℕ) → n ≡ call_count s → is_list s ≡ true → Some n ≡ cond (is_list s) (Some (call_count s)) None
+listed s n c e = rw e (ap Some c)
 
 pub returns-then-calls-lt-FIRST_AT : goal.returns-then-calls-lt-FIRST_AT
 returns-then-calls-lt-FIRST_AT c =

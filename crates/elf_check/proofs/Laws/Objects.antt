@@ -1,4 +1,5 @@
 -- Checks 4 and 5 pass exactly for sound objects.
+use Rattle.std.specs.Prelude.{Err, Ok, Result, ⊤}
 use mathlib.Core.Logic.{◌⊎◌, inl, inr}
 use mathlib.Core.Path.{◌≡◌, refl, sym, ap, ◌∙◌}
 use mathlib.Core.Bool.{Bool, true, false, not, cond, ◌&&◌, ◌||◌}
@@ -15,8 +16,6 @@ use Rattle.numbers_definitions.proofs.Laws.First.{first_below, everywhere_at, ev
 use Rattle.elf_read.specs.Headers.{class_of, symbol_size, relocation_size, section_count}
 use Rattle.elf_read.specs.Sections.{NULL, SYMTAB, RELA, NOBITS, REL, section_at, allocated, loaded, symbol_table, targets, counting_rel, counting_rela}
 use Rattle.elf_read.specs.Entries.{symbol_entries}
-use Rattle.elf_check.specs.declared.SectionCheck.{SectionCheck}
-use Rattle.elf_check.specs.declared.SectionCheck.TheVariants.{Sound, Broken}
 use Rattle.elf_header.specs.Headers.{header_allowed, table_allowed}
 use Rattle.elf_check.specs.Rules.{max_symbols, starts_null, inside_file, allocated_well, symbol_table_well, no_counting_rel, rela_kept, relocations_kept, rela_well, relocations_well, section_well, section_check}
 use Rattle.elf_check.specs.Sound.{SoundSymbols, SoundRela, SoundSection}
@@ -205,18 +204,18 @@ well_section s i f =
 
 -- ---- check 5
 
-check_table : (s : List ℕ) → section_check s ≡ Sound → table_allowed s ≡ true
+check_table : (s : List ℕ) → section_check s ≡ Ok tt → table_allowed s ≡ true
 unfolding section_check
 check_table s e = go (table_allowed s) e
   where
-    inner : SectionCheck
-    inner = cond (ltb (first (λ j. not (section_well s j)) (section_count s)) (section_count s)) (Broken (first (λ j. not (section_well s j)) (section_count s))) Sound
+    inner : Result ⊤ ℕ
+    inner = cond (ltb (first (λ j. not (section_well s j)) (section_count s)) (section_count s)) (Err (first (λ j. not (section_well s j)) (section_count s))) (Ok tt)
 
-    go : (t : Bool) → cond t inner (Broken 0) ≡ Sound → t ≡ true
+    go : (t : Bool) → cond t inner (Err 0) ≡ Ok tt → t ≡ true
     go true h = refl
     go false h = cc
 
-check_wells : (s : List ℕ) → section_check s ≡ Sound → (i : ℕ) → i < section_count s → section_well s i ≡ true
+check_wells : (s : List ℕ) → section_check s ≡ Ok tt → (i : ℕ) → i < section_count s → section_well s i ≡ true
 unfolding section_check
 check_wells s e i h =
     not-false _ (first_below p n i (go (ltb (first p n) n) refl (rw (check_table s e) at e)))
@@ -227,9 +226,12 @@ check_wells s e i h =
     n : ℕ
     n = section_count s
 
-    go : (t : Bool) → ltb (first p n) n ≡ t → cond (ltb (first p n) n) (Broken (first p n)) Sound ≡ Sound → i < first p n
+    ok : Result ⊤ ℕ
+    ok = Ok tt
+
+    go : (t : Bool) → ltb (first p n) n ≡ t → cond (ltb (first p n) n) (Err (first p n)) ok ≡ ok → i < first p n
     go true q r =
-        let broken : Broken (first p n) ≡ Sound = rw q at r in
+        let broken : Err (first p n) ≡ ok = rw q at r in
         let z : ◌≡◌ {A = ℕ} 0 1 = cc in
         absurd (omega arith)
     go false q r = omega (arith, ltb-false (first p n) n q)
@@ -237,7 +239,7 @@ check_wells s e i h =
 -- ---- checks 4 and 5 pass exactly for sound objects
 
 -- the one record from which later crates take every bound
-pub sound_object : (s : List ℕ) → header_allowed s ≡ true → section_check s ≡ Sound → SoundObject s
+pub sound_object : (s : List ℕ) → header_allowed s ≡ true → section_check s ≡ Ok tt → SoundObject s
 sound_object s header sections =
     let table : table_allowed s ≡ true = check_table s sections in
     record {
@@ -249,5 +251,5 @@ sound_object s header sections =
     }
 
 -- the sections of a sound object pass check 5; its header is one of its fields
-pub object_sound : (s : List ℕ) → SoundObject s → section_check s ≡ Sound
+pub object_sound : (s : List ℕ) → SoundObject s → section_check s ≡ Ok tt
 object_sound s f = check_sound s (allowed_table s f.entries f.some f.table) (λ i h. ap not (well_section s i (f.sections i h)))

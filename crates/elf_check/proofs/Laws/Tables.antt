@@ -1,4 +1,5 @@
 -- Laws of the rules as the code tries them.
+use Rattle.std.specs.Prelude.{Err, Ok}
 use mathlib.Core.Path.{◌≡◌, refl, ap}
 use mathlib.Core.Bool.{Bool, true, false, not, ◌&&◌}
 use mathlib.Core.List.{List}
@@ -12,7 +13,6 @@ use Rattle.numbers_definitions.proofs.Laws.First.{first_is}
 use Rattle.numbers_definitions.proofs.Laws.Sums.{sum_mono}
 use Rattle.elf_read.specs.Headers.{section_count}
 use Rattle.elf_read.specs.Sections.{REL, RELA, section_at, targets, counting_rel, counting_rela, relocations_in, relocations_below}
-use Rattle.elf_check.specs.declared.SectionCheck.TheVariants.{Sound, Broken}
 use Rattle.elf_header.specs.Headers.{table_allowed}
 use Rattle.elf_check.specs.Rules.{max_relocations, starts_null, inside_file, allocated_well, symbol_table_well, no_counting_rel, rela_kept, relocations_kept, rela_well, relocations_well, section_well, section_check}
 
@@ -64,18 +64,18 @@ section_well_lem s i =
     regroup (starts_null s i && inside_file s i && allocated_well s i) (symbol_table_well s i) (no_counting_rel s i) (rela_well s i) (relocations_well s i)
 
 -- what check 5 finds
-pub check_table_broken : (s : List ℕ) → table_allowed s ≡ false → section_check s ≡ Broken 0
+pub check_table_broken : (s : List ℕ) → table_allowed s ≡ false → section_check s ≡ Err 0
 unfolding section_check
 check_table_broken s e = rw e
 
 pub check_broken : (s : List ℕ) (i : ℕ) → table_allowed s ≡ true → i < section_count s → ((j : ℕ) → j < i → not (section_well s j) ≡ false) → section_well s i ≡ false
-    → section_check s ≡ Broken i
+    → section_check s ≡ Err i
 unfolding section_check
 check_broken s i t h below here =
     let is : first (λ j. not (section_well s j)) (section_count s) ≡ i = first_is _ (section_count s) i (omega arith) below (λ _. ap not here) in
     rw (t, is, lt-ltb _ _ h)
 
-pub check_sound : (s : List ℕ) → table_allowed s ≡ true → ((j : ℕ) → j < section_count s → not (section_well s j) ≡ false) → section_check s ≡ Sound
+pub check_sound : (s : List ℕ) → table_allowed s ≡ true → ((j : ℕ) → j < section_count s → not (section_well s j) ≡ false) → section_check s ≡ Ok tt
 unfolding section_check
 check_sound s t all =
     let n : ℕ = section_count s in

@@ -1,4 +1,5 @@
 -- For a list that was run, demand 3 holds for its answers and for what it left.
+use Rattle.std.specs.Prelude.{None, Some}
 use mathlib.Core.Path.{◌≡◌, refl, sym, ap, ◌∙◌, subst}
 use mathlib.Core.Bool.{Bool, true, false, cond, ◌&&◌}
 use mathlib.Core.List.{List, [], ◌∷◌}
@@ -12,7 +13,6 @@ use Rattle.numbers_definitions.proofs.Laws.Tests.{and_right}
 use Rattle.plan_pieces.specs.Answers.{Answer}
 use Rattle.journal_history.specs.Calls.{Files, Call, Install, Rollback, calling, answers, run}
 use Rattle.journal_history.specs.Histories.{Start, CallsAre}
-use Rattle.calls_replay.specs.declared.List.TheVariants.{Malformed, Calls}
 use Rattle.calls_replay.specs.Lists.{call_count, is_list, calls_of}
 use Rattle.calls_replay.specs.Replays.{Replay, codes, replay}
 use Rattle.calls_replay.proofs.Laws.Replays.{codes_length}
@@ -22,13 +22,13 @@ use Rattle.calls_demands.proofs.Laws.Promised.{ours_keep}
 use Rattle.fitter.specs.Replayed.{Demand3Of}
 
 -- what `read_list` says decides whether the bytes are a list
-pub malformed_is : (b : Bool) (n : ℕ) → cond b (Calls n) Malformed ≡ Malformed → b ≡ false
+pub malformed_is : (b : Bool) (n : ℕ) → cond b (Some n) None ≡ None → b ≡ false
 malformed_is true n e =
     let z : ◌≡◌ {A = ℕ} 0 1 = cc in
     absurd (omega arith)
 malformed_is false n e = refl
 
-pub listed_is : (b : Bool) (n m : ℕ) → cond b (Calls n) Malformed ≡ Calls m → (b ≡ true) × (m ≡ n)
+pub listed_is : (b : Bool) (n m : ℕ) → cond b (Some n) None ≡ Some m → (b ≡ true) × (m ≡ n)
 listed_is true n m e = (refl, (cc))
 listed_is false n m e =
     let z : ◌≡◌ {A = ℕ} 0 1 = cc in

@@ -10,21 +10,21 @@ use Rattle.fitter.proofs.aktinoph_replay.Goals as goal
 pub replay_list-requires : goal.replay_list-requires
 replay_list-requires c =
     let s = c.args.calls.now in
-    listed_is (is_list s) (call_count s) _ (sym c.read_list.ensures ∙ c.in-Calls.is)
+    listed_is (is_list s) (call_count s) _ (sym c.read_list.ensures ∙ c.in-Some.is)
 
-pub returns-in-Malformed : goal.returns-in-Malformed
-returns-in-Malformed c =
+pub returns-in-None : goal.returns-in-None
+returns-in-None c =
     let a = c.args in
     let s = a.calls.now in
     record {
       ledger_after =
           not_run our_install our_rollback s a.answers.now (record { image = a.image.now; journal = a.ledger.now })
-          (malformed_is (is_list s) (call_count s) (sym c.read_list.ensures ∙ c.in-Malformed.is));
+          (malformed_is (is_list s) (call_count s) (sym c.read_list.ensures ∙ c.in-None.is));
       demand3of = λ e. absurd (omega (arith, e));
     }
 
-pub returns-in-Calls : goal.returns-in-Calls
-returns-in-Calls c =
+pub returns-in-Some : goal.returns-in-Some
+returns-in-Some c =
     let a = c.args in
     record {
       ledger_after = c.replay_list.ensures;

@@ -1,5 +1,6 @@
 -- Document 01's bench order: "Order, window 0x20000000, row 1 at 0x20000008: 01000000 00000020 01000000 01000000 08000020 00000000, in
 -- file byte order."
+use Rattle.std.specs.Prelude.{None, Some}
 use mathlib.Core.Path.{◌≡◌, refl}
 use mathlib.Core.List.{List, [], ◌∷◌}
 use Prim.Native.Nat.{ℕ}
@@ -7,7 +8,6 @@ use Rattle.numbers_definitions.specs.Bytes.{le, le_at, bytes}
 use Rattle.numbers_definitions.specs.First.{first, everywhere, tabulate}
 use Rattle.numbers_definitions.specs.Places.{address}
 use Rattle.numbers_definitions.specs.declared.Class.TheVariants.{Elf32, Elf64}
-use Rattle.order_format.specs.declared.Reading.TheVariants.{Malformed, WellFormed}
 use Rattle.order_format.specs.Orders.{Order, encode_entries, encode, entry_at, ascending, well_formed, reading, order_of}
 
 abbrev pub said : List ℕ
@@ -22,7 +22,7 @@ pub encode_bench : encode Elf32 meant ≡ said
 unfolding encode encode_entries bytes
 encode_bench = refl
 
-pub reading_bench : reading Elf32 said ≡ WellFormed (record { base = address 0x20000000; placements = 1; externals = 0 })
+pub reading_bench : reading Elf32 said ≡ Some (record { base = address 0x20000000; placements = 1; externals = 0 })
 unfolding reading well_formed ascending everywhere first entry_at le_at le
 reading_bench = refl
 
@@ -44,7 +44,7 @@ pub encode_bench64 : encode Elf64 meant64 ≡ said64
 unfolding encode encode_entries bytes
 encode_bench64 = refl
 
-pub reading_bench64 : reading Elf64 said64 ≡ WellFormed (record { base = address 0x1_20000000; placements = 1; externals = 0 })
+pub reading_bench64 : reading Elf64 said64 ≡ Some (record { base = address 0x1_20000000; placements = 1; externals = 0 })
 unfolding reading well_formed ascending everywhere first entry_at le_at le
 reading_bench64 = refl
 
@@ -53,6 +53,6 @@ unfolding order_of tabulate entry_at le_at le
 order_of_bench64 = refl
 
 -- neither is an order for the other class
-pub malformed_bench : (reading Elf64 said ≡ Malformed) × (reading Elf32 said64 ≡ Malformed)
+pub malformed_bench : (reading Elf64 said ≡ None) × (reading Elf32 said64 ≡ None)
 unfolding reading well_formed ascending everywhere first entry_at le_at le
 malformed_bench = (refl, refl)

@@ -1,4 +1,5 @@
 -- What is known of bytes that are an order.
+use Rattle.std.specs.Prelude.{None, Some}
 use mathlib.Core.Path.{◌≡◌, refl, sym, subst}
 use mathlib.Core.Bool.{Bool, true, false, cond, ◌&&◌}
 use mathlib.Core.List.{List}
@@ -12,7 +13,6 @@ use Rattle.numbers_definitions.specs.Places.{address}
 use Rattle.numbers_definitions.specs.declared.Class.{Class}
 use Rattle.numbers_definitions.proofs.Laws.Tests.{and_left, and_right}
 use Rattle.order_format.specs.declared.OrderHeader.{OrderHeader}
-use Rattle.order_format.specs.declared.Reading.TheVariants.{Malformed, WellFormed}
 use Rattle.order_format.specs.Orders.{entry_size, empty_size, placements_start, external_count_at, externals_at, max_placements, max_externals, base, placement_count, external_count, entry_at, ascending, well_formed, reading}
 
 -- the parts of a reading, by its counts
@@ -68,33 +68,33 @@ module _ (c : Class) (s : List ℕ) where
       let fields : ◌≡◌ {A = OrderHeader} (record { base = address h.base.0; placements = h.placements; externals = h.externals }) (order_header_of c s) = cc in
       fields
 
-  pub reading_sound : (h : OrderHeader) → reading c s ≡ WellFormed h → Sound c s h
+  pub reading_sound : (h : OrderHeader) → reading c s ≡ Some h → Sound c s h
   unfolding reading
   reading_sound h = go (well_formed c s) refl
     where
-      go : (b : Bool) → well_formed c s ≡ b → cond b (WellFormed (order_header_of c s)) Malformed ≡ WellFormed h → Sound c s h
+      go : (b : Bool) → well_formed c s ≡ b → cond b (Some (order_header_of c s)) None ≡ Some h → Sound c s h
       go true w e = let same : order_header_of c s ≡ h = cc in subst (Sound c s) same (well_formed_sound w)
       go false w e = let z : ◌≡◌ {A = ℕ} 0 1 = cc in absurd (omega arith)
 
-  pub sound_reading : (h : OrderHeader) → Sound c s h → reading c s ≡ WellFormed h
+  pub sound_reading : (h : OrderHeader) → Sound c s h → reading c s ≡ Some h
   unfolding reading
   sound_reading h k =
       let same : h ≡ order_header_of c s = sound_counts h k in
       rw (sound_well_formed (subst (Sound c s) same k), same)
 
   -- if the counts of the bytes are not sound, the bytes are malformed
-  pub unsound_reading : (Sound c s (order_header_of c s) → ⊥) → Malformed ≡ reading c s
+  pub unsound_reading : (Sound c s (order_header_of c s) → ⊥) → None ≡ reading c s
   unfolding reading
   unsound_reading unsound = go (well_formed c s) refl
     where
-      go : (b : Bool) → well_formed c s ≡ b → Malformed ≡ cond b (WellFormed (order_header_of c s)) Malformed
+      go : (b : Bool) → well_formed c s ≡ b → None ≡ cond b (Some (order_header_of c s)) None
       go true w = absurd (unsound (well_formed_sound w))
       go false w = refl
 
   -- the same for counts that were read
   pub unsound_read : (p e : ℕ) → p ≡ placement_count c s → e ≡ le_at 4 s (external_count_at c p)
       → (Sound c s (record { base = address (base c s); placements = p; externals = e }) → ⊥)
-      → Malformed ≡ reading c s
+      → None ≡ reading c s
   unsound_read p e ep ee unsound =
       let same : ◌≡◌ {A = OrderHeader} (record { base = address (base c s); placements = p; externals = e }) (order_header_of c s) = cc in
       unsound_reading (λ k. unsound (subst (Sound c s) (sym same) k))

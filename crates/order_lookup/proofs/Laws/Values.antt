@@ -1,4 +1,5 @@
 -- The value that entries give to a number.
+use Rattle.std.specs.Prelude.{None, Some}
 use mathlib.Core.Path.{◌≡◌, refl, sym, ap, ◌∙◌}
 use mathlib.Core.Bool.{Bool, true, false, cond}
 use mathlib.Core.List.{List}
@@ -12,7 +13,6 @@ use Rattle.numbers_definitions.specs.First.{first}
 use Rattle.numbers_definitions.specs.declared.Class.{Class}
 use Rattle.numbers_definitions.proofs.Laws.First.{first_is, first_below, first_at, first_le}
 use Rattle.order_format.specs.declared.Entry.{Entry}
-use Rattle.order_lookup.specs.declared.Value.TheVariants.{Given, NotGiven}
 use Rattle.order_format.specs.Orders.{entry_at, ascending, externals_start, external_count}
 use Rattle.order_lookup.specs.Values.{value_in, external_value}
 use Rattle.order_lookup.specs.Requires.{Reached}
@@ -20,7 +20,7 @@ use Rattle.order_format.proofs.Laws.Ascending.{ascending_lt, ascending_above}
 
 module _ (c : Class) (s : List ℕ) (at n k : ℕ) where
   -- a number that no entry has is given no value
-  pub value_in_none : ((j : ℕ) → j < n → (entry_at c s at j).index ≡ k → ⊥) → value_in c s at n k ≡ NotGiven
+  pub value_in_none : ((j : ℕ) → j < n → (entry_at c s at j).index ≡ k → ⊥) → value_in c s at n k ≡ None
   unfolding value_in
   value_in_none none =
       let end : first (λ j. eqb (entry_at c s at j).index k) n ≡ n =
@@ -29,7 +29,7 @@ module _ (c : Class) (s : List ℕ) (at n k : ℕ) where
 
   -- nor is a number that lies above those before place m and below those from m on
   pub value_in_between : (m : ℕ) → ((j : ℕ) → j < m → (entry_at c s at j).index < k) → ((j : ℕ) → m ≤ j → j < n → k < (entry_at c s at j).index)
-      → value_in c s at n k ≡ NotGiven
+      → value_in c s at n k ≡ None
   value_in_between m below above = value_in_none (λ j h e. go j h e (ltb j m) refl)
     where
       go : (j : ℕ) → j < n → (entry_at c s at j).index ≡ k → (b : Bool) → ltb j m ≡ b → ⊥
@@ -38,7 +38,7 @@ module _ (c : Class) (s : List ℕ) (at n k : ℕ) where
 
   -- if the entries ascend, the one that has the number gives it its value
   pub value_in_at : ascending (λ i. (entry_at c s at i).index) n ≡ true → (i : ℕ) → i < n → (entry_at c s at i).index ≡ k
-      → value_in c s at n k ≡ Given (entry_at c s at i).value
+      → value_in c s at n k ≡ Some (entry_at c s at i).value
   unfolding value_in
   value_in_at a i h e =
       let here : first (λ j. eqb (entry_at c s at j).index k) n ≡ i =
@@ -49,9 +49,9 @@ module _ (c : Class) (s : List ℕ) (at n k : ℕ) where
 
   -- the same for an entry that was read
   pub value_in_read : ascending (λ i. (entry_at c s at i).index) n ≡ true → (i : ℕ) (e : Entry) → e ≡ entry_at c s at i → e.index ≡ k → i < n
-      → Given e.value ≡ value_in c s at n k
+      → Some e.value ≡ value_in c s at n k
   value_in_read a i e here same h =
-      ap (λ (e : Entry). Given e.value) here
+      ap (λ (e : Entry). Some e.value) here
       ∙ sym (value_in_at a i h (sym (ap (λ (e : Entry). e.index) here) ∙ same))
 
 -- one more entry, which has another number, changes nothing
@@ -66,7 +66,7 @@ value_in_more c s at n k other = go (ltb f n) refl
     f = first p n
 
     go : (b : Bool) → ltb f n ≡ b
-        → cond (ltb (first p (n + 1)) (n + 1)) (Given (entry_at c s at (first p (n + 1))).value) NotGiven ≡ cond b (Given (entry_at c s at f).value) NotGiven
+        → cond (ltb (first p (n + 1)) (n + 1)) (Some (entry_at c s at (first p (n + 1))).value) None ≡ cond b (Some (entry_at c s at f).value) None
     go true e =
         let l : f < n = ltb-true f n e in
         let same : first p (n + 1) ≡ f = first_is p (n + 1) f (omega arith) (first_below p n) (λ h. first_at p n l) in
@@ -82,7 +82,7 @@ value_in_more c s at n k other = go (ltb f n) refl
 
 module _ (c : Class) (s : List ℕ) (from k : ℕ) (r : Reached c s from k) where
   -- behind the last external value
-  pub reached_end : external_count c s ≤ from → (NotGiven ≡ external_value c s k) × Reached c s from (k + 1)
+  pub reached_end : external_count c s ≤ from → (None ≡ external_value c s k) × Reached c s from (k + 1)
   unfolding external_value
   reached_end e = (
     sym (value_in_between c s (externals_start c s) (external_count c s) k from r.below (λ j h l. absurd (omega arith))),
@@ -94,7 +94,7 @@ module _ (c : Class) (s : List ℕ) (from k : ℕ) (r : Reached c s from k) wher
     index_is = ap (λ (e : Entry). e.index) read
 
     -- the external value there is of a higher symbol
-    pub reached_higher : (e.index ≡ k → ⊥) → (NotGiven ≡ external_value c s k) × Reached c s from (k + 1)
+    pub reached_higher : (e.index ≡ k → ⊥) → (None ≡ external_value c s k) × Reached c s from (k + 1)
     unfolding external_value
     reached_higher other =
         let higher : k < (entry_at c s (externals_start c s) from).index = omega (arith, index_is, r.above from (omega arith) there) in
@@ -104,7 +104,7 @@ module _ (c : Class) (s : List ℕ) (from k : ℕ) (r : Reached c s from k) wher
         )
 
     -- it is of this symbol
-    pub reached_here : e.index ≡ k → (Given e.value ≡ external_value c s k) × Reached c s (from + 1) (k + 1)
+    pub reached_here : e.index ≡ k → (Some e.value ≡ external_value c s k) × Reached c s (from + 1) (k + 1)
     unfolding external_value
     reached_here here = (
       value_in_read c s (externals_start c s) (external_count c s) k ascends from e read here there,

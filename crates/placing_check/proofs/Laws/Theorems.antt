@@ -1,4 +1,5 @@
 -- What follows if check 8 passes.
+use Rattle.std.specs.Prelude.{Ok}
 use mathlib.Core.Logic.{◌⊎◌, inl, inr}
 use mathlib.Core.Path.{◌≡◌, refl, sym, ap, ◌∙◌}
 use mathlib.Core.Bool.{Bool, true, false, not, cond, ◌&&◌}
@@ -12,7 +13,6 @@ use Rattle.numbers_definitions.proofs.Laws.Tests.{and_left, and_right, given, im
 use Rattle.numbers_definitions.proofs.Laws.First.{everywhere_at}
 use Rattle.elf_read.specs.Headers.{section_count}
 use Rattle.elf_read.specs.Sections.{NOBITS, section_at, allocated, loaded}
-use Rattle.placing_match.specs.declared.Fault.TheVariants.{Nowhere}
 use Rattle.placing_check.specs.Placing.{end_of, has_bytes, in_window, share, apart, aligned, ends_in_memory, misplaced, placing_check}
 use Rattle.placing_match.proofs.Laws.Theorems.{nowhere_holds}
 
@@ -44,7 +44,7 @@ one_before a b c d hp hq e = go (ltb a b) refl (ltb c d) refl (rw (hp, hq) at e)
         let one : ◌≡◌ {A = ℕ} 0 1 = ap (λ t. cond t 0 1) z in
         absurd (omega arith)
 
-module _ (object addresses : List ℕ) (base len : ℕ) (fine : placing_check object addresses base len ≡ Nowhere) where
+module _ (object addresses : List ℕ) (base len : ℕ) (fine : placing_check object addresses base len ≡ Ok tt) where
   -- an allocated section keeps every rule
   abbrev kept : ℕ → Bool
   kept i = aligned object addresses i && ends_in_memory object addresses i && in_window object addresses base len i && apart object addresses i

@@ -1,4 +1,5 @@
 -- Laws of check 6, by the lowest allocated section that is not placed and the first placement that names no allocated section.
+use Rattle.std.specs.Prelude.{Err, Ok}
 use mathlib.Core.Path.{◌≡◌, sym, ap, ◌∙◌}
 use mathlib.Core.Bool.{Bool, true, false, not, ◌&&◌}
 use mathlib.Core.List.{List}
@@ -16,7 +17,6 @@ use Rattle.elf_read.proofs.Laws.Sections.{not_there}
 use Rattle.order_format.specs.declared.Entry.{Entry}
 use Rattle.order_format.specs.Orders.{placements_start, placement, placement_count, entry_at, ascending}
 use Rattle.order_lookup.specs.Addresses.{placed_at}
-use Rattle.placing_match.specs.declared.Fault.TheVariants.{Nowhere, At}
 use Rattle.placing_match.specs.Placements.{differs, placement_check}
 use Rattle.order_lookup.specs.Values.{is_given}
 use Rattle.placing_match.proofs.Laws.Lowest.{lowest_at, lowest_nowhere, named_below, named_none, named_given}
@@ -36,16 +36,16 @@ module _ (object order : List ℕ) where
   neither k e m = rw (e, m)
 
   pub differ_extra : (k : ℕ) → k < 2 ^ 32 → ((j : ℕ) → j < k → extra object order j ≡ false) → ((j : ℕ) → j < k → missing object order j ≡ false)
-      → extra object order k ≡ true → placement_check object order ≡ At k
+      → extra object order k ≡ true → placement_check object order ≡ Err k
   unfolding placement_check differs
   differ_extra k h e m here = lowest_at (differs object order) (2 ^ 32) k h (λ j l. neither j (e j l) (m j l)) (rw here)
 
   pub differ_missing : (k : ℕ) → k < 2 ^ 32 → ((j : ℕ) → j < k → extra object order j ≡ false) → ((j : ℕ) → j < k → missing object order j ≡ false)
-      → missing object order k ≡ true → placement_check object order ≡ At k
+      → missing object order k ≡ true → placement_check object order ≡ Err k
   unfolding placement_check differs
   differ_missing k h e m here = lowest_at (differs object order) (2 ^ 32) k h (λ j l. neither j (e j l) (m j l)) (rw (here, or_true))
 
-  pub differ_nowhere : ((j : ℕ) → extra object order j ≡ false) → ((j : ℕ) → missing object order j ≡ false) → placement_check object order ≡ Nowhere
+  pub differ_nowhere : ((j : ℕ) → extra object order j ≡ false) → ((j : ℕ) → missing object order j ≡ false) → placement_check object order ≡ Ok tt
   unfolding placement_check
   differ_nowhere e m = lowest_nowhere (differs object order) (2 ^ 32) (λ j l. neither j (e j) (m j))
 
@@ -127,14 +127,14 @@ module _ (object order : List ℕ) (u x n p : ℕ) (f : Found object order u x n
   first_index e read = ap (λ (e : Entry). e.index) (read ∙ ap (placement (class_of object) order) f.first_one)
 
   -- section u is there, and lies below the number that placement x names
-  pub found_lower : (e : Entry) → e ≡ entry_at (class_of object) order (placements_start (class_of object)) x → x < p → (ltb u n && ltb u e.index) ≡ true → At u ≡ placement_check object order
+  pub found_lower : (e : Entry) → e ≡ entry_at (class_of object) order (placements_start (class_of object)) x → x < p → (ltb u n && ltb u e.index) ≡ true → Err u ≡ placement_check object order
   found_lower e read h flag =
       let index = first_index e read in
       let there : first_extra object order < placement_count (class_of object) order = omega (arith, f.first_one, f.placements) in
       let low = ltb-true u n (and_left (ltb u n) (ltb u e.index) flag) in
       let lower = ltb-true u e.index (and_right (ltb u n) (ltb u e.index) flag) in
       let in_table : unplaced object order < section_count object = omega (arith, f.lowest, f.sections) in
-      ap At f.lowest
+      ap Err f.lowest
       ∙ sym
       (differ_missing object order (unplaced object order) (omega (arith, f.sections, f.few))
       (λ j l. extra_below object order ascends there j (omega (arith, f.lowest)))
@@ -142,28 +142,28 @@ module _ (object order : List ℕ) (u x n p : ℕ) (f : Found object order u x n
 
   -- section u is not there, or does not lie below that number
   pub found_extra : (e : Entry) → e ≡ entry_at (class_of object) order (placements_start (class_of object)) x → x < p → e.index < 2 ^ 32 → (ltb u n && ltb u e.index) ≡ false
-      → At e.index ≡ placement_check object order
+      → Err e.index ≡ placement_check object order
   found_extra e read h small flag =
       let index = first_index e read in
       let there : first_extra object order < placement_count (class_of object) order = omega (arith, f.first_one, f.placements) in
       let none : (ltb (unplaced object order) (section_count object) && ltb (unplaced object order) (placement (class_of object) order (first_extra object order)).index) ≡ false =
       rw (← f.lowest, ← f.sections, ← index) flag in
-      ap At index
+      ap Err index
       ∙ sym
       (differ_extra object order (placement (class_of object) order (first_extra object order)).index (omega arith) (extra_below object order ascends there)
       (not_missing_below object order (placement (class_of object) order (first_extra object order)).index none) (extra_at object order ascends there))
 
   -- every placement names an allocated section
-  pub found_missing : p ≤ x → ltb u n ≡ true → At u ≡ placement_check object order
+  pub found_missing : p ≤ x → ltb u n ≡ true → Err u ≡ placement_check object order
   found_missing h flag =
       let none : placement_count (class_of object) order ≤ first_extra object order = omega (arith, f.first_one, f.placements) in
       let there : unplaced object order < section_count object = omega (arith, ltb-true u n flag, f.lowest, f.sections) in
-      ap At f.lowest
+      ap Err f.lowest
       ∙ sym
       (differ_missing object order (unplaced object order) (omega (arith, f.sections, f.few)) (λ j l. extra_none object order ascends none j)
       (missing_below object order) (missing_at object order there))
 
-  pub found_nothing : p ≤ x → ltb u n ≡ false → Nowhere ≡ placement_check object order
+  pub found_nothing : p ≤ x → ltb u n ≡ false → Ok tt ≡ placement_check object order
   found_nothing h flag =
       let none : placement_count (class_of object) order ≤ first_extra object order = omega (arith, f.first_one, f.placements) in
       let out : section_count object ≤ unplaced object order = omega (arith, ltb-false u n flag, f.lowest, f.sections) in

@@ -1,4 +1,5 @@
 -- Laws of the lowest fault.
+use Rattle.std.specs.Prelude.{Err, None, Ok, Some}
 use mathlib.Core.Path.{◌≡◌, refl, sym, ap, ◌∙◌}
 use mathlib.Core.Bool.{Bool, true, false, cond, ◌&&◌}
 use mathlib.Core.List.{List}
@@ -10,20 +11,18 @@ use borrow.Author.Tests.{lt-ltb, le-ltb, ltb-true, eqb-true, eqb-false}
 use Rattle.numbers_definitions.specs.declared.Class.{Class}
 use Rattle.numbers_definitions.specs.First.{first}
 use Rattle.numbers_definitions.proofs.Laws.First.{first_is, first_at, first_below}
-use Rattle.order_lookup.specs.declared.Value.TheVariants.{Given, NotGiven}
 use Rattle.order_format.specs.Orders.{entry_at, ascending}
 use Rattle.order_lookup.specs.Values.{is_given, value_in}
 use Rattle.order_format.proofs.Laws.Ascending.{ascending_lt}
-use Rattle.placing_match.specs.declared.Fault.TheVariants.{Nowhere, At}
 use Rattle.placing_match.specs.Placements.{lowest}
 
-pub lowest_at : (p : ℕ → Bool) (n k : ℕ) → k < n → ((j : ℕ) → j < k → p j ≡ false) → p k ≡ true → lowest p n ≡ At k
+pub lowest_at : (p : ℕ → Bool) (n k : ℕ) → k < n → ((j : ℕ) → j < k → p j ≡ false) → p k ≡ true → lowest p n ≡ Err k
 unfolding lowest
 lowest_at p n k h below here =
     let is : first p n ≡ k = first_is p n k (omega arith) below (λ _. here) in
     rw (is, lt-ltb k n h)
 
-pub lowest_nowhere : (p : ℕ → Bool) (n : ℕ) → ((j : ℕ) → j < n → p j ≡ false) → lowest p n ≡ Nowhere
+pub lowest_nowhere : (p : ℕ → Bool) (n : ℕ) → ((j : ℕ) → j < n → p j ≡ false) → lowest p n ≡ Ok tt
 unfolding lowest
 lowest_nowhere p n none =
     let is : first p n ≡ n = first_is p n n (omega arith) none (λ h. absurd (omega arith)) in
@@ -37,7 +36,7 @@ module _ (c : Class) (s : List ℕ) (at n : ℕ) where
   unfolding value_in
   given_is k = go (ltb (first (λ j. eqb (entry_at c s at j).index k) n) n)
     where
-      go : (b : Bool) → is_given (cond b (Given (entry_at c s at (first (λ j. eqb (entry_at c s at j).index k) n)).value) NotGiven) ≡ b
+      go : (b : Bool) → is_given (cond b (Some (entry_at c s at (first (λ j. eqb (entry_at c s at j).index k) n)).value) None) ≡ b
       go true = refl
       go false = refl
 
@@ -91,9 +90,9 @@ module _ (c : Class) (s : List ℕ) (at n : ℕ) where
             ap q (sym t.2) ∙ none t.0 t.1
 
     pub lowest_named : (j : ℕ) → j < n → (entry_at c s at j).index < 2 ^ 32 → ((i : ℕ) → i < j → q (entry_at c s at i).index ≡ false)
-        → q (entry_at c s at j).index ≡ true → lowest (λ k. is_given (value_in c s at n k) && q k) (2 ^ 32) ≡ At (entry_at c s at j).index
+        → q (entry_at c s at j).index ≡ true → lowest (λ k. is_given (value_in c s at n k) && q k) (2 ^ 32) ≡ Err (entry_at c s at j).index
     lowest_named j h b below here =
         lowest_at (λ k. is_given (value_in c s at n k) && q k) (2 ^ 32) (entry_at c s at j).index b (named_below j h below) (rw (named_given j h, here))
 
-    pub lowest_unnamed : ((i : ℕ) → i < n → q (entry_at c s at i).index ≡ false) → lowest (λ k. is_given (value_in c s at n k) && q k) (2 ^ 32) ≡ Nowhere
+    pub lowest_unnamed : ((i : ℕ) → i < n → q (entry_at c s at i).index ≡ false) → lowest (λ k. is_given (value_in c s at n k) && q k) (2 ^ 32) ≡ Ok tt
     lowest_unnamed none = lowest_nowhere (λ k. is_given (value_in c s at n k) && q k) (2 ^ 32) (λ k h. named_none none k)

@@ -1,4 +1,5 @@
 -- `placing_match::check_externals` meets its contract.
+use Rattle.std.specs.Prelude.{Err}
 use mathlib.Core.Path.{◌≡◌, sym, ap, subst, ◌∙◌}
 use mathlib.Core.List.{List}
 use Prim.Native.Nat.{ℕ, ◌^◌, ◌<◌}
@@ -14,7 +15,6 @@ use Rattle.order_format.specs.Orders.{externals_at, entry_at, ascending}
 use Rattle.order_lookup.specs.Values.{is_given, value_in, external_value}
 use Rattle.order_format.proofs.Laws.Sizes.{entry_inside}
 use Rattle.order_format.proofs.Laws.Sound.{Sound, reading_sound, sound_counts}
-use Rattle.placing_match.specs.declared.Fault.TheVariants.{At}
 use Rattle.placing_match.specs.Placements.{lowest}
 use Rattle.placing_match.specs.Externals.{is_undefined, external_check}
 use Rattle.placing_match.proofs.Laws.Lowest.{lowest_named, lowest_unnamed}
@@ -87,7 +87,7 @@ pub returns-then-not-is_undefined : goal.returns-then-not-is_undefined
 returns-then-not-is_undefined c =
     let index : c.read_entry-e.result.index ≡ (entry (goal.at.returns-then-not-is_undefined c).After-read_entry-e).index = ap (λ (c : Entry). c.index) c.read_entry-e.ensures in
     let small : (entry (goal.at.returns-then-not-is_undefined c).After-read_entry-e).index < 2 ^ 32 = omega (arith, index, c.read_entry-e.type_inv) in
-    ap At index
+    ap Err index
     ∙ sym (lowest_named (class (goal.at.returns-then-not-is_undefined c).After-externals_start-start) (order (goal.at.returns-then-not-is_undefined c).After-externals_start-start) (start (goal.at.returns-then-not-is_undefined c).After-externals_start-start) (number (goal.at.returns-then-not-is_undefined c).After-externals_start-start) (up (goal.at.returns-then-not-is_undefined c).After-externals_start-start) (λ x. not (is_undefined (object (goal.at.returns-then-not-is_undefined c).After-externals_start-start) x)) c.loop-j.j (omega arith) small c.loop-j.invariant.1
     (ap not (sym (tested (goal.at.returns-then-not-is_undefined c).After-is_undefined)) ∙ (ap not c.if-not-is_undefined.true)))
     ∙ same (goal.at.returns-then-not-is_undefined c).After-externals_start-start

@@ -1,4 +1,5 @@
 -- If check 8 passes, the span lies inside the image.
+use Rattle.std.specs.Prelude.{Ok}
 use mathlib.Core.Path.{◌≡◌, refl, sym, subst}
 use Prim.Native.Nat.{ℕ, zero, suc, ◌+◌, ◌-◌, ◌≤◌, ◌<◌, min, max}
 use native.Mathlib.Omega.{arith}
@@ -8,7 +9,6 @@ use mathlib.Core.List.{List}
 use Rattle.numbers_definitions.proofs.Laws.Tests.{never}
 use Rattle.elf_read.specs.Headers.{section_count}
 use Rattle.elf_read.specs.Sections.{section_at}
-use Rattle.placing_match.specs.declared.Fault.TheVariants.{Nowhere}
 use Rattle.placing_check.specs.Placing.{end_of, has_bytes, placing_check}
 use Rattle.placing_check.proofs.Laws.Theorems.{inside_image}
 use Rattle.placing_span.specs.Spans.{highest, lowest_byte, span_of}
@@ -57,7 +57,7 @@ highest_end object addresses base (suc n) i h e = go (dec_lt i n) (λ l. highest
         subst (λ k. has_bytes (section_at object k) ≡ true → end_of object addresses k - base ≤ cond (has_bytes (section_at object n)) (max (end_of object addresses n - base) (highest object addresses base n)) (highest object addresses base n)) (sym same)
         (raised_end (has_bytes (section_at object n)) (end_of object addresses n - base) (highest object addresses base n)) e
 
-module _ (object addresses : List ℕ) (base len : ℕ) (fine : placing_check object addresses base len ≡ Nowhere) where
+module _ (object addresses : List ℕ) (base len : ℕ) (fine : placing_check object addresses base len ≡ Ok tt) where
   -- where check 8 passes, the highest laid byte ends inside the image, and with it the span
   pub highest_inside : highest object addresses base (section_count object) ≤ len
   unfolding end_of

@@ -1,4 +1,5 @@
 -- The span of an install is the span of the pieces that it lays.
+use Rattle.std.specs.Prelude.{Ok}
 use mathlib.Core.Path.{◌≡◌, refl, sym, ap, ◌∙◌}
 use Prim.Native.Nat.{ℕ, zero, suc, ◌+◌, ◌-◌, ◌≤◌, ◌<◌, min, max}
 use native.Mathlib.Omega.{arith}
@@ -11,7 +12,6 @@ use Rattle.numbers_definitions.proofs.Laws.Tests.{and_right}
 use Rattle.elf_read.specs.Headers.{section_count}
 use Rattle.elf_read.specs.Sections.{section_at, loaded}
 use Rattle.plan_pieces.specs.Plans.{Piece, piece, end, lowest, span_of as spanOfPieces}
-use Rattle.placing_match.specs.declared.Fault.TheVariants.{Nowhere}
 use Rattle.placing_check.specs.Placing.{end_of, has_bytes, placing_check}
 use Rattle.placing_check.proofs.Laws.Theorems.{inside_image}
 use Rattle.placing_span.specs.Spans.{highest, lowest_byte, span_of}
@@ -84,6 +84,6 @@ module _ (f : ℕ → List ℕ) (object addresses : List ℕ) (base : ℕ) where
       rw (highest_end (section_count object) sized from, lowest_byte_lem (end (pieces f object addresses base (section_count object))) (section_count object) sized)
 
 -- where check 8 passes, laid sections start at the base or above
-pub from_base : (object addresses : List ℕ) (base len : ℕ) → placing_check object addresses base len ≡ Nowhere
+pub from_base : (object addresses : List ℕ) (base len : ℕ) → placing_check object addresses base len ≡ Ok tt
     → FromBase object addresses base (section_count object)
 from_base object addresses base len fine i h e = (inside_image object addresses base len fine i h e).0

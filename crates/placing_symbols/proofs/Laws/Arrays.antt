@@ -1,4 +1,5 @@
 -- The arrays of S, as they fill.
+use Rattle.std.specs.Prelude.{Err, Ok}
 use mathlib.Core.Path.{◌≡◌, refl, sym, ap, ◌∙◌}
 use mathlib.Core.Bool.{Bool, true, false, cond}
 use mathlib.Core.List.{List}
@@ -13,19 +14,17 @@ use Rattle.numbers_definitions.proofs.Laws.Lists.{zeros_length, zeros_at}
 use Rattle.elf_read.specs.Entries.{symbol_count}
 use Rattle.placing_symbols.specs.declared.Reason.{Reason}
 use Rattle.placing_symbols.specs.declared.Reason.TheVariants.{PastTable, NotAllocated, Common, Reserved, Undefined, WrongType, OutsideTarget}
-use Rattle.placing_symbols.specs.declared.SymbolValue.{SymbolValue}
-use Rattle.placing_symbols.specs.declared.SymbolValue.TheVariants.{Resolved, Unresolved}
-use Rattle.placing_symbols.specs.Reasons.{reason_number}
+use Rattle.placing_symbols.specs.Reasons.{reason_number, SymbolValue}
 use Rattle.placing_symbols.specs.Values.{symbol_value}
 use Rattle.placing_symbols.specs.Arrays.{no_values, RESOLVED, state_of, number_of, decoded, listed, Long, Blank, Valued}
 use Rattle.placing_symbols.proofs.Laws.Values.{value_past}
 
 -- what is stored for S is read as S
 decoded_stored : (v : SymbolValue) → decoded (state_of v) (number_of v) ≡ v
-decoded_stored (Resolved a) = refl
-decoded_stored (Unresolved reason) = go reason
+decoded_stored (Ok a) = refl
+decoded_stored (Err reason) = go reason
   where
-    go : (reason : Reason) → decoded (reason_number reason) 0 ≡ Unresolved reason
+    go : (reason : Reason) → decoded (reason_number reason) 0 ≡ Err reason
     go PastTable = refl
     go NotAllocated = refl
     go Common = refl
@@ -109,7 +108,7 @@ pub listed_is : {object order addresses values states : List ℕ} → Valued obj
 unfolding listed
 listed_is {object} {order} {addresses} {values} {states} v k = go (ltb k (length states)) refl
   where
-    go : (b : Bool) → ltb k (length states) ≡ b → cond b (decoded (get_or states k 0) (get_or values k 0)) (Unresolved PastTable) ≡ symbol_value object order addresses k
+    go : (b : Bool) → ltb k (length states) ≡ b → cond b (decoded (get_or states k 0) (get_or values k 0)) (Err PastTable) ≡ symbol_value object order addresses k
     go true e = v.is k (ltb-true k (length states) e)
     go false e =
         let past : length states ≤ k = ltb-false k (length states) e in

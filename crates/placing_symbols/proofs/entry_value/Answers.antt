@@ -1,4 +1,5 @@
 -- `placing_symbols::entry_value` meets its contract.
+use Rattle.std.specs.Prelude.{Ok}
 use mathlib.Core.Path.{◌≡◌, sym, ap, ◌∙◌}
 use native.Mathlib.Omega.{arith}
 use Rattle.numbers_definitions.specs.Classes.{bits}
@@ -7,7 +8,6 @@ use Rattle.numbers_definitions.specs.Whole.{plus}
 use Rattle.elf_read.specs.Headers.{address_width}
 use Rattle.elf_read.proofs.Laws.Headers.{header_there}
 use Rattle.placing_symbols.specs.declared.Reason.TheVariants.{WrongType}
-use Rattle.placing_symbols.specs.declared.SymbolValue.TheVariants.{Resolved}
 use Rattle.placing_symbols.specs.Reasons.{because}
 use Rattle.placing_symbols.specs.Values.{is_wrong_type}
 use Rattle.placing_symbols.proofs.Laws.Values.{entry_unplaced, entry_placed, entry_absolute, entry_common, entry_reserved}
@@ -31,7 +31,7 @@ returns-then-section-lt-SHN_LORESERVE c =
     let is : c.sum-sum.result ≡ plus (address_width a.object.now) a.start a.symbol.value.0 =
     c.sum-sum.ensures ∙ ap (λ k. plus (bits k) a.start a.symbol.value.0) c.class_of.ensures in
     c.value_by_type.ensures
-    ∙ ap (λ n. because WrongType (is_wrong_type a.symbol) (Resolved (address n))) is
+    ∙ ap (λ n. because WrongType (is_wrong_type a.symbol) (Ok (address n))) is
     ∙ sym (entry_placed a.object.now a.given a.start a.symbol (omega arith) (omega arith) (sym c.is_allocated_section.ensures ∙ c.if-not-is_allocated_section.false))
 
 pub returns-then-section : goal.returns-then-section

@@ -1,4 +1,5 @@
 -- `placing_symbols::symbol_values` meets its contract.
+use Rattle.std.specs.Prelude.{Some}
 use mathlib.Core.Path.{◌≡◌, refl, sym, ap, ◌∙◌}
 use Prim.Native.Nat.{◌≤◌, ◌<◌}
 use native.Mathlib.Omega.{arith}
@@ -8,7 +9,6 @@ use Rattle.elf_read.specs.Entries.{symbol_at, symbol_count}
 use Rattle.elf_check.specs.Rules.{max_symbols}
 use Rattle.elf_check.proofs.Laws.Bounds.{symbol_inside, symbols_few}
 use Rattle.elf_read.proofs.Laws.Headers.{header_there}
-use Rattle.order_format.specs.declared.Reading.TheVariants.{WellFormed}
 use Rattle.order_format.specs.Orders.{reading}
 use Rattle.order_lookup.specs.Values.{external_value}
 use Rattle.placing_symbols.specs.Values.{of_entry, symbol_value}
@@ -19,7 +19,7 @@ use Rattle.placing_symbols.proofs.symbol_values.Goals as goal
 use Rattle.placing_symbols.proofs.symbol_values.Goals.{then-section-lt-MAX_SECTIONS, else-section-lt-MAX_SECTIONS, After-class_of-class, In-loop-k, Joined-section-lt-MAX_SECTIONS}
 
 -- the order was read by the class that the code has
-reads : (c : After-class_of-class) → reading c.class_of-class.result c.args.order.now ≡ WellFormed c.args.counts
+reads : (c : After-class_of-class) → reading c.class_of-class.result c.args.order.now ≡ Some c.args.counts
 reads c = ap (λ k. reading k c.args.order.now) c.class_of-class.ensures ∙ c.requires.1
 
 -- the symbol is one of the table, and both arrays have room for it

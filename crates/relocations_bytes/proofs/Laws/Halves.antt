@@ -1,4 +1,5 @@
 -- The high half and the low half of one address or distance add up to it.
+use Rattle.std.specs.Prelude.{None, Option, Some}
 use mathlib.Core.Path.{◌≡◌, refl, sym, ap, ◌∙◌, subst}
 use mathlib.Core.Bool.{true, not, ◌||◌}
 use mathlib.Core.List.{List}
@@ -27,8 +28,6 @@ use Rattle.instructions_riscv.specs.Halves.{low}
 use Rattle.instructions_riscv.proofs.Laws.Halves.{halves_whole}
 use Rattle.elf_read.specs.Headers.{address_width}
 use Rattle.relocations_rela.specs.declared.sites.Site.{Site}
-use Rattle.relocations_values.specs.declared.pairs.Pair.{Pair}
-use Rattle.relocations_values.specs.declared.pairs.Pair.TheVariants.{At, NotOne}
 use Rattle.relocations_rela.specs.Sites.{count, entry, decision_at, offset, P, found}
 use Rattle.relocations_values.specs.Values.{target_at}
 use Rattle.relocations_decisions.specs.Decisions.{takes_pair, needs_pair, gives_pair}
@@ -71,7 +70,7 @@ module _ (object order addresses : List ℕ) (x : Site) (final : List ℕ) (back
   hi20 j value e = pair_is _ _ (entry object x j).kind (and_left (gives_pair (decision_at object x j)) (eqb (offset object x j) value.0) e)
 
   -- a PCREL_LO12 has one
-  has_pair : Checked object order addresses x → (j : ℕ) → j < count object x → needs_pair (decision_at object x j) ≡ true → (i : ℕ) × (pair_of object x (symbol object x j).value ≡ At i)
+  has_pair : Checked object order addresses x → (j : ℕ) → j < count object x → needs_pair (decision_at object x j) ≡ true → (i : ℕ) × (pair_of object x (symbol object x j).value ≡ Some i)
   unfolding pair_well
   has_pair k j h n = go (pair_of object x (symbol object x j).value) refl (one n (kept_rules object order addresses x j (k.kept j h)).pair)
     where
@@ -79,10 +78,10 @@ module _ (object order addresses : List ℕ) (x : Site) (final : List ℕ) (back
           → is_one (pair_of object x (symbol object x j).value) ≡ true
       one n e = rw n at e
 
-      go : (p : Pair) → pair_of object x (symbol object x j).value ≡ p → is_one (pair_of object x (symbol object x j).value) ≡ true
-          → (i : ℕ) × (pair_of object x (symbol object x j).value ≡ At i)
-      go (At i) e o = (i, e)
-      go NotOne e o = never (sym (ap is_one e) ∙ o)
+      go : (p : Option ℕ) → pair_of object x (symbol object x j).value ≡ p → is_one (pair_of object x (symbol object x j).value) ≡ true
+          → (i : ℕ) × (pair_of object x (symbol object x j).value ≡ Some i)
+      go (Some i) e o = (i, e)
+      go None e o = never (sym (ap is_one e) ∙ o)
 
   distance_lt : (i : ℕ) → distance_at object order addresses x i < 2 ^ w
   unfolding distance_at minus

@@ -1,4 +1,5 @@
 -- What the overlap rule gives: two non-markers of a site lie apart, or they stack.
+use Rattle.std.specs.Prelude.{Some}
 use mathlib.Core.Logic.{◌⊎◌, inl, inr, ⊎_elim}
 use mathlib.Core.Path.{◌≡◌, refl, sym, ap, ◌∙◌}
 use mathlib.Core.Bool.{Bool, true, false, not, cond, ◌&&◌, ◌||◌}
@@ -21,7 +22,6 @@ use Rattle.relocations_types.specs.declared.Decision.{Decision}
 use Rattle.relocations_types.specs.declared.Decision.TheVariants.{Marker, Align, Store, Refused}
 use Rattle.relocations_types.specs.Types.{decision}
 use Rattle.relocations_rela.specs.declared.sites.Site.{Site}
-use Rattle.relocations_rela.specs.declared.shape.Previous.TheVariants.{Entry}
 use Rattle.relocations_rela.specs.Sites.{offset, decision_at}
 use Rattle.relocations_decisions.specs.Decisions.{is_store, touched, stacks, stack_bits, stack_width}
 use Rattle.relocations_rela.specs.Shape.{end, never_falls, previous, shares_place, clears, no_overlap, shape_well}
@@ -133,7 +133,7 @@ module _ (object : List ℕ) (x : Site) (n : ℕ) (kept : (j : ℕ) → j < n �
   -- the previous non-marker is at or after every earlier one
   record Last (i j : ℕ) : Type 0 where
     at : ℕ
-    is : previous object x j ≡ Entry at
+    is : previous object x j ≡ Some at
     low : i ≤ at
     high : at < j
     store : is_store (decision_at object x at) ≡ true
@@ -156,7 +156,7 @@ module _ (object : List ℕ) (x : Site) (n : ℕ) (kept : (j : ℕ) → j < n �
   Apart i j = (end object x i ≤ offset object x j) ⊎ Shares object x i j
 
   -- compared with the previous non-marker
-  direct : (j k : ℕ) → j < n → is_store (decision_at object x j) ≡ true → previous object x j ≡ Entry k → Apart k j
+  direct : (j k : ℕ) → j < n → is_store (decision_at object x j) ≡ true → previous object x j ≡ Some k → Apart k j
   unfolding no_overlap
   direct j k l s e =
       let clear : not (is_store (decision_at object x j)) || clears object x j (previous object x j) ≡ true = shape_clear object x j (kept j l) in

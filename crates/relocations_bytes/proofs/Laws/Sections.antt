@@ -1,4 +1,5 @@
 -- Laws of sections after their relocations.
+use Rattle.placing_symbols.specs.Reasons.{SymbolValue}
 use mathlib.Core.Path.{◌≡◌, refl, sym, ap, ◌∙◌, subst}
 use mathlib.Core.Bool.{Bool, true, false, ◌&&◌}
 use mathlib.Core.List.{List}
@@ -29,7 +30,6 @@ use Rattle.relocations_types.specs.declared.Calculation.{Calculation}
 use Rattle.relocations_types.specs.declared.Rule.{Rule}
 use Rattle.relocations_types.specs.declared.Decision.{Decision}
 use Rattle.relocations_types.specs.declared.Decision.TheVariants.{Marker, Align, Store, Refused}
-use Rattle.placing_symbols.specs.declared.SymbolValue.{SymbolValue}
 use Rattle.placing_symbols.specs.Values.{symbol_value}
 use Rattle.relocations_rela.specs.declared.sites.Site.{Site}
 use Rattle.relocations_rules.specs.declared.RelocationCheck.TheVariants.{Passed}

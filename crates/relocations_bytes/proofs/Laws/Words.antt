@@ -1,4 +1,5 @@
 -- The bytes that a relocation finds are those that the previous non-marker left, if they share their place, and otherwise the object's.
+use Rattle.std.specs.Prelude.{None, Option, Some}
 use mathlib.Core.Logic.{inr, ⊎_elim}
 use mathlib.Core.Path.{◌≡◌, refl, sym, ap, ◌∙◌}
 use mathlib.Core.Bool.{Bool, true, false, not, cond, ◌&&◌, ◌||◌}
@@ -22,8 +23,6 @@ use Rattle.relocations_decisions.specs.Decisions.{is_store, touched, stack_width
 use Rattle.relocations_decisions.proofs.Laws.Decisions.{store_width, store_bytes, width_some}
 use Rattle.relocations_rela.specs.declared.sites.Site.{Site}
 use Rattle.relocations_rela.specs.declared.shape.Trail.{Trail}
-use Rattle.relocations_rela.specs.declared.shape.Previous.{Previous}
-use Rattle.relocations_rela.specs.declared.shape.Previous.TheVariants.{Nothing, Entry}
 use Rattle.relocations_rela.specs.Sites.{offset, decision_at, P, found}
 use Rattle.relocations_rela.specs.Shape.{end, previous, clears, no_overlap, shares_place, shape_well}
 use Rattle.relocations_rela.specs.Trails.{trail_at, shares_width, shares_by}
@@ -67,9 +66,9 @@ module _ (object order addresses : List ℕ) (x : Site) where
 
   -- ---- the previous non-marker
 
-  abbrev Last : Previous → ℕ → Type 0
-  Last Nothing j = (now j ≡ found object x) × ((i : ℕ) → i < j → is_store (decision_at object x i) ≡ false)
-  Last (Entry k) j =
+  abbrev Last : Option ℕ → ℕ → Type 0
+  Last None j = (now j ≡ found object x) × ((i : ℕ) → i < j → is_store (decision_at object x i) ≡ false)
+  Last (Some k) j =
       (k < j) × (is_store (decision_at object x k) ≡ true) × (last_word object order addresses x j ≡ word_at object order addresses x k) × (now j ≡ now (suc k))
       × ((i : ℕ) → k < i → i < j → is_store (decision_at object x i) ≡ false)
 
@@ -87,10 +86,10 @@ module _ (object order addresses : List ℕ) (x : Site) where
               let same : j ≡ i = omega arith in
               mathlib.Core.Path.subst P same here
 
-      go : (b : Bool) → is_store (decision_at object x j) ≡ b → (p : Previous) → Last p j → Last (cond b (Entry j) p) (suc j)
+      go : (b : Bool) → is_store (decision_at object x j) ≡ b → (p : Option ℕ) → Last p j → Last (cond b (Some j) p) (suc j)
       go true e p l = (omega arith, e, rw e, refl, λ i h m. absurd (omega arith))
-      go false e Nothing l = (after_other j e ∙ l.0, below (λ i. is_store (decision_at object x i) ≡ false) e l.1)
-      go false e (Entry k) l =
+      go false e None l = (after_other j e ∙ l.0, below (λ i. is_store (decision_at object x i) ≡ false) e l.1)
+      go false e (Some k) l =
           (omega (arith, l.0), l.1, rw e l.2, after_other j e ∙ l.3, λ i h m. below (λ i. k < i → is_store (decision_at object x i) ≡ false) (λ z. e) (λ i m h. l.4 i h m) i m h)
 
 -- ---- the bytes that relocation j finds
@@ -131,7 +130,7 @@ module _ (object order addresses : List ℕ) (x : Site) (sound : SoundSite objec
       }
 
   -- what the previous non-marker left, if they share their place
-  together : (k : ℕ) → Says object x (Entry k) t → Last object order addresses x (Entry k) j → Shared → le_at n (s j) at ≡ last_word object order addresses x j
+  together : (k : ℕ) → Says object x (Some k) t → Last object order addresses x (Some k) j → Shared → le_at n (s j) at ≡ last_word object order addresses x j
   unfolding word_at
   together k says last share = go (decision_at object x k) refl last.1
     where
@@ -157,7 +156,7 @@ module _ (object order addresses : List ℕ) (x : Site) (sound : SoundSite objec
       go Refused p u = never u
 
   -- all that was stored before ends at or before the place, if it is not shared
-  away : (k : ℕ) → Last object order addresses x (Entry k) j → end object x k ≤ at → (i : ℕ) → i < j → is_store (decision_at object x i) ≡ true → end object x i ≤ at
+  away : (k : ℕ) → Last object order addresses x (Some k) j → end object x k ≤ at → (i : ℕ) → i < j → is_store (decision_at object x i) ≡ true → end object x i ≤ at
   away k last ends i h u = ⊎_elim (λ a. a) (λ q. absurd (not_shared q (dec_lt k i))) (apart object x (suc j) kept (suc j) i j (omega arith) h (omega arith) u store)
     where
       size : (d : Decision) → decision_at object x k ≡ d → is_store d ≡ true → 0 < touched (decision_at object x k)
@@ -185,7 +184,7 @@ module _ (object order addresses : List ℕ) (x : Site) (sound : SoundSite objec
       go false u = ap (λ l. le_at n l at) (after_other object order addresses x m u)
 
   -- the previous non-marker ends at or before the place, if it is not shared
-  cleared : (k : ℕ) → previous object x j ≡ Entry k → Says object x (Entry k) t → shares_by t (decision_at object x j) at ≡ false → end object x k ≤ at
+  cleared : (k : ℕ) → previous object x j ≡ Some k → Says object x (Some k) t → shares_by t (decision_at object x j) at ≡ false → end object x k ≤ at
   unfolding no_overlap shares_width shares_place
   cleared k p says none =
       let clear : not (is_store (decision_at object x j)) || clears object x j (previous object x j) ≡ true = shape_clear object x j (kept j (omega arith)) in
@@ -196,9 +195,9 @@ module _ (object order addresses : List ℕ) (x : Site) (sound : SoundSite objec
   pub present : le_at n (s j) at ≡ cond (shares_by t (decision_at object x j) at) (last_word object order addresses x j) (le_at n (found object x) at)
   present = go (previous object x j) refl (trail_says object x j) (last object order addresses x j) (shares_by t (decision_at object x j) at) refl
     where
-      go : (p : Previous) → previous object x j ≡ p → Says object x p t → Last object order addresses x p j → (b : Bool) → shares_by t (decision_at object x j) at ≡ b
+      go : (p : Option ℕ) → previous object x j ≡ p → Says object x p t → Last object order addresses x p j → (b : Bool) → shares_by t (decision_at object x j) at ≡ b
           → le_at n (s j) at ≡ cond b (last_word object order addresses x j) (le_at n (found object x) at)
-      go Nothing p says last true q = absurd (omega (arith, says.1, (shared q).some))
-      go Nothing p says last false q = ap (λ l. le_at n l at) last.0
-      go (Entry k) p says last true q = together k says last (shared q)
-      go (Entry k) p says last false q = unchanged (away k last (cleared k p says q)) j (omega arith)
+      go None p says last true q = absurd (omega (arith, says.1, (shared q).some))
+      go None p says last false q = ap (λ l. le_at n l at) last.0
+      go (Some k) p says last true q = together k says last (shared q)
+      go (Some k) p says last false q = unchanged (away k last (cleared k p says q)) j (omega arith)

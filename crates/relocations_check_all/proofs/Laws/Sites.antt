@@ -1,4 +1,5 @@
 -- Laws of the search over the relocations of a site.
+use Rattle.placing_symbols.specs.Reasons.{SymbolValue}
 use mathlib.Core.Path.{◌≡◌, refl, sym, ap, ◌∙◌, subst}
 use mathlib.Core.Bool.{true, cond}
 use mathlib.Core.List.{List}
@@ -11,7 +12,6 @@ use Rattle.numbers_definitions.specs.Bytes.{le_at}
 use Rattle.elf_read.specs.declared.Relocation.{Relocation}
 use Rattle.elf_check.specs.Requires.{SoundObject}
 use Rattle.placing_symbols.specs.declared.Reason.{Reason}
-use Rattle.placing_symbols.specs.declared.SymbolValue.{SymbolValue}
 use Rattle.placing_symbols.specs.Values.{symbol_value}
 use Rattle.placing_symbols.specs.Arrays.{listed, Valued}
 use Rattle.placing_symbols.proofs.Laws.Arrays.{listed_is}

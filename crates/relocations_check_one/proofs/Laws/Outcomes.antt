@@ -1,4 +1,6 @@
 -- Checks 9 to 14 of a relocation, by what its type asks for.
+use Rattle.placing_symbols.specs.Reasons.{SymbolValue}
+use Rattle.std.specs.Prelude.{Option}
 use mathlib.Core.Path.{◌≡◌, refl, sym, ap, ◌∙◌, subst}
 use mathlib.Core.Bool.{Bool, true, false, not, cond, ◌&&◌}
 use mathlib.Core.List.{List}
@@ -23,7 +25,6 @@ use Rattle.elf_read.specs.Sections.{section_at, symbol_table}
 use Rattle.elf_read.specs.Entries.{symbol_at}
 use Rattle.elf_read.specs.Headers.{class_of, has_rvc, address_width}
 use Rattle.elf_read.proofs.Laws.Headers.{address_narrow}
-use Rattle.placing_symbols.specs.declared.SymbolValue.{SymbolValue}
 use Rattle.placing_symbols.specs.Values.{symbol_value}
 use Rattle.relocations_types.specs.declared.Decision.TheVariants.{Marker, Align, Store, Refused}
 use Rattle.relocations_types.specs.declared.Decision.{Decision}
@@ -37,7 +38,6 @@ use Rattle.relocations_rela.specs.Trails.{shares_by, shape_by}
 use Rattle.relocations_rela.proofs.Laws.Shape.{shape_inside}
 use Rattle.relocations_rela.proofs.Laws.Trails.{shape_by_lem}
 use Rattle.relocations_values.specs.Values.{S, T}
-use Rattle.relocations_values.specs.declared.pairs.Pair.{Pair}
 use Rattle.relocations_values.specs.Pairs.{pair_of}
 use Rattle.relocations_rules.specs.Rules.{is_resolved, in_target, symbol, symbol_well, why, form_well, is_one, pair_well, reaches_well, boundary_well}
 use Rattle.relocations_rules.specs.declared.Finding.TheVariants.{Kept, BadSymbol, BadForm, NoPair, OutOfReach, OffBoundary}
@@ -292,7 +292,7 @@ module _ (v : ℕ → SymbolValue) (object : List ℕ) (x : Site) (j : ℕ) (rul
             distance_is = λ q _. never q;
           }
 
-      pub target_partnered : in_target object x j ≡ true → (pair : Pair) (n d : ℕ) → pair ≡ pair_of object x (symbol object x j).value → not (eqb n 10) ≡ true → not (eqb n 12) ≡ is_one pair
+      pub target_partnered : in_target object x j ≡ true → (pair : Option ℕ) (n d : ℕ) → pair ≡ pair_of object x (symbol object x j).value → not (eqb n 10) ≡ true → not (eqb n 12) ≡ is_one pair
           → d ≡ distance_of_by v object x pair
           → Partnered v object x j rule.calculation n d
       target_partnered t pair n d pe ten one de =

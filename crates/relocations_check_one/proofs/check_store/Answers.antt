@@ -8,18 +8,18 @@ use Rattle.relocations_check_one.proofs.check_store.Goals as goal
 pub check_resolved-requires : goal.check_resolved-requires
 check_resolved-requires c =
     let f = c.requires in
-    (f.0, f.1, f.2, sym c.in-Resolved.is ∙ c.value_at-value.ensures)
+    (f.0, f.1, f.2, sym c.in-Ok.is ∙ c.value_at-value.ensures)
 
-pub returns-in-Resolved : goal.returns-in-Resolved
-returns-in-Resolved c = c.check_resolved.ensures
+pub returns-in-Ok : goal.returns-in-Ok
+returns-in-Ok c = c.check_resolved.ensures
 
-pub returns-in-Unresolved : goal.returns-in-Unresolved
-returns-in-Unresolved c =
+pub returns-in-Err : goal.returns-in-Err
+returns-in-Err c =
     let a = c.args in
     let e = c.refused.ensures in (
       rw (e.0, e.1)
           (unresolved_comes (listed a.values.now a.states.now) a.object.now a.site a.j a.rule a.here c.requires.1 _
-          (ap is_resolved (sym c.value_at-value.ensures ∙ c.in-Unresolved.is))),
+          (ap is_resolved (sym c.value_at-value.ensures ∙ c.in-Err.is))),
       rw e.2 c.requires.2,
       refl,
     )

@@ -8,16 +8,16 @@ use Rattle.relocations_check_one.proofs.high_half.Goals as goal
 pub distance_at-requires : goal.distance_at-requires
 distance_at-requires c =
     let f = c.requires in
-    (record { site = f.0; there = f.2 _ c.in-At.is }, f.1)
+    (record { site = f.0; there = f.2 _ c.in-Some.is }, f.1)
 
-pub returns-in-At : goal.returns-in-At
-returns-in-At c =
+pub returns-in-Some : goal.returns-in-Some
+returns-in-Some c =
     let a = c.args in
-    let is = c.in-At.is in
+    let is = c.in-Some.is in
     (refl, sym (ap is_one is), c.distance_at.ensures ∙ sym (ap (distance_of_by (listed a.values.now a.states.now) a.object.now a.site) is), refl)
 
-pub returns-in-NotOne : goal.returns-in-NotOne
-returns-in-NotOne c =
+pub returns-in-None : goal.returns-in-None
+returns-in-None c =
     let a = c.args in
-    let is = c.in-NotOne.is in
+    let is = c.in-None.is in
     (refl, sym (ap is_one is), sym (ap (distance_of_by (listed a.values.now a.states.now) a.object.now a.site) is), refl)

@@ -1,4 +1,5 @@
 -- Laws of check 9.
+use Rattle.std.specs.Prelude.{Some}
 use mathlib.Core.Path.{◌≡◌, refl, sym, ap, ◌∙◌}
 use mathlib.Core.Bool.{Bool, true, false, not, cond}
 use mathlib.Core.List.{List}
@@ -9,7 +10,6 @@ use borrow.Author.Tests.{leb-true, not-true}
 use Rattle.numbers_definitions.proofs.Laws.Tests.{and_left, and_right}
 use Rattle.relocations_types.specs.declared.Decision.TheVariants.{Align}
 use Rattle.relocations_rela.specs.declared.sites.Site.{Site}
-use Rattle.relocations_rela.specs.declared.shape.Previous.TheVariants.{Entry}
 use Rattle.relocations_rela.specs.Sites.{entry, offset, decision_at, A}
 use Rattle.relocations_decisions.specs.Decisions.{is_store, is_refused}
 use Rattle.relocations_rela.specs.Shape.{end, never_falls, stays_inside, previous, no_overlap, addend_well, shape_well}
@@ -17,14 +17,14 @@ use Rattle.relocations_rela.proofs.Laws.Addends.{padded_addend}
 
 module _ (object : List ℕ) (x : Site) where
   -- the previous non-marker has a lower number
-  pub previous_below : (j k : ℕ) → previous object x j ≡ Entry k → k < j
+  pub previous_below : (j k : ℕ) → previous object x j ≡ Some k → k < j
   unfolding previous
   previous_below zero k e =
       let z : ◌≡◌ {A = ℕ} 0 1 = cc in
       absurd (omega arith)
   previous_below (suc j) k e = go (is_store (decision_at object x j)) e (previous_below j k)
     where
-      go : (b : Bool) → cond b (Entry j) (previous object x j) ≡ Entry k → (previous object x j ≡ Entry k → k < j) → k < suc j
+      go : (b : Bool) → cond b (Some j) (previous object x j) ≡ Some k → (previous object x j ≡ Some k → k < j) → k < suc j
       go true q rest =
           let same : j ≡ k = cc in
           omega arith

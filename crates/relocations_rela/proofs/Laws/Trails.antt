@@ -1,4 +1,5 @@
 -- Check 9 by a trail is check 9.
+use Rattle.std.specs.Prelude.{None, Option, Some}
 use mathlib.Core.Path.{◌≡◌, refl, ap, ◌∙◌}
 use mathlib.Core.Bool.{Bool, true, false, not, cond, ◌&&◌, ◌||◌}
 use mathlib.Core.List.{List}
@@ -14,8 +15,6 @@ use Rattle.relocations_types.specs.declared.Decision.TheVariants.{Align}
 use Rattle.relocations_decisions.specs.Decisions.{is_store, touched, stack_width}
 use Rattle.relocations_rela.specs.declared.sites.Site.{Site}
 use Rattle.relocations_rela.specs.declared.shape.Trail.{Trail}
-use Rattle.relocations_rela.specs.declared.shape.Previous.{Previous}
-use Rattle.relocations_rela.specs.declared.shape.Previous.TheVariants.{Nothing, Entry}
 use Rattle.relocations_rela.specs.Sites.{entry, offset, decision_at}
 use Rattle.relocations_rela.specs.Shape.{end, never_falls, stays_inside, previous, shares_place, clears, no_overlap, addend_well, shape_well}
 use Rattle.relocations_rela.proofs.Laws.Addends.{padded_addend}
@@ -23,17 +22,17 @@ use Rattle.relocations_rela.specs.Trails.{advanced, trail_at, shares_width, shar
 
 module _ (object : List ℕ) (x : Site) where
   -- what a trail says about the previous non-marker
-  abbrev pub Says : Previous → Trail → Type 0
-  Says Nothing t = (t.end ≡ 0) × (t.width ≡ 0)
-  Says (Entry k) t = (t.start ≡ offset object x k) × (t.end ≡ end object x k) × (t.width ≡ stack_width (decision_at object x k))
+  abbrev pub Says : Option ℕ → Trail → Type 0
+  Says None t = (t.end ≡ 0) × (t.width ≡ 0)
+  Says (Some k) t = (t.start ≡ offset object x k) × (t.end ≡ end object x k) × (t.width ≡ stack_width (decision_at object x k))
 
   pub trail_says : (j : ℕ) → Says (previous object x j) (trail_at object x j)
   unfolding previous trail_at advanced
   trail_says zero = (refl, refl)
   trail_says (suc j) = go (is_store (decision_at object x j)) (previous object x j) (trail_says j)
     where
-      go : (b : Bool) (p : Previous) → Says p (trail_at object x j)
-          → Says (cond b (Entry j) p)
+      go : (b : Bool) (p : Option ℕ) → Says p (trail_at object x j)
+          → Says (cond b (Some j) p)
           (record {
             offset = (entry object x j).offset.0;
             start = cond b (entry object x j).offset.0 (trail_at object x j).start;
@@ -41,8 +40,8 @@ module _ (object : List ℕ) (x : Site) where
             width = cond b (stack_width (decision_at object x j)) (trail_at object x j).width;
           })
       go true p s = (refl, refl, refl)
-      go false Nothing s = s
-      go false (Entry k) s = s
+      go false None s = s
+      go false (Some k) s = s
 
   rises : (j : ℕ) → leb (trail_at object x j).offset (offset object x j) ≡ never_falls object x j
   unfolding trail_at advanced never_falls
@@ -60,9 +59,9 @@ module _ (object : List ℕ) (x : Site) where
       t : Trail
       t = trail_at object x j
 
-      go : (p : Previous) → Says p t → (leb t.end (offset object x j) || shares_by t (decision_at object x j) (offset object x j)) ≡ clears object x j p
-      go Nothing s = rw (s.0, le-leb 0 (offset object x j) (omega arith))
-      go (Entry k) s = rw (s.0, s.1, s.2)
+      go : (p : Option ℕ) → Says p t → (leb t.end (offset object x j) || shares_by t (decision_at object x j) (offset object x j)) ≡ clears object x j p
+      go None s = rw (s.0, le-leb 0 (offset object x j) (omega arith))
+      go (Some k) s = rw (s.0, s.1, s.2)
 
   pub shape_by_lem : (j : ℕ) → shape_by (trail_at object x j) (decision_at object x j) (entry object x j) x.target.size ≡ shape_well object x j
   unfolding shape_by shape_well stays_inside no_overlap

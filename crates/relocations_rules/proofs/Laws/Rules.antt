@@ -13,9 +13,8 @@ use Rattle.numbers_definitions.proofs.Laws.Tests.{and_left, never}
 use Rattle.elf_read.specs.declared.Relocation.{Relocation}
 use Rattle.elf_read.specs.Headers.{class_of, has_rvc, address_width}
 use Rattle.elf_read.specs.Entries.{symbol_count}
-use Rattle.placing_symbols.specs.declared.SymbolValue.{SymbolValue}
 use Rattle.placing_symbols.specs.declared.Reason.TheVariants.{PastTable}
-use Rattle.placing_symbols.specs.Reasons.{because}
+use Rattle.placing_symbols.specs.Reasons.{because, SymbolValue}
 use Rattle.placing_symbols.specs.Values.{symbol_value}
 use Rattle.relocations_types.specs.declared.Rule.{Rule}
 use Rattle.relocations_types.specs.declared.Decision.{Decision}

@@ -1,4 +1,5 @@
 -- Laws of the search over all relocations.
+use Rattle.placing_symbols.specs.Reasons.{SymbolValue}
 use mathlib.Core.Path.{◌≡◌, refl, sym, ap, ◌∙◌}
 use mathlib.Core.Bool.{Bool, true, false, cond}
 use mathlib.Core.List.{List}
@@ -16,7 +17,6 @@ use Rattle.elf_read.specs.Headers.{class_of, has_rvc, section_count}
 use Rattle.elf_read.specs.Sections.{relocations_in, relocations_below}
 use Rattle.elf_read.specs.Entries.{relocation_count, location_of}
 use Rattle.elf_read.proofs.Laws.Entries.{located}
-use Rattle.placing_symbols.specs.declared.SymbolValue.{SymbolValue}
 use Rattle.relocations_types.specs.declared.Decision.{Decision}
 use Rattle.relocations_rela.specs.declared.sites.Site.{Site}
 use Rattle.relocations_rules.specs.declared.Finding.{Finding}

@@ -1,4 +1,5 @@
 -- Check 8 ensures what the rules of relocations need from a placement.
+use Rattle.std.specs.Prelude.{Ok}
 use mathlib.Core.Path.{◌≡◌}
 use mathlib.Core.Bool.{Bool, true, ◌&&◌}
 use mathlib.Core.List.{List}
@@ -7,12 +8,11 @@ use borrow.Author.Tests.{leb-true}
 use Rattle.numbers_definitions.proofs.Laws.Tests.{and_left, and_right, implies}
 use Rattle.elf_read.specs.Headers.{section_count}
 use Rattle.elf_read.specs.Sections.{section_at, allocated}
-use Rattle.placing_match.specs.declared.Fault.TheVariants.{Nowhere}
 use Rattle.placing_check.specs.Placing.{end_of, aligned, ends_in_memory, in_window, apart, misplaced, placing_check}
 use Rattle.placing_match.proofs.Laws.Theorems.{nowhere_holds}
 use Rattle.relocations_rela.specs.Requires.{Placed}
 
-pub placed : (object addresses : List ℕ) (base len : ℕ) → placing_check object addresses base len ≡ Nowhere → Placed object addresses
+pub placed : (object addresses : List ℕ) (base len : ℕ) → placing_check object addresses base len ≡ Ok tt → Placed object addresses
 unfolding placing_check misplaced ends_in_memory end_of
 placed object addresses base len e =
     record {

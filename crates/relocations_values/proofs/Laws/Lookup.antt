@@ -1,4 +1,5 @@
 -- A pair that is looked up in the list of the high halves.
+use Rattle.std.specs.Prelude.{None, Some}
 use mathlib.Core.Path.{◌≡◌, refl, sym, ap, ◌∙◌}
 use mathlib.Core.Bool.{Bool, true, false, ◌&&◌}
 use mathlib.Core.List.{List}
@@ -13,7 +14,6 @@ use Rattle.numbers_definitions.proofs.Laws.Tests.{and_left, and_right, both}
 use Rattle.relocations_rela.specs.declared.sites.Site.{Site}
 use Rattle.relocations_rela.specs.Sites.{count, offset}
 use Rattle.relocations_rela.specs.Requires.{SoundSite}
-use Rattle.relocations_values.specs.declared.pairs.Pair.TheVariants.{At, NotOne}
 use Rattle.relocations_values.specs.Pairs.{is_pair, pair_of}
 use Rattle.relocations_values.specs.Highs.{is_high, Listed}
 use Rattle.relocations_values.specs.Sorting.{keys, Stands, Ordered, NotBelow}
@@ -68,7 +68,7 @@ module _ (object : List ℕ) (x : Site) (l : List ℕ) (m : ℕ) (list : Listed 
           let differs : keys object x l j ≡ value.0 → ⊥ = eqb-false _ _ other in
           differs (omega (arith, parted.from j from (omega arith), list.ordered j i a b))
 
-      pub lookup_none : (j : ℕ) → j ≡ r → (ltb j m && eqb (keys object x l j) value.0) ≡ false → pair_of object x value ≡ NotOne
+      pub lookup_none : (j : ℕ) → j ≡ r → (ltb j m && eqb (keys object x l j) value.0) ≡ false → pair_of object x value ≡ None
       lookup_none j one e =
           pair_missing object x value (λ k h. no_pair k h (λ i b held same. here i b same (dec_lt i r)))
         where
@@ -77,7 +77,7 @@ module _ (object : List ℕ) (x : Site) (l : List ℕ) (m : ℕ) (list : Listed 
           here i b same (no less) = past j (omega arith) e i (omega arith) b same
 
       pub lookup_one : (j : ℕ) → j ≡ r + 1 → r < m → keys object x l r ≡ value.0 → (ltb j m && eqb (keys object x l j) value.0) ≡ false
-          → pair_of object x value ≡ At (get_or l r 0)
+          → pair_of object x value ≡ Some (get_or l r 0)
       lookup_one j one there held e =
           pair_alone object x value (get_or l r 0) (list.each r there).0 (is_pair_lem r there held)
           (λ k h differs. no_pair k h (λ i b at same. here k differs i b at same (dec_lt i r) (dec_lt r i)))
@@ -89,7 +89,7 @@ module _ (object : List ℕ) (x : Site) (l : List ℕ) (m : ℕ) (list : Listed 
               let one : i ≡ r = omega arith in
               differs (sym at ∙ ap (λ i. get_or l i 0) one)
 
-      pub lookup_two : r + 1 < m → keys object x l r ≡ value.0 → keys object x l (r + 1) ≡ value.0 → pair_of object x value ≡ NotOne
+      pub lookup_two : r + 1 < m → keys object x l r ≡ value.0 → keys object x l (r + 1) ≡ value.0 → pair_of object x value ≡ None
       lookup_two there first second = go (dec_lt a b) (dec_lt b a)
         where
           a : ℕ
@@ -98,7 +98,7 @@ module _ (object : List ℕ) (x : Site) (l : List ℕ) (m : ℕ) (list : Listed 
           b : ℕ
           b = get_or l (r + 1) 0
 
-          go : Dec (a < b) → Dec (b < a) → pair_of object x value ≡ NotOne
+          go : Dec (a < b) → Dec (b < a) → pair_of object x value ≡ None
           go (yes h) k = pair_twice object x value a b h (list.each (r + 1) there).0 (is_pair_lem r (omega arith) first) (is_pair_lem (r + 1) there second)
           go (no h) (yes k) = pair_twice object x value b a k (list.each r (omega arith)).0 (is_pair_lem (r + 1) there second) (is_pair_lem r (omega arith) first)
           go (no h) (no k) = absurd (list.once r (r + 1) (omega arith) there (omega arith))

@@ -1,4 +1,5 @@
 -- Laws of the search for the paired high half.
+use Rattle.std.specs.Prelude.{None, Some}
 use mathlib.Core.Path.{◌≡◌, refl, sym, ap, ◌∙◌}
 use mathlib.Core.Bool.{Bool, true, false, cond}
 use mathlib.Core.List.{List}
@@ -13,7 +14,6 @@ use Rattle.numbers_definitions.specs.declared.SectionOffset.{SectionOffset}
 use Rattle.numbers_definitions.proofs.Laws.First.{first_is, first_at, first_below}
 use Rattle.numbers_definitions.proofs.Laws.Sums.{sum_mono}
 use Rattle.relocations_rela.specs.declared.sites.Site.{Site}
-use Rattle.relocations_values.specs.declared.pairs.Pair.TheVariants.{At, NotOne}
 use Rattle.relocations_rela.specs.Sites.{count}
 use Rattle.relocations_values.specs.Pairs.{is_pair, how_many, pair_of}
 
@@ -57,7 +57,7 @@ module _ (p : ℕ → Bool) where
 module _ (object : List ℕ) (x : Site) (value : SectionOffset) where
   -- one relocation is a pair, and no other
   pub pair_alone : (at : ℕ) → at < count object x → is_pair object x value at ≡ true → ((i : ℕ) → i < count object x → (i ≡ at → ⊥) → is_pair object x value i ≡ false)
-      → pair_of object x value ≡ At at
+      → pair_of object x value ≡ Some at
   unfolding pair_of
   pair_alone at l here alone =
       let one : how_many (is_pair object x value) (count object x) ≡ 1 = one_holds _ (count object x) at l here alone in
@@ -65,11 +65,11 @@ module _ (object : List ℕ) (x : Site) (value : SectionOffset) where
       first_is _ (count object x) at (omega arith) (λ k m. alone k (omega arith) (λ z. omega arith)) (λ _. here) in
       rw (one, is)
 
-  pub pair_missing : ((i : ℕ) → i < count object x → is_pair object x value i ≡ false) → pair_of object x value ≡ NotOne
+  pub pair_missing : ((i : ℕ) → i < count object x → is_pair object x value i ≡ false) → pair_of object x value ≡ None
   unfolding pair_of
   pair_missing h = rw (none_holds (is_pair object x value) (count object x) h)
 
-  pub pair_twice : (a b : ℕ) → a < b → b < count object x → is_pair object x value a ≡ true → is_pair object x value b ≡ true → pair_of object x value ≡ NotOne
+  pub pair_twice : (a b : ℕ) → a < b → b < count object x → is_pair object x value a ≡ true → is_pair object x value b ≡ true → pair_of object x value ≡ None
   unfolding pair_of
   pair_twice a b l m e f =
       let many : eqb (how_many (is_pair object x value) (count object x)) 1 ≡ false =
@@ -77,7 +77,7 @@ module _ (object : List ℕ) (x : Site) (value : SectionOffset) where
       rw many
 
 -- a pair that was found is one of the relocations, and a PCREL_HI20 at the offset
-pub pair_there : (object : List ℕ) (x : Site) (value : SectionOffset) (k : ℕ) → pair_of object x value ≡ At k → (k < count object x) × (is_pair object x value k ≡ true)
+pub pair_there : (object : List ℕ) (x : Site) (value : SectionOffset) (k : ℕ) → pair_of object x value ≡ Some k → (k < count object x) × (is_pair object x value k ≡ true)
 unfolding pair_of
 pair_there object x value k e = go (eqb (how_many p (count object x)) 1) refl e
   where
@@ -90,7 +90,7 @@ pair_there object x value k e = go (eqb (how_many p (count object x)) 1) refl e
         let none : how_many p (count object x) ≡ 0 = none_holds p (count object x) (λ i m. first_below p (count object x) i (omega arith)) in
         absurd (omega arith)
 
-    go : (b : Bool) → eqb (how_many p (count object x)) 1 ≡ b → cond b (At (first p (count object x))) NotOne ≡ At k → (k < count object x) × (p k ≡ true)
+    go : (b : Bool) → eqb (how_many p (count object x)) 1 ≡ b → cond b (Some (first p (count object x))) None ≡ Some k → (k < count object x) × (p k ≡ true)
     go true q r =
         let same : first p (count object x) ≡ k = cc in
         let there : first p (count object x) < count object x = some (eqb-true (how_many p (count object x)) 1 q) (dec_lt (first p (count object x)) (count object x)) in

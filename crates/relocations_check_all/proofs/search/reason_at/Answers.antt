@@ -13,8 +13,8 @@ looked_up : (c : After-value_at) → let a = c.args in
 looked_up c =
     c.value_at.ensures ∙ ap (λ (r : Relocation). listed c.args.values.now c.args.states.now r.symbol) c.read_relocation-here.ensures
 
-pub returns-in-Unresolved : goal.returns-in-Unresolved
-returns-in-Unresolved c = sym (ap why (sym (looked_up (goal.at.returns-in-Unresolved c).After-value_at) ∙ c.in-Unresolved.is))
+pub returns-in-Err : goal.returns-in-Err
+returns-in-Err c = sym (ap why (sym (looked_up (goal.at.returns-in-Err c).After-value_at) ∙ c.in-Err.is))
 
-pub returns-in-Resolved : goal.returns-in-Resolved
-returns-in-Resolved c = sym (ap why (sym (looked_up (goal.at.returns-in-Resolved c).After-value_at) ∙ c.in-Resolved.is))
+pub returns-in-Ok : goal.returns-in-Ok
+returns-in-Ok c = sym (ap why (sym (looked_up (goal.at.returns-in-Ok c).After-value_at) ∙ c.in-Ok.is))

@@ -1,9 +1,9 @@
 -- `relocations_values::pairs::pair_at` meets its contract.
+use Rattle.std.specs.Prelude.{Some}
 use mathlib.Core.Path.{◌≡◌, sym, ap, ◌∙◌}
 use mathlib.Core.Bool.{false}
 use Prim.Native.Nat.{◌+◌}
 use native.Mathlib.Omega.{arith}
-use Rattle.relocations_values.specs.declared.pairs.Pair.TheVariants.{At}
 use Rattle.relocations_values.proofs.Laws.Lookup.{is_there, lookup_none, lookup_one, lookup_two}
 use Rattle.relocations_values.proofs.pairs.pair_at.Goals as goal
 use Rattle.relocations_values.proofs.pairs.pair_at.Goals.{Left-search, else-search-test, then-search-test+then-n-eq2}
@@ -32,7 +32,7 @@ pub returns-then-n-eq1 : goal.returns-then-n-eq1
 returns-then-n-eq1 c =
     let m = met (goal.at.returns-then-n-eq1 c).Left-search c.if-n-eq1.true in
     let held = c.search.invariant.1 (omega (arith, m.0)) in
-    ap At c.number_at.ensures
+    ap Some c.number_at.ensures
     ∙ sym (lookup_one _ _ _ _ c.requires.1 _ _ c.first_not_below-first.ensures _ (omega (arith, m.0)) held.0 held.1 (sym c.is_at.ensures ∙ m.1))
 
 pub returns : goal.returns

@@ -20,7 +20,7 @@ pub placements-requires : goal.placements-requires
 unfolding window_allowed length_allowed
 placements-requires g c =
     let allowed : window_allowed (bits c.class_of.result) c.args.counts.base.0 c.args.len ≡ true = sym c.window_allowed.ensures ∙ c.if-not-window_allowed.false in (
-      sound_object _ c.requires.0 (sym c.check_sections.ensures ∙ c.in-Sound.is),
+      sound_object _ c.requires.0 (sym c.check_sections.ensures ∙ c.in-Ok.is),
       c.requires.1,
       leb-true _ _ (and_left (length_allowed c.args.len) _ allowed),
     )

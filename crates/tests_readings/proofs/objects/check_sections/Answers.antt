@@ -9,4 +9,4 @@ check_sections-requires g c = header_long _ c.requires
 
 pub passed-requires : goal.passed-requires
 passed-requires g c =
-    sound_object _ c.requires (sym c.check_sections.ensures ∙ c.in-Sound.is)
+    sound_object _ c.requires (sym c.check_sections.ensures ∙ c.in-Ok.is)

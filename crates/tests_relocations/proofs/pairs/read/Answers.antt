@@ -10,4 +10,4 @@ class_of-requires g c = header_there _ (header_long _ c.requires)
 
 pub judged-requires : goal.judged-requires
 judged-requires g c =
-    (c.requires, ap (λ k. reading k c.args.order.now) (sym c.class_of.ensures) ∙ sym c.read_order.ensures ∙ c.in-WellFormed.is)
+    (c.requires, ap (λ k. reading k c.args.order.now) (sym c.class_of.ensures) ∙ sym c.read_order.ensures ∙ c.in-Some.is)
