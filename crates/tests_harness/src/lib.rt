@@ -6,7 +6,16 @@
 #![tactic(auto)]
 
 use std::io;
-use std::io::{ErrorKind, Read, Write};
+use std::io::{BufReader, BufWriter, ErrorKind, Printer, Read, Write};
+
+// Where a program writes its lines.
+pub type Lines<'a> = BufWriter<Printer<'a, HostRuntime>>;
+
+// Where the order of a pair is in the space.
+const ORDER: usize = 1_048_640;
+
+// The space that an object and an order take: as many bytes as the longest object has come before the order.
+pub const PAIR: usize = 1_151_040;
 
 #[derive(Clone, Copy)]
 pub struct Command {
@@ -14,6 +23,43 @@ pub struct Command {
     pub a: u32,
     pub b: u32,
     pub c: u32,
+}
+
+// Carries out the commands of standard input, over a space of `size` bytes. `ask` answers those that do not store.
+pub fn run<F>(rt: HostRuntime, size: usize, mut ask: F) -> io::Result<()>
+where
+    F: FnMut(&mut Lines<'_>, &[u8], Command) -> io::Result<()>,
+    requires { F.IsAlwaysCallable ask }
+{
+    let alloc = rt.alloc();
+    let mut input = BufReader::new(alloc, rt.reader())?;
+    let mut out = BufWriter::new(alloc, io::writer(&rt))?;
+    let mut space = vec![in alloc; 0u8; size]?;
+    let first = next(&mut input)?;
+    for _ in 0..first.a {
+        let command = next(&mut input)?;
+        if command.letter == b's' {
+            store(
+                &mut input,
+                &mut space,
+                command.a as usize,
+                command.b as usize,
+            )?;
+        } else {
+            ask(&mut out, &space, command)?;
+        }
+    }
+    out.flush()
+}
+
+// The object and the order of a command, or nothing if the space does not have them: the first a bytes are the object,
+// and b bytes from `ORDER` on are the order.
+pub fn pair(space: &[u8], command: Command) -> Option<(&[u8], &[u8])> {
+    let (objects, orders) = space.split_at_checked(ORDER)?;
+    Some((
+        objects.get(..command.a as usize)?,
+        orders.get(..command.b as usize)?,
+    ))
 }
 
 // The next command, or zeros if the input has ended.
@@ -43,13 +89,10 @@ pub fn read_full(input: &mut impl Read, buf: &mut [u8]) -> io::Result<()> {
 
 // Stores the bytes that follow. A command that would write outside the space does nothing.
 pub fn store(input: &mut impl Read, space: &mut [u8], at: usize, count: usize) -> io::Result<()> {
-    if space.len() < at {
-        return Ok(());
+    match space.get_mut(at..at.saturating_add(count)) {
+        Some(part) => read_full(input, part),
+        None => Ok(()),
     }
-    if space.len() - at < count {
-        return Ok(());
-    }
-    read_full(input, &mut space[at..at + count])
 }
 
 // The number and the place of an answer, in decimal.
