@@ -17,7 +17,7 @@ ghost use Rattle.calls_demands.specs.Ours.{our_install, our_rollback};
 use calls_judge::{Answer, is_done, judge_relocations, judge_sections};
 use elf_check::MAX_RELOCATIONS;
 use elf_read::MAX_SECTIONS;
-use journal_undo::RolledBack;
+use journal_undo::RollbackRefusal;
 use order_format::OrderHeader;
 use order_lookup::Addresses;
 
@@ -217,9 +217,9 @@ pub fn rollback(image: &mut [u8], journal: &mut [u8]) -> Answer
         ≡ our_rollback (files image.old journal.old) }
 {
     match journal_undo::rollback(image, journal) {
-        RolledBack::Done => Answer::Done,
-        RolledBack::JournalUnsound => Answer::JournalUnsound,
-        RolledBack::ImageTooLong => Answer::WindowBroken,
-        RolledBack::NothingStands => Answer::NothingStands,
+        Ok(()) => Answer::Done,
+        Err(RollbackRefusal::JournalUnsound) => Answer::JournalUnsound,
+        Err(RollbackRefusal::ImageTooLong) => Answer::WindowBroken,
+        Err(RollbackRefusal::NothingStands) => Answer::NothingStands,
     }
 }

@@ -12,25 +12,20 @@ ghost use Rattle.journal_undo.specs.Answers.{answer_of};
 use journal_format::{COUNT_AT, HELD_AT, NUMBER_SIZE, OLD_AT, entry_at};
 use plan_pieces::Span;
 
-// What a rollback answers.
+// Why a rollback is refused.
 #[derive(Clone, Copy)]
-pub enum RolledBack {
-    Done,
+pub enum RollbackRefusal {
     JournalUnsound,
     ImageTooLong,
     NothingStands,
 }
 
-// Writes n zero bytes from `at` on, the lowest place first.
+// Writes n zero bytes from `at` on.
 fn clear(dst: &mut [u8], at: usize, n: usize)
     requires { at + n ≤ length dst.old }
     ensures { dst.new ≡ sets dst.old at (replicate n 0) }
 {
-    let mut i: usize = 0;
-    while i < n {
-        dst[at + i] = 0;
-        i += 1;
-    }
+    dst[at..at + n].fill(0);
 }
 
 // Sets entry i.
@@ -85,20 +80,20 @@ fn undo(image: &mut [u8], journal: &mut [u8])
     clear(journal, OLD_AT + k as usize, span.size as usize);
 }
 
-// Undoes the newest standing install (document 01: a taking-back).
-pub fn rollback(image: &mut [u8], journal: &mut [u8]) -> RolledBack
+// Undoes the newest standing install.
+pub fn rollback(image: &mut [u8], journal: &mut [u8]) -> Result<(), RollbackRefusal>
     ensures { record { answer = answer_of result; after = record { image = image.new; journal = journal.new } }
         ≡ «rolled-back» (record { image = image.old; journal = journal.old }) }
 {
     if !journal_format::is_sound(journal, image.len()) {
-        return RolledBack::JournalUnsound;
+        return Err(RollbackRefusal::JournalUnsound);
     }
     if !order_format::length_allowed(image.len()) {
-        return RolledBack::ImageTooLong;
+        return Err(RollbackRefusal::ImageTooLong);
     }
     if numbers_bytes::read32(journal, COUNT_AT) == 0 {
-        return RolledBack::NothingStands;
+        return Err(RollbackRefusal::NothingStands);
     }
     undo(image, journal);
-    RolledBack::Done
+    Ok(())
 }

@@ -9,7 +9,7 @@
 
 ghost use Rattle.std.specs.Prelude.{◌<◌, ◌^◌};
 
-use journal_undo::RolledBack;
+use journal_undo::RollbackRefusal;
 use plan_pieces::Span;
 use std::io;
 use std::io::{BufReader, BufWriter, Read, Write};
@@ -83,19 +83,18 @@ fn answer(
     book: &mut [u8],
     span: Span,
 ) -> io::Result<()> {
-    if kind == 1 {
-        let number = saved(image, book, span);
-        line(out, number, checksum(image), checksum(book))
+    let number = if kind == 1 {
+        saved(image, book, span)
     } else {
-        let number = rolled_back(image, book);
-        line(out, number, checksum(image), checksum(book))
-    }
+        rolled_back(image, book)
+    };
+    line(out, number, checksum(image), checksum(book))
 }
 
 // The first bytes from standard input, the others by their places.
 fn fill(input: &mut impl Read, s: &mut [u8], given: usize) -> io::Result<()> {
-    for i in 0..s.len() {
-        s[i] = (i % 251) as u8;
+    for (i, b) in s.iter_mut().enumerate() {
+        *b = (i % 251) as u8;
     }
     if given <= s.len() {
         tests_harness::read_full(input, &mut s[..given])?;
@@ -106,10 +105,10 @@ fn fill(input: &mut impl Read, s: &mut [u8], given: usize) -> io::Result<()> {
 // The number of a rollback's answer.
 fn rolled_back(image: &mut [u8], book: &mut [u8]) -> u64 {
     match journal_undo::rollback(image, book) {
-        RolledBack::Done => 0,
-        RolledBack::JournalUnsound => 1,
-        RolledBack::ImageTooLong => 3,
-        RolledBack::NothingStands => 16,
+        Ok(()) => 0,
+        Err(RollbackRefusal::JournalUnsound) => 1,
+        Err(RollbackRefusal::ImageTooLong) => 3,
+        Err(RollbackRefusal::NothingStands) => 16,
     }
 }
 
@@ -136,18 +135,10 @@ fn checksum(s: &[u8]) -> u64
     ensures { result < 2 ^ 32 }
 {
     let mut sum: u64 = 0;
-    let mut i: usize = 0;
-    while i < s.len() {
-        sum = (65599 * sum + wide(s[i]) + 1) % 4294967291;
-        i += 1;
+    for b in s {
+        sum = (65599 * sum + u64::from(*b) + 1) % 4294967291;
     }
     sum
-}
-
-fn wide(b: u8) -> u64
-    ensures { result < 256 }
-{
-    b as u64
 }
 
 fn line(out: &mut impl Write, answer: u64, image: u64, book: u64) -> io::Result<()> {
