@@ -1,4 +1,4 @@
-// An undo journal (document 01: the ledger) holds the old bytes of each span that an install writes, the newest last.
+// An undo journal holds the old bytes of each span that an install writes, the newest last.
 // This crate has its format, and checks 1 and 15.
 #![tactic(auto)]
 
@@ -22,6 +22,22 @@ const ENTRIES_AT: usize = COUNT_AT + NUMBER_SIZE;
 pub const HELD_AT: usize = ENTRIES_AT + ENTRY_SIZE * MAX_ENTRIES;
 
 pub const OLD_AT: usize = HELD_AT + NUMBER_SIZE;
+
+// n, the number of standing installs.
+pub fn count(journal: &[u8]) -> u32
+    requires { old_at ≤ length journal.now }
+    ensures { result ≡ count journal.now }
+{
+    numbers_bytes::read32(journal, COUNT_AT)
+}
+
+// k, the number of old bytes.
+pub fn held(journal: &[u8]) -> u32
+    requires { old_at ≤ length journal.now }
+    ensures { result ≡ held journal.now }
+{
+    numbers_bytes::read32(journal, HELD_AT)
+}
 
 // Where entry i stands.
 pub fn entry_at(i: usize) -> usize
@@ -47,8 +63,7 @@ pub fn read_entry(journal: &[u8], i: usize) -> Span
 fn entry_allowed(stands: bool, span: Span, len: usize) -> bool
     ensures { result ≡ (stands || is_blank span) && ends_within len span }
 {
-    let blank = (span.start == 0) & (span.size == 0);
-    (stands | blank) & (span.start as usize + span.size as usize <= len)
+    (stands | (span == Span::default())) & (span.start as usize + span.size as usize <= len)
 }
 
 // Check 1: whether a journal is sound for an image of `len` bytes.
@@ -58,8 +73,8 @@ pub fn is_sound(journal: &[u8], len: usize) -> bool
     if journal.len() < OLD_AT {
         return false;
     }
-    let n = numbers_bytes::read32(journal, COUNT_AT) as usize;
-    let k = numbers_bytes::read32(journal, HELD_AT) as usize;
+    let n = count(journal) as usize;
+    let k = held(journal) as usize;
     if MAX_ENTRIES < n {
         return false;
     }
@@ -67,14 +82,12 @@ pub fn is_sound(journal: &[u8], len: usize) -> bool
         return false;
     }
     let mut sum: usize = 0;
-    let mut i: usize = 0;
-    while i < MAX_ENTRIES {
+    for i in 0..MAX_ENTRIES {
         let span = read_entry(journal, i);
         if !entry_allowed(i < n, span, len) {
             return false;
         }
         sum += span.size as usize;
-        i += 1;
     }
     k == sum
 }
@@ -86,7 +99,7 @@ pub fn has_room(journal: &[u8], size: u32) -> bool
     if journal.len() < OLD_AT {
         return false;
     }
-    let n = numbers_bytes::read32(journal, COUNT_AT) as usize;
-    let k = numbers_bytes::read32(journal, HELD_AT) as usize;
+    let n = count(journal) as usize;
+    let k = held(journal) as usize;
     !((n == MAX_ENTRIES) | (journal.len() < OLD_AT + k + size as usize))
 }

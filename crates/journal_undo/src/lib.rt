@@ -43,8 +43,8 @@ pub fn save(image: &[u8], journal: &mut [u8], span: Span)
     requires { Savable image.now journal.old span }
     ensures { journal.new ≡ saved image.now journal.old span }
 {
-    let n = numbers_bytes::read32(journal, COUNT_AT);
-    let k = numbers_bytes::read32(journal, HELD_AT);
+    let n = journal_format::count(journal);
+    let k = journal_format::held(journal);
     numbers_bytes::copy(
         journal,
         OLD_AT + k as usize,
@@ -64,9 +64,9 @@ fn undo(image: &mut [u8], journal: &mut [u8])
     ensures { record { image = image.new; journal = journal.new }
         ≡ rolled_back (record { image = image.old; journal = journal.old }) }
 {
-    let i = numbers_bytes::read32(journal, COUNT_AT) - 1;
+    let i = journal_format::count(journal) - 1;
     let span = journal_format::read_entry(journal, i as usize);
-    let k = numbers_bytes::read32(journal, HELD_AT) - span.size;
+    let k = journal_format::held(journal) - span.size;
     numbers_bytes::copy(
         image,
         span.start as usize,
@@ -76,7 +76,7 @@ fn undo(image: &mut [u8], journal: &mut [u8])
     );
     numbers_bytes::write32(journal, COUNT_AT, i);
     numbers_bytes::write32(journal, HELD_AT, k);
-    write_entry(journal, i as usize, Span { start: 0, size: 0 });
+    write_entry(journal, i as usize, Span::default());
     clear(journal, OLD_AT + k as usize, span.size as usize);
 }
 
@@ -91,7 +91,7 @@ pub fn rollback(image: &mut [u8], journal: &mut [u8]) -> Result<(), RollbackRefu
     if !order_format::length_allowed(image.len()) {
         return Err(RollbackRefusal::ImageTooLong);
     }
-    if numbers_bytes::read32(journal, COUNT_AT) == 0 {
+    if journal_format::count(journal) == 0 {
         return Err(RollbackRefusal::NothingStands);
     }
     undo(image, journal);

@@ -25,7 +25,7 @@ returns-then-journal-k c = unsound_test _ _ (λ k. omega (arith, k.fits))
 
 pub loop-i-init : goal.loop-i-init
 unfolding tabulate total
-loop-i-init c = (omega arith, omega arith, refl, λ m h. absurd (omega arith))
+loop-i-init c = (omega arith, refl, λ m h. absurd (omega arith))
 
 abbrev j : After-entry_allowed → List ℕ
 j c = c.args.journal.now
@@ -38,7 +38,7 @@ i c = c.loop-i.i
 
 tested : (c : After-entry_allowed) → c.entry_allowed.result ≡ allowed (j c) (len c) (i c)
 tested c =
-    allowed_is (j c) (len c) (i c) c.read32-n.result c.read_entry-span.result c.entry_allowed.result c.read32-n.ensures c.read_entry-span.ensures c.entry_allowed.ensures
+    allowed_is (j c) (len c) (i c) c.count-n.result c.read_entry-span.result c.entry_allowed.result c.count-n.ensures c.read_entry-span.ensures c.entry_allowed.ensures
 
 pub returns-then-not-entry_allowed : goal.returns-then-not-entry_allowed
 returns-then-not-entry_allowed c =
@@ -52,15 +52,14 @@ loop-i-preserved c =
     let inv = c.loop-i.invariant in
     let size : c.read_entry-span.result.size ≡ (entry (j (goal.at.loop-i-preserved c).After-entry_allowed) (i (goal.at.loop-i-preserved c).After-entry_allowed)).size = ap (λ (s : Span). s.size) c.read_entry-span.ensures in (
       omega arith,
-      omega arith,
-      rw (add-one (i (goal.at.loop-i-preserved c).After-entry_allowed), total_snoc (entry (j (goal.at.loop-i-preserved c).After-entry_allowed)) (i (goal.at.loop-i-preserved c).After-entry_allowed)) (omega (arith, inv.2)),
-      below_more _ _ inv.3 (sym (tested (goal.at.loop-i-preserved c).After-entry_allowed) ∙ c.if-not-entry_allowed.false),
+      rw (add-one (i (goal.at.loop-i-preserved c).After-entry_allowed), total_snoc (entry (j (goal.at.loop-i-preserved c).After-entry_allowed)) (i (goal.at.loop-i-preserved c).After-entry_allowed)) (omega (arith, inv.1)),
+      below_more _ _ inv.2 (sym (tested (goal.at.loop-i-preserved c).After-entry_allowed) ∙ c.if-not-entry_allowed.false),
     )
 
 pub returns : goal.returns
 unfolding entries
 returns c =
     let end : c.loop-i.i ≡ max_entries = omega arith in
-    rw c.read32-k.ensures
-    (sound_by_held c.args.journal.now c.args.len c.loop-i.sum (rw end at c.loop-i.invariant.2) (omega arith) (omega arith)
-    (λ i h. c.loop-i.invariant.3 i (omega arith)))
+    rw c.held-k.ensures
+    (sound_by_held c.args.journal.now c.args.len c.loop-i.sum (rw end at c.loop-i.invariant.1) (omega arith) (omega arith)
+    (λ i h. c.loop-i.invariant.2 i (omega arith)))
