@@ -1,4 +1,4 @@
-// Sums and differences that wrap at a width, signed words, and powers of two.
+// Sums and differences that wrap, signed words, and powers of two.
 #![tactic(auto)]
 
 ghost use Rattle.std.specs.Prelude.{◌≡◌, ◌+◌, ◌-◌, ◌%◌, ◌^◌, ◌<◌, nat_le};
@@ -8,54 +8,17 @@ ghost use Rattle.numbers_definitions.specs.Powers.{one_bit, ceil_power};
 
 use numbers_definitions::Class;
 
-// v + x, wrapping at the width of the field that holds v.
-pub fn add8(v: u8, x: u64) -> u8
-    ensures { result ≡ plus 8 v x }
-{
-    std::num::wrapping_add_u8(v, (x % 256) as u8)
-}
-
-pub fn add16(v: u16, x: u64) -> u16
-    ensures { result ≡ plus 16 v x }
-{
-    std::num::wrapping_add_u16(v, (x % 65536) as u16)
-}
-
-pub fn add32(v: u32, x: u64) -> u32
-    ensures { result ≡ plus 32 v x }
-{
-    std::num::wrapping_add_u32(v, (x % 4294967296) as u32)
-}
-
+// v + x and v - x, wrapping at 64 bits.
 pub fn add64(v: u64, x: u64) -> u64
     ensures { result ≡ plus 64 v x }
 {
-    std::num::wrapping_add_u64(v, x)
-}
-
-// v - x, wrapping at the width of the field that holds v.
-pub fn sub8(v: u8, x: u64) -> u8
-    ensures { result ≡ minus 8 v x }
-{
-    std::num::wrapping_sub_u8(v, (x % 256) as u8)
-}
-
-pub fn sub16(v: u16, x: u64) -> u16
-    ensures { result ≡ minus 16 v x }
-{
-    std::num::wrapping_sub_u16(v, (x % 65536) as u16)
-}
-
-pub fn sub32(v: u32, x: u64) -> u32
-    ensures { result ≡ minus 32 v x }
-{
-    std::num::wrapping_sub_u32(v, (x % 4294967296) as u32)
+    v.wrapping_add(x)
 }
 
 pub fn sub64(v: u64, x: u64) -> u64
     ensures { result ≡ minus 64 v x }
 {
-    std::num::wrapping_sub_u64(v, x)
+    v.wrapping_sub(x)
 }
 
 // x modulo 2^32 or 2^64, as wide as addresses are.
@@ -113,19 +76,18 @@ pub fn ends_in_memory(class: Class, start: u64, size: u64) -> bool
     }
 }
 
-// The signed number that a word of 32 bits spells, modulo 2^64: 2^31 is added at 32 bits and taken away at 64, by
-// adding 2^64 - 2^31. The compiler makes one instruction of it, without a jump.
+// The signed number that a word of 32 bits spells, modulo 2^64.
 pub fn addend(word: u32) -> u64
     ensures { result ≡ residue 64 (signed 32 word) }
 {
-    add64(add32(word, 0x8000_0000) as u64, 0xffff_ffff_8000_0000)
+    i64::from(word.cast_signed()).cast_unsigned()
 }
 
 // Whether exactly one bit of a number is set.
 pub fn one_bit(x: u64) -> bool
     ensures { result ≡ one_bit 64 x }
 {
-    u64::count_ones(x) == 1
+    x.count_ones() == 1
 }
 
 // The smallest power of two that is at least n.
@@ -135,5 +97,5 @@ pub fn ceil_power(n: u32) -> u64
     if n == 0 {
         return 1;
     }
-    1u64 << (32 - u32::leading_zeros(n - 1))
+    1u64 << (32 - (n - 1).leading_zeros())
 }

@@ -1,69 +1,90 @@
 -- Laws of data fields, over the width.
-use mathlib.Core.Path.{◌≡◌, sym, ap, ◌∙◌}
-use Prim.Native.Nat.{ℕ, suc, ◌+◌, ◌%◌, ◌^◌, ◌<◌}
-use native.Mathlib.Nat.{mod-eq_of_lt}
+use mathlib.Core.Path.{◌≡◌, refl, sym, ap, ◌∙◌}
+use Prim.Native.Nat.{ℕ, ◌+◌, ◌%◌, ◌^◌, ◌<◌}
+use native.Mathlib.Nat.{mod-eq_of_lt, mod-mod, mod-add-mod}
 use native.Mathlib.Omega.{arith}
-use mathlib.Core.List.{[], ◌∷◌}
-use lib.IntN.{ℤ, pos, ◌+ℤ◌, ◌-ℤ◌}
+use lib.Pow.{mod-mod-pow}
+use lib.IntN.{pos, ◌+ℤ◌, ◌-ℤ◌}
 use Rattle.numbers_definitions.specs.Whole.{residue, signed, plus, minus}
-use Rattle.numbers_definitions.proofs.Laws.Whole.{residue_lt, residue_narrow, plus_signed, minus_signed, cut_signed}
+use Rattle.numbers_definitions.proofs.Laws.Whole.{residue_lt, residue_narrow, minus_mod, plus_signed, minus_signed, cut_signed}
 use Rattle.instructions_fields.specs.declared.Width.{Width}
 use Rattle.instructions_fields.specs.declared.Width.TheVariants.{W6, W8, W16, W32, W64}
-use Rattle.instructions_fields.specs.Layouts.{imm, read, put}
-use Rattle.instructions_fields.specs.Fields.{data_layout}
-use Rattle.instructions_fields.proofs.Laws.Fields.{read_whole, put_whole, six, read_six}
-use Rattle.instructions_riscv.specs.Data.{replaced}
+use Rattle.instructions_fields.specs.Layouts.{read, put}
+use Rattle.instructions_fields.specs.Fields.{bits, data_layout}
+use Rattle.instructions_fields.proofs.Laws.Fields.{read_whole, put_whole, read_six}
+use Rattle.instructions_riscv.specs.Data.{added, subtracted, replaced}
 
--- ADD, SUB and SET on whole bytes: x, of j + suc h bits, spells S + A
-pub add_whole : (j h v x : ℕ) → x < 2 ^ (j + suc h)
-    → plus (suc h) (v % 2 ^ suc h) x ≡ put (imm h 0 ∷ []) v (residue (suc h) (pos (read (imm h 0 ∷ []) v) +ℤ signed (j + suc h) x))
-add_whole j h v x b =
-    plus_signed j (suc h) (v % 2 ^ suc h) x b
-    ∙ ap (λ n. residue (suc h) (pos n +ℤ signed (j + suc h) x)) (sym (read_whole h v))
-    ∙ sym (mod-eq_of_lt (residue_lt (suc h) (pos (read (imm h 0 ∷ []) v) +ℤ signed (j + suc h) x)))
-    ∙ sym (put_whole h v (residue (suc h) (pos (read (imm h 0 ∷ []) v) +ℤ signed (j + suc h) x)))
+-- a field holds as many of its word's lowest bits as it is wide
+held : (n : Width) (v : ℕ) → read (data_layout n) v ≡ v % 2 ^ bits n
+held W6 v = read_six v
+held W8 v = read_whole 7 v
+held W16 v = read_whole 15 v
+held W32 v = read_whole 31 v
+held W64 v = read_whole 63 v
 
-pub sub_whole : (j h v x : ℕ) → x < 2 ^ (j + suc h)
-    → minus (suc h) (v % 2 ^ suc h) x ≡ put (imm h 0 ∷ []) v (residue (suc h) (pos (read (imm h 0 ∷ []) v) -ℤ signed (j + suc h) x))
-sub_whole j h v x b =
-    minus_signed j (suc h) (v % 2 ^ suc h) x b
-    ∙ ap (λ n. residue (suc h) (pos n -ℤ signed (j + suc h) x)) (sym (read_whole h v))
-    ∙ sym (mod-eq_of_lt (residue_lt (suc h) (pos (read (imm h 0 ∷ []) v) -ℤ signed (j + suc h) x)))
-    ∙ sym (put_whole h v (residue (suc h) (pos (read (imm h 0 ∷ []) v) -ℤ signed (j + suc h) x)))
-
-pub set_whole : (j h v x : ℕ) → x < 2 ^ (j + suc h) → x % 2 ^ suc h ≡ put (imm h 0 ∷ []) v (residue (suc h) (signed (j + suc h) x))
-set_whole j h v x b =
-    cut_signed j (suc h) x b
-    ∙ sym (mod-eq_of_lt (residue_lt (suc h) (signed (j + suc h) x)))
-    ∙ sym (put_whole h v (residue (suc h) (signed (j + suc h) x)))
-
--- only the low six bits of what is put into a six-bit field count
-six_cut : (v a b : ℕ) → a % 64 ≡ b % 64 → put six v a ≡ put six v b
+-- only as many bits of what is put in count
+cut : (n : Width) (v a b : ℕ) → a % 2 ^ bits n ≡ b % 2 ^ bits n → put (data_layout n) v a ≡ put (data_layout n) v b
 unfolding put
-six_cut v a b e = omega arith
+cut W6 v a b e = omega arith
+cut W8 v a b e = put_whole 7 v a ∙ e ∙ sym (put_whole 7 v b)
+cut W16 v a b e = put_whole 15 v a ∙ e ∙ sym (put_whole 15 v b)
+cut W32 v a b e = put_whole 31 v a ∙ e ∙ sym (put_whole 31 v b)
+cut W64 v a b e = put_whole 63 v a ∙ e ∙ sym (put_whole 63 v b)
 
-pub add_six : (j v x : ℕ) → x < 2 ^ (j + 8) → put six v (plus 8 (v % 64) x) ≡ put six v (residue 6 (pos (read six v) +ℤ signed (j + 8) x))
-add_six j v x b =
-    let z : ℤ = pos (v % 64) +ℤ signed (j + 8) x in
-    six_cut v (plus 8 (v % 64) x) (residue 6 z)
-    (ap (λ n. n % 64) (plus_signed j 8 (v % 64) x b) ∙ residue_narrow 2 6 z ∙ sym (mod-eq_of_lt (residue_lt 6 z)))
-    ∙ ap (λ n. put six v (residue 6 (pos n +ℤ signed (j + 8) x))) (sym (read_six v))
+-- a sum and a difference of j + k bits, cut at k bits
+plus_cut : (j k v x : ℕ) → plus (j + k) v x % 2 ^ k ≡ plus k (v % 2 ^ k) x
+unfolding plus
+plus_cut j k v x = mod-mod-pow (v + x) j k ∙ sym (mod-add-mod v (2 ^ k) x)
 
-pub sub_six : (j v x : ℕ) → x < 2 ^ (j + 8) → put six v (minus 8 (v % 64) x) ≡ put six v (residue 6 (pos (read six v) -ℤ signed (j + 8) x))
-sub_six j v x b =
-    let z : ℤ = pos (v % 64) -ℤ signed (j + 8) x in
-    six_cut v (minus 8 (v % 64) x) (residue 6 z)
-    (ap (λ n. n % 64) (minus_signed j 8 (v % 64) x b) ∙ residue_narrow 2 6 z ∙ sym (mod-eq_of_lt (residue_lt 6 z)))
-    ∙ ap (λ n. put six v (residue 6 (pos n -ℤ signed (j + 8) x))) (sym (read_six v))
+minus_cut : (j k v x : ℕ) → minus (j + k) v x % 2 ^ k ≡ minus k (v % 2 ^ k) x
+unfolding minus
+minus_cut j k v x = residue_narrow j k (pos v -ℤ pos x) ∙ minus_mod k v x (v % 2 ^ k) x (sym (mod-mod v (2 ^ k))) refl
 
-pub set_six : (j v x : ℕ) → x < 2 ^ (j + 6) → put six v x ≡ put six v (residue 6 (signed (j + 6) x))
-set_six j v x b = six_cut v x (residue 6 (signed (j + 6) x)) (cut_signed j 6 x b ∙ sym (mod-eq_of_lt (residue_lt 6 (signed (j + 6) x))))
+-- what is put in is S + A, or the sum or the difference, at a width that the field's lies below by j bits
+add_by : (j : ℕ) (n : Width) (v x : ℕ) → x < 2 ^ (j + bits n) → put (data_layout n) v (plus (j + bits n) v x) ≡ added n v (signed (j + bits n) x)
+unfolding added
+add_by j n v x h =
+    let k : ℕ = bits n in
+    cut n v (plus (j + k) v x) (residue k (pos (read (data_layout n) v) +ℤ signed (j + k) x))
+    (plus_cut j k v x
+    ∙ plus_signed j k (v % 2 ^ k) x h
+    ∙ ap (λ m. residue k (pos m +ℤ signed (j + k) x)) (sym (held n v))
+    ∙ sym (mod-eq_of_lt (residue_lt k (pos (read (data_layout n) v) +ℤ signed (j + k) x))))
 
--- at every width, only as many bits of what is put in count as the field has
-pub set_data : (n : Width) (v x : ℕ) → x < 2 ^ 64 → put (data_layout n) v x ≡ replaced n v (signed 64 x)
+sub_by : (j : ℕ) (n : Width) (v x : ℕ) → x < 2 ^ (j + bits n) → put (data_layout n) v (minus (j + bits n) v x) ≡ subtracted n v (signed (j + bits n) x)
+unfolding subtracted
+sub_by j n v x h =
+    let k : ℕ = bits n in
+    cut n v (minus (j + k) v x) (residue k (pos (read (data_layout n) v) -ℤ signed (j + k) x))
+    (minus_cut j k v x
+    ∙ minus_signed j k (v % 2 ^ k) x h
+    ∙ ap (λ m. residue k (pos m -ℤ signed (j + k) x)) (sym (held n v))
+    ∙ sym (mod-eq_of_lt (residue_lt k (pos (read (data_layout n) v) -ℤ signed (j + k) x))))
+
+set_by : (j : ℕ) (n : Width) (v x : ℕ) → x < 2 ^ (j + bits n) → put (data_layout n) v x ≡ replaced n v (signed (j + bits n) x)
 unfolding replaced
-set_data W6 v x b = set_six 58 v x b
-set_data W8 v x b = put_whole 7 v x ∙ set_whole 56 7 v x b
-set_data W16 v x b = put_whole 15 v x ∙ set_whole 48 15 v x b
-set_data W32 v x b = put_whole 31 v x ∙ set_whole 32 31 v x b
-set_data W64 v x b = put_whole 63 v x ∙ set_whole 0 63 v x b
+set_by j n v x h =
+    let k : ℕ = bits n in
+    cut n v x (residue k (signed (j + k) x)) (cut_signed j k x h ∙ sym (mod-eq_of_lt (residue_lt k (signed (j + k) x))))
+
+-- at every width, 64 bits are enough
+pub add_data : (n : Width) (v x : ℕ) → x < 2 ^ 64 → put (data_layout n) v (plus 64 v x) ≡ added n v (signed 64 x)
+add_data W6 = add_by 58 W6
+add_data W8 = add_by 56 W8
+add_data W16 = add_by 48 W16
+add_data W32 = add_by 32 W32
+add_data W64 = add_by 0 W64
+
+pub sub_data : (n : Width) (v x : ℕ) → x < 2 ^ 64 → put (data_layout n) v (minus 64 v x) ≡ subtracted n v (signed 64 x)
+sub_data W6 = sub_by 58 W6
+sub_data W8 = sub_by 56 W8
+sub_data W16 = sub_by 48 W16
+sub_data W32 = sub_by 32 W32
+sub_data W64 = sub_by 0 W64
+
+pub set_data : (n : Width) (v x : ℕ) → x < 2 ^ 64 → put (data_layout n) v x ≡ replaced n v (signed 64 x)
+set_data W6 = set_by 58 W6
+set_data W8 = set_by 56 W8
+set_data W16 = set_by 48 W16
+set_data W32 = set_by 32 W32
+set_data W64 = set_by 0 W64
