@@ -1,5 +1,5 @@
 -- Why a symbol has no value (document 02, Ticket 9), and the number of each reason.
-use Rattle.std.specs.Prelude.{ℕ, Bool, cond, Result, Err}
+use Rattle.std.specs.Prelude.{ℕ, Bool, ⊤, cond, Result, Err}
 use Rattle.numbers_definitions.specs.declared.Address.{Address}
 use Rattle.placing_symbols.specs.declared.Reason.{Reason}
 use Rattle.placing_symbols.specs.declared.Reason.TheVariants.{PastTable, NotAllocated, Common, Reserved, Undefined, WrongType, OutsideTarget}
@@ -7,6 +7,10 @@ use Rattle.placing_symbols.specs.declared.Reason.TheVariants.{PastTable, NotAllo
 -- S: the value of a symbol, or why it has none
 abbrev pub SymbolValue : Type 0
 SymbolValue = Result Address Reason
+
+-- whether a symbol resolves, or why it does not
+abbrev pub State : Type 0
+State = Result ⊤ Reason
 
 -- "past the table, row missing or not allocated .., common .., reserved section .., undefined, not weak and without a value in the order,
 -- wrong type .., not in the target row ..; .. in this order, numbered 1 to 7"

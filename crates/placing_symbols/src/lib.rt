@@ -7,7 +7,7 @@ ghost use Rattle.elf_check.specs.Requires.{SoundObject};
 ghost use Rattle.order_format.specs.Orders.{reading};
 ghost use Rattle.placing_symbols.specs.Reasons.{reason_number, because};
 ghost use Rattle.placing_symbols.specs.Values.{is_wrong_type, of_entry};
-ghost use Rattle.placing_symbols.specs.Arrays.{reason_in, state_of, number_of, listed, ValueArrays, Blank, Valued};
+ghost use Rattle.placing_symbols.specs.Arrays.{listed, ValueArrays, Blank, Valued};
 ghost use Rattle.placing_symbols.specs.Requires.{SymbolsOf};
 
 use elf_read::{
@@ -33,7 +33,7 @@ pub enum Reason {
 // The value of a symbol, or why it has none.
 pub type SymbolValue = Result<Address, Reason>;
 
-// The number of a reason (Ticket 9).
+// The number of a reason.
 pub fn reason_number(reason: Reason) -> u8
     ensures { result ≡ reason_number reason }
 {
@@ -125,46 +125,8 @@ pub fn symbols_of(object: &[u8]) -> Symbols
     }
 }
 
-// The state of a symbol that resolves. That of any other is the number of its reason.
-const RESOLVED: u8 = 8;
-
-// The reason in a state. What no symbol has stored, which is 0, says that there is none.
-fn reason_in(state: u8) -> Reason
-    ensures { result ≡ reason_in state }
-{
-    match state {
-        2 => Reason::NotAllocated,
-        3 => Reason::Common,
-        4 => Reason::Reserved,
-        5 => Reason::Undefined,
-        6 => Reason::WrongType,
-        7 => Reason::OutsideTarget,
-        _ => Reason::PastTable,
-    }
-}
-
-// The state that is stored for S.
-fn state_of(value: SymbolValue) -> u8
-    ensures { result ≡ state_of value }
-{
-    match value {
-        Ok(_) => RESOLVED,
-        Err(reason) => reason_number(reason),
-    }
-}
-
-// The value that is stored for S: 0 if the symbol does not resolve.
-fn number_of(value: SymbolValue) -> u64
-    ensures { result ≡ number_of value }
-{
-    match value {
-        Ok(s) => s.0,
-        Err(_) => 0,
-    }
-}
-
 // Works S out for every symbol, in one way through the table and through the order's external values. `addresses` is passed by
-// value and handed back. The entries past the table stay 0, which says that they are past it.
+// value and handed back. The states past the table stay as they come, which says that they are past it.
 pub fn symbol_values(
     object: &[u8],
     order: &[u8],
@@ -172,7 +134,7 @@ pub fn symbol_values(
     symbols: Symbols,
     addresses: Addresses,
     values: &mut [u64],
-    states: &mut [u8],
+    states: &mut [Result<(), Reason>],
 ) -> Addresses
     requires { SoundObject object.now × (reading (class_of object.now) order.now ≡ Some counts) × SymbolsOf object.now symbols × Blank object.now values.old states.old }
     ensures { (result ≡ addresses) × Valued object.now order.now addresses values.new states.new }
@@ -180,12 +142,11 @@ pub fn symbol_values(
     let table = symbols.table;
     let count = symbols.count;
     // Symbol 0 resolves, to 0.
-    states[0] = RESOLVED;
+    states[0] = Ok(());
     let class = class_of(object);
     let first = take_external(class, order, counts, 0, 0);
     let mut next = first.next;
-    let mut k: usize = 1;
-    while k < count {
+    for k in 1..count {
         let symbol = elf_read::read_symbol(object, table, k);
         let section = symbol.section as usize;
         let start = if section < MAX_SECTIONS {
@@ -196,16 +157,20 @@ pub fn symbol_values(
         let taken = take_external(class, order, counts, next, k as u32);
         let given = taken.value;
         let value = entry_value(object, given, start, symbol);
-        values[k] = number_of(value);
-        states[k] = state_of(value);
         next = taken.next;
-        k += 1;
+        match value {
+            Ok(s) => {
+                values[k] = s.0;
+                states[k] = Ok(());
+            }
+            Err(reason) => states[k] = Err(reason),
+        }
     }
     addresses
 }
 
 // S of symbol k, out of the arrays.
-pub fn value_at(values: &[u64], states: &[u8], k: u32) -> SymbolValue
+pub fn value_at(values: &[u64], states: &[Result<(), Reason>], k: u32) -> SymbolValue
     requires { ValueArrays values.now states.now }
     ensures { result ≡ listed values.now states.now k }
 {
@@ -213,9 +178,6 @@ pub fn value_at(values: &[u64], states: &[u8], k: u32) -> SymbolValue
     if states.len() <= at {
         return Err(Reason::PastTable);
     }
-    let state = states[at];
-    if state != RESOLVED {
-        return Err(reason_in(state));
-    }
+    states[at]?;
     Ok(Address(values[at]))
 }

@@ -1,11 +1,13 @@
 -- The arrays of S, as they fill.
 use Rattle.std.specs.Prelude.{Err, Ok}
+use Rattle.numbers_definitions.specs.declared.Address.{Address}
 use mathlib.Core.Path.{◌≡◌, refl, sym, ap, ◌∙◌}
 use mathlib.Core.Bool.{Bool, true, false, cond}
 use mathlib.Core.List.{List}
 use Prim.Native.Nat.{ℕ, ◌+◌, ◌≤◌, ◌<◌}
 use native.Mathlib.Omega.{arith}
-use lib.ListN.{length, get_or, set, length-set}
+use lib.ListN.{length, get_or, set, length-set, length-replicate, get_or-eq_default}
+use Rattle.std.proofs.lemmas.List.{get_or-replicate}
 use lib.Seq.{get_or-set_same, get_or-set_other}
 use lib.Dec.{ltb}
 use borrow.Author.Tests.{ltb-true, ltb-false}
@@ -13,102 +15,108 @@ use borrow.Author.Count.{below_more}
 use Rattle.numbers_definitions.proofs.Laws.Lists.{zeros_length, zeros_at}
 use Rattle.elf_read.specs.Entries.{symbol_count}
 use Rattle.placing_symbols.specs.declared.Reason.{Reason}
-use Rattle.placing_symbols.specs.declared.Reason.TheVariants.{PastTable, NotAllocated, Common, Reserved, Undefined, WrongType, OutsideTarget}
-use Rattle.placing_symbols.specs.Reasons.{reason_number, SymbolValue}
+use Rattle.placing_symbols.specs.declared.Reason.TheVariants.{PastTable}
+use Rattle.placing_symbols.specs.Reasons.{State, SymbolValue}
 use Rattle.placing_symbols.specs.Values.{symbol_value}
-use Rattle.placing_symbols.specs.Arrays.{no_values, RESOLVED, state_of, number_of, decoded, listed, Long, Blank, Valued}
+use Rattle.placing_symbols.specs.Arrays.{no_values, no_states, decoded, state_at, listed, Long, Blank, Valued}
 use Rattle.placing_symbols.proofs.Laws.Values.{value_past}
-
--- what is stored for S is read as S
-decoded_stored : (v : SymbolValue) → decoded (state_of v) (number_of v) ≡ v
-decoded_stored (Ok a) = refl
-decoded_stored (Err reason) = go reason
-  where
-    go : (reason : Reason) → decoded (reason_number reason) 0 ≡ Err reason
-    go PastTable = refl
-    go NotAllocated = refl
-    go Common = refl
-    go Reserved = refl
-    go Undefined = refl
-    go WrongType = refl
-    go OutsideTarget = refl
 
 zero_at : (l : List ℕ) → l ≡ no_values (length l) → (k : ℕ) → get_or l k 0 ≡ 0
 zero_at l e k = ap (λ s. get_or s k 0) e ∙ zeros_at (length l) k
 
--- two arrays of n zeros
-pub blank : (object : List ℕ) (n : ℕ) → 0 < n → symbol_count object ≤ n → Blank object (no_values n) (no_values n)
+-- a state before anything is stored
+blank_at : (l : List State) → l ≡ no_states (length l) → (k : ℕ) → state_at l k ≡ Err PastTable
+blank_at l e k = go (ltb k (length l)) refl
+  where
+    go : (b : Bool) → ltb k (length l) ≡ b → state_at l k ≡ Err PastTable
+    go true h = ap (λ s. get_or s k (Err PastTable)) e ∙ get_or-replicate (length l) k (Err PastTable) (Err PastTable) (ltb-true k (length l) h)
+    go false h = get_or-eq_default l (Err PastTable) (ltb-false k (length l) h)
+
+-- two arrays of n entries
+pub blank : (object : List ℕ) (n : ℕ) → 0 < n → symbol_count object ≤ n → Blank object (no_values n) (no_states n)
 blank object n some all =
-    let long = zeros_length n in
+    let zeros = zeros_length n in
+    let long = length-replicate {A = State} n (Err PastTable) in
     record {
-      long = record { arrays = record { same_length = refl }; some = omega (arith, long); all = omega (arith, long) };
-      values_are = sym (ap no_values long);
-      states_are = sym (ap no_values long);
+      long = record { arrays = record { same_length = zeros ∙ sym long }; some = omega (arith, long); all = omega (arith, long) };
+      values_are = sym (ap no_values zeros);
+      states_are = sym (ap no_states long);
     }
 
 module _ (object order addresses : List ℕ) where
   -- the arrays hold S of each symbol below n, and no state is stored from n on
-  pub record ValuedBelow (values states : List ℕ) (n : ℕ) : Type 0 where
+  pub record ValuedBelow (values : List ℕ) (states : List State) (n : ℕ) : Type 0 where
     pub long : Long object values states
-    pub below : (k : ℕ) → k < n → decoded (get_or states k 0) (get_or values k 0) ≡ symbol_value object order addresses k
-    pub rest : (k : ℕ) → n ≤ k → get_or states k 0 ≡ 0
+    pub below : (k : ℕ) → k < n → decoded (state_at states k) (get_or values k 0) ≡ symbol_value object order addresses k
+    pub rest : (k : ℕ) → n ≤ k → state_at states k ≡ Err PastTable
 
-  -- the zeros, with the state of symbol 0
-  pub below_one : (values states : List ℕ) → Blank object values states → ValuedBelow values (set states 0 RESOLVED) 1
+  -- the arrays before anything is stored, with the state of symbol 0
+  pub below_one : (values : List ℕ) (states : List State) → Blank object values states → ValuedBelow values (set states 0 (Ok tt)) 1
   unfolding symbol_value
   below_one values states b =
       let l = b.long in
-      let same = length-set states 0 RESOLVED in
+      let same = length-set states 0 (Ok tt) in
       record {
         long = record {
           arrays = record { same_length = l.arrays.same_length ∙ sym same };
           some = omega (arith, same, l.some);
           all = omega (arith, same, l.all);
         };
-        below = λ k h. let z : k ≡ 0 = omega arith in rw (z, get_or-set_same states 0 RESOLVED 0 l.some, zero_at values b.values_are 0);
-        rest = λ k h. get_or-set_other states 0 k RESOLVED 0 (λ z. omega arith) ∙ zero_at states b.states_are k;
+        below = λ k h. let z : k ≡ 0 = omega arith in rw (z, get_or-set_same states 0 (Ok tt) (Err PastTable) l.some, zero_at values b.values_are 0);
+        rest = λ k h. get_or-set_other states 0 k (Ok tt) (Err PastTable) (λ z. omega arith) ∙ blank_at states b.states_are k;
       }
 
-  -- one more symbol
-  pub below_next : (values states : List ℕ) (n : ℕ) → ValuedBelow values states n → n < length states
-      → (v : SymbolValue) → v ≡ symbol_value object order addresses n
-      → ValuedBelow (set values n (number_of v)) (set states n (state_of v)) (n + 1)
-  below_next values states n b h v is =
+  -- one more state, and the values as they then are
+  below_set : (values after : List ℕ) (states : List State) (n : ℕ) → ValuedBelow values states n → n < length states
+      → length after ≡ length values → ((k : ℕ) → k < n → get_or after k 0 ≡ get_or values k 0)
+      → (state : State) → decoded state (get_or after n 0) ≡ symbol_value object order addresses n
+      → ValuedBelow after (set states n state) (n + 1)
+  below_set values after states n b h long before state is =
       let l = b.long in
-      let long : n < length values = omega (arith, l.arrays.same_length) in
-      let wider = length-set values n (number_of v) in
-      let same = length-set states n (state_of v) in
+      let same = length-set states n state in
       record {
         long = record {
-          arrays = record { same_length = wider ∙ l.arrays.same_length ∙ sym same };
+          arrays = record { same_length = long ∙ l.arrays.same_length ∙ sym same };
           some = omega (arith, same, l.some);
           all = omega (arith, same, l.all);
         };
         below =
-            below_more (λ k. decoded (get_or (set states n (state_of v)) k 0) (get_or (set values n (number_of v)) k 0) ≡ symbol_value object order addresses k) n
-            (λ k l. rw (get_or-set_other states n k (state_of v) 0 (λ z. omega arith), get_or-set_other values n k (number_of v) 0 (λ z. omega arith)) (b.below k l))
-            (rw (get_or-set_same states n (state_of v) 0 h, get_or-set_same values n (number_of v) 0 long) (decoded_stored v ∙ is));
-        rest = λ k l. get_or-set_other states n k (state_of v) 0 (λ z. omega arith) ∙ b.rest k (omega arith);
+            below_more (λ k. decoded (state_at (set states n state) k) (get_or after k 0) ≡ symbol_value object order addresses k) n
+            (λ k l. rw (get_or-set_other states n k state (Err PastTable) (λ z. omega arith), before k l) (b.below k l))
+            (rw (get_or-set_same states n state (Err PastTable) h) is);
+        rest = λ k l. get_or-set_other states n k state (Err PastTable) (λ z. omega arith) ∙ b.rest k (omega arith);
       }
 
+  module _ (values : List ℕ) (states : List State) (n : ℕ) (b : ValuedBelow values states n) (h : n < length states) where
+    -- one more symbol, which resolves
+    pub below_resolved : (a : Address) → Ok a ≡ symbol_value object order addresses n → ValuedBelow (set values n a.0) (set states n (Ok tt)) (n + 1)
+    below_resolved a is =
+        let there : n < length values = omega (arith, b.long.arrays.same_length) in
+        below_set values (set values n a.0) states n b h (length-set values n a.0) (λ k l. get_or-set_other values n k a.0 0 (λ z. omega arith)) (Ok tt)
+        (ap (λ v. decoded (Ok tt) v) (get_or-set_same values n a.0 0 there) ∙ is)
+
+    -- one more symbol, which does not
+    pub below_unresolved : (reason : Reason) → Err reason ≡ symbol_value object order addresses n → ValuedBelow values (set states n (Err reason)) (n + 1)
+    below_unresolved reason is = below_set values values states n b h refl (λ k l. refl) (Err reason) is
+
   -- every symbol of the table
-  pub below_all : (values states : List ℕ) (n : ℕ) → ValuedBelow values states n → 0 < n → symbol_count object ≤ n
+  pub below_all : (values : List ℕ) (states : List State) (n : ℕ) → ValuedBelow values states n → 0 < n → symbol_count object ≤ n
       → Valued object order addresses values states
   below_all values states n b some all = record { long = b.long; is = λ k h. go k (ltb k n) refl }
     where
-      go : (k : ℕ) (t : Bool) → ltb k n ≡ t → decoded (get_or states k 0) (get_or values k 0) ≡ symbol_value object order addresses k
+      go : (k : ℕ) (t : Bool) → ltb k n ≡ t → decoded (state_at states k) (get_or values k 0) ≡ symbol_value object order addresses k
       go k true e = b.below k (ltb-true k n e)
       go k false e =
           let past : n ≤ k = ltb-false k n e in
           rw (b.rest k past, value_past object order addresses k (omega arith) (omega arith))
 
 -- what the arrays say about any symbol is S of that symbol
-pub listed_is : {object order addresses values states : List ℕ} → Valued object order addresses values states
+pub listed_is : {object order addresses values : List ℕ} {states : List State} → Valued object order addresses values states
     → (k : ℕ) → listed values states k ≡ symbol_value object order addresses k
 unfolding listed
 listed_is {object} {order} {addresses} {values} {states} v k = go (ltb k (length states)) refl
   where
-    go : (b : Bool) → ltb k (length states) ≡ b → cond b (decoded (get_or states k 0) (get_or values k 0)) (Err PastTable) ≡ symbol_value object order addresses k
+    go : (b : Bool) → ltb k (length states) ≡ b → cond b (decoded (state_at states k) (get_or values k 0)) (Err PastTable) ≡ symbol_value object order addresses k
     go true e = v.is k (ltb-true k (length states) e)
     go false e =
         let past : length states ≤ k = ltb-false k (length states) e in

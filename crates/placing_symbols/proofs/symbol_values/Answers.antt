@@ -13,10 +13,10 @@ use Rattle.order_format.specs.Orders.{reading}
 use Rattle.order_lookup.specs.Values.{external_value}
 use Rattle.placing_symbols.specs.Values.{of_entry, symbol_value}
 use Rattle.placing_symbols.proofs.Laws.Values.{value_read}
-use Rattle.placing_symbols.proofs.Laws.Arrays.{below_one, below_next, below_all}
+use Rattle.placing_symbols.proofs.Laws.Arrays.{below_one, below_resolved, below_unresolved, below_all}
 use borrow.Author.Rules.{rules}
 use Rattle.placing_symbols.proofs.symbol_values.Goals as goal
-use Rattle.placing_symbols.proofs.symbol_values.Goals.{then-section-lt-MAX_SECTIONS, else-section-lt-MAX_SECTIONS, After-class_of-class, In-loop-k, Joined-section-lt-MAX_SECTIONS}
+use Rattle.placing_symbols.proofs.symbol_values.Goals.{then-section-lt-MAX_SECTIONS, else-section-lt-MAX_SECTIONS, in-Ok, in-Err, After-class_of-class, In-loop-k, Joined-section-lt-MAX_SECTIONS}
 
 -- the order was read by the class that the code has
 reads : (c : After-class_of-class) → reading c.class_of-class.result c.args.order.now ≡ Some c.args.counts
@@ -26,28 +26,13 @@ reads c = ap (λ k. reading k c.args.order.now) c.class_of-class.ensures ∙ c.r
 in_table : (c : In-loop-k) → let h = c.loop-k in let s = c.args.object.now in
     (h.k < symbol_count s) × (h.k < length h.values) × (h.k < length h.states) × (symbol_count s ≤ max_symbols)
 in_table c =
-    let l = c.loop-k.invariant.1.long in
+    let l = c.loop-k.invariant.0.long in
     let there : c.loop-k.k < symbol_count c.args.object.now = omega (arith, c.requires.2.count) in
     (there, omega (arith, l.all, l.arrays.same_length), omega (arith, l.all), symbols_few c.args.object.now c.requires.0)
 
-pub take_external-first-requires : goal.take_external-first-requires
-take_external-first-requires c =
-    (reads (goal.at.take_external-first-requires c).After-class_of-class, record { below = λ j h. absurd (omega arith); above = λ j h l. omega arith })
-
-pub take_external-taken-requires : goal.take_external-taken-requires
-take_external-taken-requires c =
-    (reads (goal.at.take_external-taken-requires c).After-class_of-class, c.loop-k.invariant.2)
-
-pub class_of-class-requires : goal.class_of-class-requires
-class_of-class-requires c = header_there c.args.object.now c.requires.0.table.header
-
-pub bounds-states-0 : goal.bounds-states-0
-bounds-states-0 c =
-    omega (arith, c.requires.3.long.some)
-
 pub loop-k-init : goal.loop-k-init
 loop-k-init c =
-    (search rules, below_one _ _ _ _ _ c.requires.3, c.take_external-first.ensures.1, refl, refl)
+    (below_one _ _ _ _ _ c.requires.3, c.take_external-first.ensures.1)
 
 pub read_symbol-symbol-requires : goal.read_symbol-symbol-requires
 read_symbol-symbol-requires c =
@@ -70,38 +55,18 @@ loop-k-preserved c =
     let is : c.entry_value-value.result ≡ symbol_value s c.args.order.now c.args.addresses k =
     c.entry_value-value.ensures
     ∙ ap (λ g. of_entry s g c.if-section-lt-MAX_SECTIONS.start c.read_symbol-symbol.result) (c.take_external-taken.ensures.0 ∙ ap (λ n. external_value n c.args.order.now k) c.class_of-class.ensures)
-    ∙ value_read s c.args.order.now c.args.addresses k c.loop-k.invariant.0 (in_table (goal.at.loop-k-preserved c).In-loop-k).0 _ symbol _ (start_is (goal.at.loop-k-preserved c).Joined-section-lt-MAX_SECTIONS) in (
-      search rules,
-      rw (c.number_of.ensures, c.state_of.ensures)
-          (below_next _ _ _ _ _ _ c.loop-k.invariant.1 (in_table (goal.at.loop-k-preserved c).In-loop-k).2 c.entry_value-value.result is),
+    ∙ value_read s c.args.order.now c.args.addresses k (omega arith) (in_table (goal.at.loop-k-preserved c).In-loop-k).0 _ symbol _ (start_is (goal.at.loop-k-preserved c).Joined-section-lt-MAX_SECTIONS) in
+    let room = (in_table (goal.at.loop-k-preserved c).In-loop-k).2 in (
+      elim c.match-value.branch [
+        | in-Ok w ↦ rw (w.values-is, w.states-is) (below_resolved _ _ _ _ _ _ c.loop-k.invariant.0 room _ (sym w.in-Ok.is ∙ is))
+        | in-Err w ↦ rw (w.values-is, w.states-is) (below_unresolved _ _ _ _ _ _ c.loop-k.invariant.0 room _ (sym w.in-Err.is ∙ is))
+      ],
       c.take_external-taken.ensures.1,
-      length-set c.loop-k.values k c.number_of.result ∙ c.loop-k.invariant.3,
-      length-set c.loop-k.states k c.state_of.result ∙ c.loop-k.invariant.4,
     )
-
-pub shape_of-values : goal.shape_of-values
-shape_of-values c =
-    c.loop-k.invariant.3
-
-pub shape_of-states : goal.shape_of-states
-shape_of-states c =
-    c.loop-k.invariant.4 ∙ length-set c.args.states.now 0 8
 
 pub returns : goal.returns
 returns c =
-    (refl, below_all _ _ _ _ _ _ c.loop-k.invariant.1 c.loop-k.invariant.0 (omega (arith, c.requires.2.count)))
+    (refl, below_all _ _ _ _ _ _ c.loop-k.invariant.0 (omega arith) (omega (arith, c.requires.2.count)))
 
 pub overflow_cast-k : goal.overflow_cast-k
 overflow_cast-k c = omega (arith, in_table (goal.at.overflow_cast-k c).In-loop-k)
-
-pub offset_bounds-values-k : goal.offset_bounds-values-k
-offset_bounds-values-k c = omega (arith, in_table (goal.at.offset_bounds-values-k c).In-loop-k)
-
-pub bounds-values-k : goal.bounds-values-k
-bounds-values-k c = omega (arith, in_table (goal.at.bounds-values-k c).In-loop-k)
-
-pub bounds-states-k : goal.bounds-states-k
-bounds-states-k c = omega (arith, in_table (goal.at.bounds-states-k c).In-loop-k)
-
-pub overflow_add-k : goal.overflow_add-k
-overflow_add-k c = omega (arith, in_table (goal.at.overflow_add-k c).In-loop-k)
