@@ -72,7 +72,7 @@ pub struct Judged {
 // How many symbols most objects have at most. Arrays for more are set to 0 only where they are needed.
 const FEW_SYMBOLS: usize = 1024;
 
-// Checks 9 to 14. `values` and `states` come with zeros: S is worked out for every symbol first.
+// Checks 9 to 14. `values` and `states` come as they are before anything is stored: S is worked out for every symbol first.
 fn judge_by_values(
     object: &[u8],
     order: &[u8],
@@ -81,7 +81,7 @@ fn judge_by_values(
     addresses: Addresses,
     symbols: Symbols,
     values: &mut [u64],
-    states: &mut [u8],
+    states: &mut [Result<(), Reason>],
     highs: &mut [u32],
     words: &mut [u64],
     sizes: &mut [u8],
@@ -122,7 +122,7 @@ fn judge_few_symbols(
     ensures { JudgedWell object.now order.now len result words.new sizes.new }
 {
     let mut values = [0u64; FEW_SYMBOLS];
-    let mut states = [0u8; FEW_SYMBOLS];
+    let mut states = [Err(Reason::PastTable); FEW_SYMBOLS];
     judge_by_values(
         object,
         order,
@@ -155,7 +155,7 @@ fn judge_all_symbols(
     ensures { JudgedWell object.now order.now len result words.new sizes.new }
 {
     let mut values = [0u64; MAX_SYMBOLS];
-    let mut states = [0u8; MAX_SYMBOLS];
+    let mut states = [Err(Reason::PastTable); MAX_SYMBOLS];
     judge_by_values(
         object,
         order,

@@ -29,7 +29,13 @@ pub struct Halt {
 
 // Why the symbol of relocation j of a site has no value, or, if it has one, why that is no use to a relocation that takes a pair. It is
 // asked for only once a relocation has broken a rule.
-fn reason_at(object: &[u8], site: Site, values: &[u64], states: &[u8], j: usize) -> Reason
+fn reason_at(
+    object: &[u8],
+    site: Site,
+    values: &[u64],
+    states: &[Result<(), Reason>],
+    j: usize,
+) -> Reason
     requires { There object.now site j × ValueArrays values.now states.now }
     ensures { result ≡ why (listed values.now states.now (entry object.now site j).symbol) }
 {
@@ -72,7 +78,7 @@ fn check_site(
     symbols: Symbols,
     site: Site,
     values: &[u64],
-    states: &[u8],
+    states: &[Result<(), Reason>],
     highs: &mut [u32],
     words: &mut [u64],
     sizes: &mut [u8],
@@ -122,7 +128,7 @@ pub fn check_relocations(
     symbols: Symbols,
     addresses: Addresses,
     values: &[u64],
-    states: &[u8],
+    states: &[Result<(), Reason>],
     highs: &mut [u32],
     words: &mut [u64],
     sizes: &mut [u8],

@@ -1,5 +1,5 @@
 -- What functions require of their callers.
-use Rattle.placing_symbols.specs.Reasons.{SymbolValue}
+use Rattle.placing_symbols.specs.Reasons.{State, SymbolValue}
 use Rattle.std.specs.Prelude.{◌≡◌, true, List, ℕ, ◌-◌, ◌^◌, ◌≤◌, ◌<◌, length}
 use Rattle.elf_read.specs.declared.Relocation.{Relocation}
 use Rattle.elf_read.specs.Entries.{symbol_count}
@@ -37,7 +37,7 @@ pub record Listing (object : List ℕ) (x : Site) (l : List ℕ) (made : ℕ) : 
   pub highs : 0 < made → Listed object x l (made - 1)
 
 -- what does not change over a site: a sound object with its symbols, and the arrays of their values
-pub record Lookups (object : List ℕ) (symbols : Symbols) (values states : List ℕ) : Type 0 where
+pub record Lookups (object : List ℕ) (symbols : Symbols) (values : List ℕ) (states : List State) : Type 0 where
   pub sound : SoundObject object
   pub symbols_are : SymbolsOf object symbols
   pub arrays : ValueArrays values states

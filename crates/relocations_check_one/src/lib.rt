@@ -18,7 +18,7 @@ use elf_read::{Relocation, class_of};
 use numbers_arithmetic::{add64, difference};
 use numbers_bytes::read_bytes;
 use numbers_definitions::{Address, SectionOffset};
-use placing_symbols::{Symbols, value_at};
+use placing_symbols::{Reason, Symbols, value_at};
 use relocations_decisions::{stack_bits, takes_pair};
 use relocations_patch::{apply_rule, symbol_sum};
 use relocations_rela::shape::{Trail, advance, is_shape_well, shares_place};
@@ -104,7 +104,13 @@ fn found_bytes(object: &[u8], site: Site, rule: Rule, here: Relocation, j: usize
 }
 
 // T - P of relocation k. S + A is not reduced first: the difference is.
-fn distance_at(object: &[u8], site: Site, values: &[u64], states: &[u8], k: usize) -> u64
+fn distance_at(
+    object: &[u8],
+    site: Site,
+    values: &[u64],
+    states: &[Result<(), Reason>],
+    k: usize,
+) -> u64
     requires { There object.now site k × ValueArrays values.now states.now }
     ensures { result ≡ distance_by (listed values.now states.now) object.now site k }
 {
@@ -132,7 +138,7 @@ fn high_half(
     object: &[u8],
     site: Site,
     values: &[u64],
-    states: &[u8],
+    states: &[Result<(), Reason>],
     pair: Option<usize>,
     made: u64,
 ) -> Partner
@@ -160,7 +166,7 @@ fn labelled(
     symbols: Symbols,
     site: Site,
     values: &[u64],
-    states: &[u8],
+    states: &[Result<(), Reason>],
     highs: &mut [u32],
     rule: Rule,
     here: Relocation,
@@ -199,7 +205,7 @@ fn take_partner(
     symbols: Symbols,
     site: Site,
     values: &[u64],
-    states: &[u8],
+    states: &[Result<(), Reason>],
     highs: &mut [u32],
     rule: Rule,
     here: Relocation,
@@ -230,7 +236,7 @@ fn check_resolved(
     symbols: Symbols,
     site: Site,
     values: &[u64],
-    states: &[u8],
+    states: &[Result<(), Reason>],
     highs: &mut [u32],
     rule: Rule,
     here: Relocation,
@@ -293,7 +299,7 @@ fn check_store(
     symbols: Symbols,
     site: Site,
     values: &[u64],
-    states: &[u8],
+    states: &[Result<(), Reason>],
     highs: &mut [u32],
     rule: Rule,
     here: Relocation,
@@ -351,7 +357,7 @@ fn step_store(
     symbols: Symbols,
     site: Site,
     values: &[u64],
-    states: &[u8],
+    states: &[Result<(), Reason>],
     highs: &mut [u32],
     trail: Trail,
     rule: Rule,
@@ -417,7 +423,7 @@ pub fn check_one(
     symbols: Symbols,
     site: Site,
     values: &[u64],
-    states: &[u8],
+    states: &[Result<(), Reason>],
     highs: &mut [u32],
     trail: Trail,
     decision: Decision,

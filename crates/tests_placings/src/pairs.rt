@@ -118,7 +118,7 @@ fn passed(
 {
     let symbols = placing_symbols::symbols_of(object);
     let mut numbers = [0u64; MAX_SYMBOLS];
-    let mut states = [0u8; MAX_SYMBOLS];
+    let mut states = [Err(Reason::PastTable); MAX_SYMBOLS];
     let known = placing_symbols::symbol_values(
         object,
         order,
@@ -146,7 +146,12 @@ fn addresses(out: &mut impl Write, array: Addresses, n: usize) -> io::Result<()>
 
 // The value of each of n symbols, and of three numbers past the table. There are at most MAX_SYMBOLS symbols, so the
 // `return` is never taken.
-fn values(out: &mut impl Write, numbers: &[u64], states: &[u8], n: usize) -> io::Result<()>
+fn values(
+    out: &mut impl Write,
+    numbers: &[u64],
+    states: &[Result<(), Reason>],
+    n: usize,
+) -> io::Result<()>
     requires { ValueArrays numbers.now states.now }
 {
     if MAX_SYMBOLS < n {

@@ -1,5 +1,5 @@
 -- Laws of the search over the relocations of a site.
-use Rattle.placing_symbols.specs.Reasons.{SymbolValue}
+use Rattle.placing_symbols.specs.Reasons.{State, SymbolValue}
 use mathlib.Core.Path.{◌≡◌, refl, sym, ap, ◌∙◌, subst}
 use mathlib.Core.Bool.{true, cond}
 use mathlib.Core.List.{List}
@@ -88,7 +88,7 @@ module _ (object order addresses : List ℕ) (x : Site) where
       go Refused e = rw e
 
   -- what the arrays of values say is what S says
-  module _ (values states : List ℕ) (sound : SoundObject object) (valued : Valued object order addresses values states) where
+  module _ (values : List ℕ) (states : List State) (sound : SoundObject object) (valued : Valued object order addresses values states) where
     abbrev v : ℕ → SymbolValue
     v = listed values states
 
@@ -166,7 +166,7 @@ module _ (object order addresses : List ℕ) (x : Site) (base : ℕ) (words₀ s
         sizes_same = record { same_length = refl; same = λ k h. refl };
       }
 
-  module _ (values states : List ℕ) (sound : SoundObject object) (valued : Valued object order addresses values states) (site : SoundSite object x) where
+  module _ (values : List ℕ) (states : List State) (sound : SoundObject object) (valued : Valued object order addresses values states) (site : SoundSite object x) where
     abbrev present_by : Trail → Decision → Relocation → ℕ → ℕ
     present_by t d r last = cond (shares_by t d r.offset.0) last (le_at (touched d) (found object x) r.offset.0)
 
