@@ -2,5 +2,6 @@
 pub mod Ascending
 pub mod Sizes
 pub mod Sound
+pub mod Listed
 pub mod Encoding
 pub mod Bench

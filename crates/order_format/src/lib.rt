@@ -1,14 +1,15 @@
 // An order: the window's base, where each section goes, and the values of undefined symbols.
 #![tactic(auto)]
 
-ghost use Rattle.std.specs.Prelude.{◌≡◌, ◌+◌, ◌*◌, ◌^◌, ◌≤◌, ◌<◌, length};
-ghost use Rattle.numbers_definitions.specs.Classes.{bits};
-ghost use Rattle.order_format.specs.Orders.{entry_size, empty_size, placements_start, externals_at, max_placements, reading, entry_at, ascending};
+ghost use Rattle.std.specs.Prelude.{◌≡◌, ℕ, MatchOption, ◌+◌, ◌*◌, ◌^◌, ◌≤◌, ◌<◌, length};
+ghost use Rattle.numbers_definitions.specs.Classes.{bits, address_bytes};
+ghost use Rattle.order_format.specs.Orders.{entry_size, empty_size, placements_start, externals_at, max_placements, max_externals, reading, entry_at, ascending};
+ghost use Rattle.order_format.specs.Lists.{Listed};
 ghost use Rattle.order_format.specs.Windows.{length_allowed, window_allowed};
 
 use numbers_definitions::{Address, Class};
 
-// Document 02: "Rows and placements up to 128, symbols and outside values up to 8,192, [..] object and image up to 1,048,576 bytes"
+// How many placements and external values an order may have, and how many bytes an image.
 pub const MAX_PLACEMENTS: usize = 128;
 
 pub const MAX_EXTERNALS: usize = 8192;
@@ -30,24 +31,28 @@ pub struct OrderHeader {
     pub externals: usize,
 }
 
+// How many bytes an address takes.
+fn address_size(class: Class) -> usize
+    ensures { result ≡ address_bytes class }
+{
+    match class {
+        Class::Elf32 => 4,
+        Class::Elf64 => 8,
+    }
+}
+
 // The size in bytes of an order without entries, which is three counts and the base.
 fn empty_size(class: Class) -> usize
     ensures { result ≡ empty_size class }
 {
-    match class {
-        Class::Elf32 => 16,
-        Class::Elf64 => 20,
-    }
+    12 + address_size(class)
 }
 
 // Placements start after the base and their count.
 pub fn placements_start(class: Class) -> usize
     ensures { result ≡ placements_start class }
 {
-    match class {
-        Class::Elf32 => 12,
-        Class::Elf64 => 16,
-    }
+    8 + address_size(class)
 }
 
 // Where entry i of a list that starts at `at` stands. An entry is an index of four bytes and an address.
@@ -55,10 +60,7 @@ fn entry_place(class: Class, at: usize, i: usize) -> usize
     requires { at + entry_size class * i < 2 ^ 64 }
     ensures { result ≡ at + entry_size class * i }
 {
-    match class {
-        Class::Elf32 => at + 8 * i,
-        Class::Elf64 => at + 12 * i,
-    }
+    at + (4 + address_size(class)) * i
 }
 
 // Where the external values start: after the placements and the count of the external values.
@@ -86,20 +88,36 @@ fn ascends(class: Class, order: &[u8], at: usize, n: usize) -> bool
     requires { at + entry_size class * n ≤ length order.now }
     ensures { result ≡ ascending (λ i. (entry_at class order.now at i).index) n }
 {
-    let mut i: usize = 1;
-    while i < n {
+    for i in 1..n {
         let low = read_entry(class, order, at, i - 1);
         let high = read_entry(class, order, at, i);
         if high.index <= low.index {
             return false;
         }
-        i += 1;
     }
     true
 }
 
-// Check 2: the base and the counts of an order, or nothing where the bytes are not an order. The count of a list is the four bytes before
-// the list.
+// How many entries the list that starts at `at` has, or nothing where they are more than `most`, do not lie inside the order or do
+// not ascend. The count of a list is the four bytes before it.
+fn read_list(class: Class, order: &[u8], at: usize, most: usize) -> Option<usize>
+    requires { (4 ≤ at) × (at ≤ length order.now) × (most ≤ max_externals) }
+    ensures { MatchOption result ((n : ℕ) → Listed class order.now at most n → ⊥) (λ n. Listed class order.now at most n) }
+{
+    let n = numbers_bytes::read32(order, at - 4) as usize;
+    if most < n {
+        return None;
+    }
+    if order.len() < entry_place(class, at, n) {
+        return None;
+    }
+    if !ascends(class, order, at, n) {
+        return None;
+    }
+    Some(n)
+}
+
+// Check 2: the base and the counts of an order, or nothing where the bytes are not an order.
 pub fn read_order(class: Class, order: &[u8]) -> Option<OrderHeader>
     ensures { result ≡ reading class order.now }
 {
@@ -109,26 +127,13 @@ pub fn read_order(class: Class, order: &[u8]) -> Option<OrderHeader>
     if numbers_bytes::read32(order, 0) != 1 {
         return None;
     }
-    let first = placements_start(class);
-    let placements = numbers_bytes::read32(order, first - 4) as usize;
-    if MAX_PLACEMENTS < placements {
-        return None;
-    }
+    let placements = read_list(class, order, placements_start(class), MAX_PLACEMENTS)?;
     let start = externals_start(class, placements);
     if order.len() < start {
         return None;
     }
-    let externals = numbers_bytes::read32(order, start - 4) as usize;
-    if MAX_EXTERNALS < externals {
-        return None;
-    }
+    let externals = read_list(class, order, start, MAX_EXTERNALS)?;
     if order.len() != entry_place(class, start, externals) {
-        return None;
-    }
-    if !ascends(class, order, first, placements) {
-        return None;
-    }
-    if !ascends(class, order, start, externals) {
         return None;
     }
     Some(OrderHeader {

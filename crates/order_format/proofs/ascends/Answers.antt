@@ -5,11 +5,10 @@ use native.Mathlib.Omega.{arith}
 use Rattle.order_format.specs.declared.Entry.{Entry}
 use Rattle.order_format.proofs.Laws.Ascending.{steps_more, ascending_is, ascending_not}
 use Rattle.order_format.proofs.Laws.Sizes.{entry_inside}
-use borrow.Author.Rules.{rules}
 use Rattle.order_format.proofs.ascends.Goals as goal
 
 pub loop-i-init : goal.loop-i-init
-loop-i-init c = (search rules, λ j h. absurd (omega arith))
+loop-i-init c = λ j h. absurd (omega arith)
 
 pub read_entry-low-requires : goal.read_entry-low-requires
 read_entry-low-requires c =
@@ -29,7 +28,7 @@ pub loop-i-preserved : goal.loop-i-preserved
 loop-i-preserved c =
     let low : _ ≡ _ = ap (λ (e : Entry). e.index) c.read_entry-low.ensures in
     let high : _ ≡ _ = ap (λ (e : Entry). e.index) c.read_entry-high.ensures in
-    (search rules, steps_more _ _ c.loop-i.invariant.1 (omega arith) (omega arith))
+    steps_more _ _ c.loop-i.invariant (omega arith) (omega arith)
 
 pub returns : goal.returns
-returns c = sym (ascending_is _ _ (λ i h. c.loop-i.invariant.1 i (omega arith)))
+returns c = sym (ascending_is _ _ (λ i h. c.loop-i.invariant i (omega arith)))
