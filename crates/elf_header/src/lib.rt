@@ -8,11 +8,11 @@ ghost use Rattle.elf_read.specs.Headers.{class_of, header_size};
 ghost use Rattle.elf_read.specs.Requires.{HeaderInside};
 ghost use Rattle.elf_header.specs.Headers.{header_allowed, table_allowed};
 
-use elf_read::{MAX_SECTIONS, class_of, header_size};
+use elf_read::{MAX_SECTIONS, by, class_of, header_size, section_size};
 use numbers_arithmetic::ends_within;
 use numbers_definitions::Class;
 
-// Document 02: "object and image up to 1,048,576 bytes"
+// An object has at most 1,048,576 bytes.
 pub const MAX_OBJECT: usize = 1_048_576;
 
 // Whether the header says its own size.
@@ -20,10 +20,8 @@ fn is_size_said(object: &[u8]) -> bool
     requires { HeaderInside object.now }
     ensures { result ≡ eqb (le_at 2 object.now (by (class_of object.now) 40 52)) (header_size (class_of object.now)) }
 {
-    match class_of(object) {
-        Class::Elf32 => numbers_bytes::read16(object, 40) == 52,
-        Class::Elf64 => numbers_bytes::read16(object, 52) == 64,
-    }
+    let class = class_of(object);
+    numbers_bytes::read16(object, by(class, 40, 52)) as usize == header_size(class)
 }
 
 // Check 4.
@@ -58,18 +56,10 @@ pub fn check_table(object: &[u8]) -> bool
     if MAX_SECTIONS < n {
         return false;
     }
+    let class = class_of(object);
+    let size = section_size(class);
     let start = elf_read::section_table(object);
-    let len = object.len() as u64;
-    match class_of(object) {
-        Class::Elf32 => {
-            (numbers_bytes::read16(object, 46) == 40)
-                & (1 <= n)
-                & ends_within(start.0, 40 * n as u64, len)
-        }
-        Class::Elf64 => {
-            (numbers_bytes::read16(object, 58) == 64)
-                & (1 <= n)
-                & ends_within(start.0, 64 * n as u64, len)
-        }
-    }
+    (numbers_bytes::read16(object, by(class, 46, 58)) as u64 == size)
+        & (1 <= n)
+        & ends_within(start.0, size * n as u64, object.len() as u64)
 }

@@ -1,7 +1,8 @@
 // An ELF object of either class: its header, sections, symbols and relocations. Everything is read out of the caller's bytes.
 #![tactic(auto)]
 
-ghost use Rattle.std.specs.Prelude.{◌≡◌, ◌&&◌, ◌+◌, ◌*◌, ◌^◌, ◌≤◌, ◌<◌, length, leb, eqb};
+ghost use Rattle.std.specs.Prelude.{◌≡◌, ◌&&◌, ◌+◌, ◌*◌, ◌/◌, ◌^◌, ◌≤◌, ◌<◌, length, leb, eqb};
+ghost use Rattle.numbers_definitions.specs.Classes.{by};
 ghost use Rattle.elf_read.specs.Headers.{class_of, header_size, section_size, symbol_size, relocation_size, section_table, section_count, file_flags, has_rvc};
 ghost use Rattle.elf_read.specs.Sections.{read_section, section_at, allocated, loaded, is_allocated, symbol_table, targets, counting_rela, relocation_entries, relocations_in, relocations_below};
 ghost use Rattle.elf_read.specs.Requires.{HeaderInside, TableInside, Inside, EntryInside};
@@ -9,10 +10,10 @@ ghost use Rattle.elf_read.specs.Entries.{bytes_of, symbol_entries, read_symbol, 
 
 use numbers_definitions::{Class, FileOffset, SectionOffset};
 
-// Document 02: "Rows and placements up to 128"
+// An object has at most 128 sections.
 pub const MAX_SECTIONS: usize = 128;
 
-// "Types used"
+// The section types that are looked for.
 pub const NULL: u32 = 0;
 
 pub const SYMTAB: u32 = 2;
@@ -39,7 +40,7 @@ pub const STT_TLS: u8 = 6;
 
 pub const STT_GNU_IFUNC: u8 = 10;
 
-// A section header (document 01: row).
+// A section header.
 #[derive(Clone, Copy)]
 pub struct Section {
     pub kind: u32,
@@ -61,7 +62,7 @@ pub struct Symbol {
     pub section: u16,
 }
 
-// A relocation (document 01: record). The addend is a signed number in 64-bit two's complement.
+// A relocation. The addend is a signed number in 64-bit two's complement.
 #[derive(Clone, Copy)]
 pub struct Relocation {
     pub offset: SectionOffset,
@@ -77,41 +78,39 @@ pub struct Location {
     pub entry: usize,
 }
 
+// One number for an object of class 1, another for one of class 2.
+pub fn by(class: Class, short: usize, long: usize) -> usize
+    ensures { result ≡ by class short long }
+{
+    match class {
+        Class::Elf32 => short,
+        Class::Elf64 => long,
+    }
+}
+
 // The sizes in bytes of the file header, a section header, a symbol and a relocation.
 pub fn header_size(class: Class) -> usize
     ensures { result ≡ header_size class }
 {
-    match class {
-        Class::Elf32 => 52,
-        Class::Elf64 => 64,
-    }
+    by(class, 52, 64)
 }
 
 pub fn section_size(class: Class) -> u64
     ensures { result ≡ section_size class }
 {
-    match class {
-        Class::Elf32 => 40,
-        Class::Elf64 => 64,
-    }
+    by(class, 40, 64) as u64
 }
 
 pub fn symbol_size(class: Class) -> u64
     ensures { (result ≡ symbol_size class) × (0 < result) }
 {
-    match class {
-        Class::Elf32 => 16,
-        Class::Elf64 => 24,
-    }
+    by(class, 16, 24) as u64
 }
 
 pub fn relocation_size(class: Class) -> u64
     ensures { (result ≡ relocation_size class) × (0 < result) }
 {
-    match class {
-        Class::Elf32 => 12,
-        Class::Elf64 => 24,
-    }
+    by(class, 12, 24) as u64
 }
 
 // The class of an object, which has at least the shorter of the two headers.
@@ -120,9 +119,10 @@ pub fn class_of(object: &[u8]) -> Class
     ensures { result ≡ class_of object.now }
 {
     if object[4] == 2 {
-        return Class::Elf64;
+        Class::Elf64
+    } else {
+        Class::Elf32
     }
-    Class::Elf32
 }
 
 // Where the section header table starts.
@@ -130,10 +130,8 @@ pub fn section_table(object: &[u8]) -> FileOffset
     requires { HeaderInside object.now }
     ensures { result.0 ≡ section_table object.now }
 {
-    match class_of(object) {
-        Class::Elf32 => FileOffset(numbers_bytes::read32(object, 32) as u64),
-        Class::Elf64 => FileOffset(numbers_bytes::read64(object, 40)),
-    }
+    let class = class_of(object);
+    FileOffset(numbers_bytes::read_address(class, object, by(class, 32, 40)))
 }
 
 // How many sections an object has.
@@ -141,10 +139,7 @@ pub fn section_count(object: &[u8]) -> usize
     requires { HeaderInside object.now }
     ensures { result ≡ section_count object.now }
 {
-    match class_of(object) {
-        Class::Elf32 => numbers_bytes::read16(object, 48) as usize,
-        Class::Elf64 => numbers_bytes::read16(object, 60) as usize,
-    }
+    numbers_bytes::read16(object, by(class_of(object), 48, 60)) as usize
 }
 
 // e_flags of an object.
@@ -152,10 +147,7 @@ fn flags_of(object: &[u8]) -> u32
     requires { HeaderInside object.now }
     ensures { result ≡ file_flags object.now }
 {
-    match class_of(object) {
-        Class::Elf32 => numbers_bytes::read32(object, 36),
-        Class::Elf64 => numbers_bytes::read32(object, 48),
-    }
+    numbers_bytes::read32(object, by(class_of(object), 36, 48))
 }
 
 // Whether bit 0 of e_flags is set: the object may hold instructions of 16 bits.
@@ -166,37 +158,20 @@ pub fn has_rvc(object: &[u8]) -> bool
     flags_of(object) % 2 == 1
 }
 
-// The section header at a place of a file of class 1.
-fn section_32(object: &[u8], at: usize) -> Section
-    requires { at + section_size Class.Elf32 ≤ length object.now }
-    ensures { result ≡ read_section Class.Elf32 object.now at }
+// The section header at a place.
+fn section_header(class: Class, object: &[u8], at: usize) -> Section
+    requires { at + section_size class ≤ length object.now }
+    ensures { result ≡ read_section class object.now at }
 {
     Section {
         kind: numbers_bytes::read32(object, at + 4),
-        flags: numbers_bytes::read32(object, at + 8) as u64,
-        offset: FileOffset(numbers_bytes::read32(object, at + 16) as u64),
-        size: numbers_bytes::read32(object, at + 20) as u64,
-        link: numbers_bytes::read32(object, at + 24),
-        info: numbers_bytes::read32(object, at + 28),
-        alignment: numbers_bytes::read32(object, at + 32) as u64,
-        entsize: numbers_bytes::read32(object, at + 36) as u64,
-    }
-}
-
-// The section header at a place of a file of class 2.
-fn section_64(object: &[u8], at: usize) -> Section
-    requires { at + section_size Class.Elf64 ≤ length object.now }
-    ensures { result ≡ read_section Class.Elf64 object.now at }
-{
-    Section {
-        kind: numbers_bytes::read32(object, at + 4),
-        flags: numbers_bytes::read64(object, at + 8),
-        offset: FileOffset(numbers_bytes::read64(object, at + 24)),
-        size: numbers_bytes::read64(object, at + 32),
-        link: numbers_bytes::read32(object, at + 40),
-        info: numbers_bytes::read32(object, at + 44),
-        alignment: numbers_bytes::read64(object, at + 48),
-        entsize: numbers_bytes::read64(object, at + 56),
+        flags: numbers_bytes::read_address(class, object, at + 8),
+        offset: FileOffset(numbers_bytes::read_address(class, object, at + by(class, 16, 24))),
+        size: numbers_bytes::read_address(class, object, at + by(class, 20, 32)),
+        link: numbers_bytes::read32(object, at + by(class, 24, 40)),
+        info: numbers_bytes::read32(object, at + by(class, 28, 44)),
+        alignment: numbers_bytes::read_address(class, object, at + by(class, 32, 48)),
+        entsize: numbers_bytes::read_address(class, object, at + by(class, 36, 56)),
     }
 }
 
@@ -205,11 +180,13 @@ pub fn read_section(object: &[u8], i: usize) -> Section
     requires { TableInside object.now × (i < section_count object.now) }
     ensures { result ≡ section_at object.now i }
 {
+    let class = class_of(object);
     let table = section_table(object);
-    match class_of(object) {
-        Class::Elf32 => section_32(object, table.0 as usize + 40 * i),
-        Class::Elf64 => section_64(object, table.0 as usize + 64 * i),
-    }
+    section_header(
+        class,
+        object,
+        table.0 as usize + section_size(class) as usize * i,
+    )
 }
 
 // Whether a section takes up addresses at run time.
@@ -232,13 +209,10 @@ pub fn symbol_table(object: &[u8]) -> usize
     ensures { result ≡ symbol_table object.now }
 {
     let n = section_count(object);
-    let mut i: usize = 0;
-    while i < n {
-        let h = read_section(object, i);
-        if h.kind == SYMTAB {
+    for i in 0..n {
+        if read_section(object, i).kind == SYMTAB {
             return i;
         }
-        i += 1;
     }
     n
 }
@@ -249,10 +223,7 @@ pub fn is_allocated_section(object: &[u8], i: u32) -> bool
     ensures { result ≡ is_allocated object.now i }
 {
     let at = i as usize;
-    if section_count(object) <= at {
-        return false;
-    }
-    is_allocated(read_section(object, at))
+    at < section_count(object) && is_allocated(read_section(object, at))
 }
 
 // Whether a section's info names an allocated section.
@@ -277,11 +248,7 @@ pub fn relocates(object: &[u8], i: usize, t: usize) -> bool
     requires { TableInside object.now × (i < section_count object.now) }
     ensures { result ≡ (counting_rela object.now i && eqb (section_at object.now i).info t) }
 {
-    let h = read_section(object, i);
-    if h.info as usize != t {
-        return false;
-    }
-    is_counting_rela(object, i)
+    read_section(object, i).info as usize == t && is_counting_rela(object, i)
 }
 
 // How many entries a RELA section has.
@@ -289,6 +256,7 @@ pub fn relocation_entries(object: &[u8], h: Section) -> usize
     requires { HeaderInside object.now }
     ensures { result ≡ relocation_entries (class_of object.now) h }
 {
+    // Each class has its own division, since the compiler multiplies in place of dividing by a constant.
     match class_of(object) {
         Class::Elf32 => (h.size / 12) as usize,
         Class::Elf64 => (h.size / 24) as usize,
@@ -301,9 +269,10 @@ fn relocations_in(object: &[u8], i: usize) -> usize
     ensures { result ≡ relocations_in object.now i }
 {
     if is_counting_rela(object, i) {
-        return relocation_entries(object, read_section(object, i));
+        relocation_entries(object, read_section(object, i))
+    } else {
+        0
     }
-    0
 }
 
 // Whether the sections below i together hold at most `most` relocations. The sum is not worked out where it is more: sections
@@ -312,15 +281,13 @@ pub fn relocations_within(object: &[u8], i: usize, most: usize) -> bool
     requires { TableInside object.now × (i ≤ section_count object.now) }
     ensures { result ≡ leb (relocations_below object.now i) most }
 {
-    let mut left: usize = most;
-    let mut j: usize = 0;
-    while j < i {
+    let mut left = most;
+    for j in 0..i {
         let here = relocations_in(object, j);
         if left < here {
             return false;
         }
         left -= here;
-        j += 1;
     }
     true
 }
@@ -331,10 +298,8 @@ pub fn relocations_below(object: &[u8], i: usize) -> usize
     ensures { result ≡ relocations_below object.now i }
 {
     let mut total: usize = 0;
-    let mut j: usize = 0;
-    while j < i {
+    for j in 0..i {
         total += relocations_in(object, j);
-        j += 1;
     }
     total
 }
@@ -354,6 +319,7 @@ pub fn symbol_entries(object: &[u8], h: Section) -> usize
     requires { HeaderInside object.now }
     ensures { result ≡ symbol_entries (class_of object.now) h }
 {
+    // Each class has its own division, as in `relocation_entries`.
     match class_of(object) {
         Class::Elf32 => (h.size / 16) as usize,
         Class::Elf64 => (h.size / 24) as usize,
@@ -366,37 +332,32 @@ pub fn symbol_count(object: &[u8]) -> usize
     ensures { result ≡ symbol_count object.now }
 {
     let table = symbol_table(object);
-    if section_count(object) <= table {
-        return 0;
-    }
-    symbol_entries(object, read_section(object, table))
-}
-
-// The symbol at a place of a file of class 1.
-fn symbol_32(object: &[u8], at: usize) -> Symbol
-    requires { at + symbol_size Class.Elf32 ≤ length object.now }
-    ensures { result ≡ read_symbol Class.Elf32 object.now at }
-{
-    let info = numbers_bytes::read8(object, at + 12);
-    Symbol {
-        value: SectionOffset(numbers_bytes::read32(object, at + 4) as u64),
-        kind: info % 16,
-        binding: info / 16,
-        section: numbers_bytes::read16(object, at + 14),
+    if table < section_count(object) {
+        symbol_entries(object, read_section(object, table))
+    } else {
+        0
     }
 }
 
-// The symbol at a place of a file of class 2.
-fn symbol_64(object: &[u8], at: usize) -> Symbol
-    requires { at + symbol_size Class.Elf64 ≤ length object.now }
-    ensures { result ≡ read_symbol Class.Elf64 object.now at }
+// Where entry k of a section stands whose entries have a size.
+fn entry_place(h: Section, size: u64, k: usize) -> usize
+    requires { (h.offset.0 + h.size < 2 ^ 64) × (0 < size) × (k < h.size / size) }
+    ensures { (result ≡ h.offset.0 + size * k) × (result + size ≤ h.offset.0 + h.size) }
 {
-    let info = numbers_bytes::read8(object, at + 4);
+    h.offset.0 as usize + size as usize * k
+}
+
+// The symbol at a place.
+fn symbol_entry(class: Class, object: &[u8], at: usize) -> Symbol
+    requires { at + symbol_size class ≤ length object.now }
+    ensures { result ≡ read_symbol class object.now at }
+{
+    let info = numbers_bytes::read8(object, at + by(class, 12, 4));
     Symbol {
-        value: SectionOffset(numbers_bytes::read64(object, at + 8)),
+        value: SectionOffset(numbers_bytes::read_address(class, object, at + by(class, 4, 8))),
         kind: info % 16,
         binding: info / 16,
-        section: numbers_bytes::read16(object, at + 6),
+        section: numbers_bytes::read16(object, at + by(class, 14, 6)),
     }
 }
 
@@ -405,36 +366,34 @@ pub fn read_symbol(object: &[u8], table: Section, k: usize) -> Symbol
     requires { EntryInside object.now table (symbol_entries (class_of object.now) table) k }
     ensures { result ≡ symbol_at object.now table k }
 {
-    match class_of(object) {
-        Class::Elf32 => symbol_32(object, table.offset.0 as usize + 16 * k),
-        Class::Elf64 => symbol_64(object, table.offset.0 as usize + 24 * k),
-    }
+    let class = class_of(object);
+    symbol_entry(class, object, entry_place(table, symbol_size(class), k))
 }
 
-// The relocation at a place of a file of class 1.
-fn relocation_32(object: &[u8], at: usize) -> Relocation
-    requires { at + relocation_size Class.Elf32 ≤ length object.now }
-    ensures { result ≡ read_relocation Class.Elf32 object.now at }
+// The relocation at a place. The type is the low 8 bits of the info word in class 1, and the low 32 bits in class 2.
+fn relocation_entry(class: Class, object: &[u8], at: usize) -> Relocation
+    requires { at + relocation_size class ≤ length object.now }
+    ensures { result ≡ read_relocation class object.now at }
 {
-    Relocation {
-        offset: SectionOffset(numbers_bytes::read32(object, at) as u64),
-        kind: numbers_bytes::read8(object, at + 4) as u32,
-        symbol: numbers_bytes::read32(object, at + 4) / 256,
-        addend: numbers_arithmetic::addend(numbers_bytes::read32(object, at + 8)),
-    }
-}
-
-// The relocation at a place of a file of class 2.
-fn relocation_64(object: &[u8], at: usize) -> Relocation
-    requires { at + relocation_size Class.Elf64 ≤ length object.now }
-    ensures { result ≡ read_relocation Class.Elf64 object.now at }
-{
-    let info = numbers_bytes::read64(object, at + 8);
-    Relocation {
-        offset: SectionOffset(numbers_bytes::read64(object, at)),
-        kind: (info % 0x1_0000_0000) as u32,
-        symbol: (info / 0x1_0000_0000) as u32,
-        addend: numbers_bytes::read64(object, at + 16),
+    match class {
+        Class::Elf32 => {
+            let info = numbers_bytes::read32(object, at + 4);
+            Relocation {
+                offset: SectionOffset(numbers_bytes::read32(object, at) as u64),
+                kind: info % 256,
+                symbol: info / 256,
+                addend: numbers_arithmetic::addend(numbers_bytes::read32(object, at + 8)),
+            }
+        }
+        Class::Elf64 => {
+            let info = numbers_bytes::read64(object, at + 8);
+            Relocation {
+                offset: SectionOffset(numbers_bytes::read64(object, at)),
+                kind: (info % 0x1_0000_0000) as u32,
+                symbol: (info / 0x1_0000_0000) as u32,
+                addend: numbers_bytes::read64(object, at + 16),
+            }
+        }
     }
 }
 
@@ -443,10 +402,8 @@ pub fn read_relocation(object: &[u8], h: Section, k: usize) -> Relocation
     requires { EntryInside object.now h (relocation_entries (class_of object.now) h) k }
     ensures { result ≡ relocation_at object.now h k }
 {
-    match class_of(object) {
-        Class::Elf32 => relocation_32(object, h.offset.0 as usize + 12 * k),
-        Class::Elf64 => relocation_64(object, h.offset.0 as usize + 24 * k),
-    }
+    let class = class_of(object);
+    relocation_entry(class, object, entry_place(h, relocation_size(class), k))
 }
 
 // The type of entry k of a RELA section.
@@ -454,9 +411,11 @@ pub fn read_kind(object: &[u8], h: Section, k: usize) -> u32
     requires { EntryInside object.now h (relocation_entries (class_of object.now) h) k }
     ensures { result ≡ (relocation_at object.now h k).kind }
 {
-    match class_of(object) {
-        Class::Elf32 => numbers_bytes::read8(object, h.offset.0 as usize + 12 * k + 4) as u32,
-        Class::Elf64 => numbers_bytes::read32(object, h.offset.0 as usize + 24 * k + 8),
+    let class = class_of(object);
+    let at = entry_place(h, relocation_size(class), k);
+    match class {
+        Class::Elf32 => numbers_bytes::read8(object, at + 4) as u32,
+        Class::Elf64 => numbers_bytes::read32(object, at + 8),
     }
 }
 
@@ -473,12 +432,8 @@ pub fn offset_in(class: Class, object: &[u8], h: Section, k: usize) -> SectionOf
     requires { EntryInside object.now h (relocation_entries (class_of object.now) h) k × (class ≡ class_of object.now) }
     ensures { result ≡ (relocation_at object.now h k).offset }
 {
-    match class {
-        Class::Elf32 => {
-            SectionOffset(numbers_bytes::read32(object, h.offset.0 as usize + 12 * k) as u64)
-        }
-        Class::Elf64 => SectionOffset(numbers_bytes::read64(object, h.offset.0 as usize + 24 * k)),
-    }
+    let at = entry_place(h, relocation_size(class), k);
+    SectionOffset(numbers_bytes::read_address(class, object, at))
 }
 
 // Where relocation number k is. Relocations are numbered through all counting RELA sections.
@@ -488,8 +443,7 @@ pub fn locate(object: &[u8], k: usize) -> Location
 {
     let n = section_count(object);
     let mut below: usize = 0;
-    let mut i: usize = 0;
-    while i < n {
+    for i in 0..n {
         let here = relocations_in(object, i);
         if k < below + here {
             return Location {
@@ -498,7 +452,6 @@ pub fn locate(object: &[u8], k: usize) -> Location
             };
         }
         below += here;
-        i += 1;
     }
     Location {
         section: n,

@@ -15,12 +15,6 @@ use Rattle.elf_header.proofs.check_header.Goals.{After-header_size-2}
 sized : (c : After-header_size-2) → c.header_size-2.result ≡ header_size (class_of c.args.object.now)
 sized c = c.header_size-2.ensures ∙ ap header_size c.class_of.ensures
 
-pub class_of-requires : goal.class_of-requires
-class_of-requires c = omega (arith, c.header_size.ensures)
-
-pub is_size_said-requires : goal.is_size_said-requires
-is_size_said-requires c = omega (arith, sized (goal.at.is_size_said-requires c).After-header_size-2)
-
 pub returns-then-object-gt-MAX_OBJECT : goal.returns-then-object-gt-MAX_OBJECT
 unfolding header_allowed
 returns-then-object-gt-MAX_OBJECT c = rw (lt-leb _ _ c.if-object-gt-MAX_OBJECT.true)

@@ -9,7 +9,7 @@ unfolding class_of
 returns-then-object-eq2 c =
     rw (le_at_one c.args.object.now 4, eq-eqb _ _ c.if-object-eq2.true)
 
-pub returns : goal.returns
+pub returns-else-object-eq2 : goal.returns-else-object-eq2
 unfolding class_of
-returns c =
+returns-else-object-eq2 c =
     rw (le_at_one c.args.object.now 4, ne_eqb _ _ c.if-object-eq2.false)

@@ -1,12 +1,10 @@
 -- `elf_read::locate` meets its contract.
-use Rattle.elf_read.proofs.Laws.Entries.{NotBelow}
 use mathlib.Core.Path.{◌≡◌}
-use Prim.Native.Nat.{◌-◌, ◌≤◌}
+use Prim.Native.Nat.{◌≤◌}
 use Rattle.elf_read.specs.Sections.{relocations_below}
+use Rattle.elf_read.proofs.Laws.Entries.{NotBelow}
 use Rattle.elf_read.proofs.locate.Given as goal
 
 abbrev pub invariant-loop-i : goal.invariant-loop-i
-invariant-loop-i l = (l.i ≤ l.n) × (l.below ≡ relocations_below l.object l.i) × (l.below ≤ l.k) × NotBelow l.object l.k l.i
-
-abbrev pub decreases-loop-i : goal.decreases-loop-i
-decreases-loop-i l = l.n - l.i
+invariant-loop-i l =
+    (l.below ≡ relocations_below l.object l.i) × (l.below ≤ l.k) × NotBelow l.object l.k l.i

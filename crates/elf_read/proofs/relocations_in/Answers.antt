@@ -12,8 +12,8 @@ returns-then-is_counting_rela c =
     let counts : counting_rela s c.args.i ≡ true = sym c.is_counting_rela.ensures ∙ c.if-is_counting_rela.true in
     rw counts (c.relocation_entries.ensures ∙ ap (relocation_entries (class_of s)) c.read_section.ensures)
 
-pub returns : goal.returns
+pub returns-else-is_counting_rela : goal.returns-else-is_counting_rela
 unfolding relocations_in
-returns c =
+returns-else-is_counting_rela c =
     let counts : counting_rela c.args.object.now c.args.i ≡ false = sym c.is_counting_rela.ensures ∙ c.if-is_counting_rela.false in
     rw counts

@@ -1,6 +1,6 @@
--- `elf_read::section_64` meets its contract.
+-- `elf_read::section_header` meets its contract.
 use Rattle.elf_read.specs.Sections.{read_section}
-use Rattle.elf_read.proofs.section_64.Goals as goal
+use Rattle.elf_read.proofs.section_header.Goals as goal
 
 pub returns : goal.returns
 unfolding read_section

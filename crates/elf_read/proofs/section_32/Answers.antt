@@ -1,7 +1,0 @@
--- `elf_read::section_32` meets its contract.
-use Rattle.elf_read.specs.Sections.{read_section}
-use Rattle.elf_read.proofs.section_32.Goals as goal
-
-pub returns : goal.returns
-unfolding read_section
-returns c = cc

@@ -1,7 +1,0 @@
--- `elf_read::symbol_32` meets its contract.
-use Rattle.elf_read.specs.Entries.{read_symbol}
-use Rattle.elf_read.proofs.symbol_32.Goals as goal
-
-pub returns : goal.returns
-unfolding read_symbol
-returns c = cc
