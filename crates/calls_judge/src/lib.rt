@@ -8,7 +8,7 @@ ghost use Rattle.order_format.specs.Orders.{reading};
 ghost use Rattle.placing_symbols.specs.Requires.{SymbolsOf};
 ghost use Rattle.placing_symbols.specs.Arrays.{Blank};
 ghost use Rattle.placing_match.specs.Placements.{placement_check};
-ghost use Rattle.relocations_rules.specs.Search.{number, reason, is_broken};
+ghost use Rattle.relocations_rules.specs.Search.{number, reason};
 ghost use Rattle.calls_judgement.specs.Requires.{Readable, Named, Placeable};
 ghost use Rattle.plan_pieces.specs.Answers.{says, says_why, packed};
 ghost use Rattle.order_lookup.specs.Addresses.{no_addresses, addresses_for};
@@ -21,7 +21,7 @@ use order_format::OrderHeader;
 use order_lookup::Addresses;
 use placing_symbols::{Reason, Symbols, reason_number, symbol_values};
 use relocations_check_all::search::check_relocations;
-use relocations_rules::{Finding, RelocationCheck};
+use relocations_rules::Finding;
 
 // What a call answers. The number in an answer is that of a section, of a symbol, or of a relocation, counted from 0
 // over all relocations; a symbol that does not resolve comes with the reason.
@@ -48,11 +48,9 @@ pub enum Answer {
 
 // The answer for a relocation that breaks a rule.
 fn refusal(finding: Finding, k: u32) -> Answer
-    requires { is_broken finding ≡ true }
     ensures { answer_of result ≡ says_why (number finding) k (reason finding) }
 {
     match finding {
-        Finding::Kept => Answer::Done,
         Finding::BadShape => Answer::RelocationShape(k),
         Finding::BadSymbol(why) => Answer::SymbolUnresolved(k, why),
         Finding::BadForm => Answer::WrongInstruction(k),
@@ -94,12 +92,12 @@ fn judge_by_values(
     match check_relocations(
         object, order, symbols, placed, values, states, highs, words, sizes,
     ) {
-        RelocationCheck::Passed => Judged {
+        Ok(()) => Judged {
             answer: Answer::Done,
             addresses: placed,
         },
-        RelocationCheck::Broken(finding, k) => Judged {
-            answer: refusal(finding, k),
+        Err(broken) => Judged {
+            answer: refusal(broken.finding, broken.relocation),
             addresses: placed,
         },
     }

@@ -12,8 +12,7 @@ use Rattle.plan_pieces.specs.Plans.{Piece, Verdict, refused, plan, Judge}
 use Rattle.placing_match.specs.Placements.{placement_check}
 use Rattle.placing_match.specs.Externals.{external_check}
 use Rattle.placing_check.specs.Placing.{placing_check}
-use Rattle.relocations_rules.specs.declared.RelocationCheck.{RelocationCheck}
-use Rattle.relocations_rules.specs.declared.RelocationCheck.TheVariants.{Passed as AllKept, Broken}
+use Rattle.relocations_rules.specs.declared.Broken.{Broken}
 use Rattle.relocations_rules.specs.Search.{number, reason, relocation_check}
 use Rattle.relocations_bytes.specs.Sections.{relocated}
 use Rattle.placing_span.specs.Pieces.{pieces}
@@ -35,9 +34,9 @@ after_fault n (Ok _) next = next
 after_fault n (Err place) next = refused (says n place)
 
 -- 9 to 14; 10 carries its reason
-abbrev pub after_relocations : RelocationCheck → Verdict → Verdict
-after_relocations AllKept next = next
-after_relocations (Broken finding k) next = refused (says_why (number finding) k (reason finding))
+abbrev pub after_relocations : Result ⊤ Broken → Verdict → Verdict
+after_relocations (Ok _) next = next
+after_relocations (Err b) next = refused (says_why (number b.finding) b.relocation (reason b.finding))
 
 -- ---- the plan: the bytes of each loaded section after its relocations, "each at its address less that order's base"
 

@@ -13,7 +13,6 @@ use Rattle.placing_match.specs.Placements.{placement_check}
 use Rattle.placing_match.specs.Externals.{external_check}
 use Rattle.placing_check.specs.Placing.{placing_check, has_bytes}
 use Rattle.relocations_bytes.specs.Sections.{relocated}
-use Rattle.relocations_rules.specs.declared.RelocationCheck.TheVariants.{Passed as AllKept}
 use Rattle.relocations_rules.specs.Search.{relocation_check}
 
 -- checks 4, 2, 3 and 5
@@ -37,7 +36,7 @@ pub record Placeable (object order : List ℕ) (counts : OrderHeader) (len : ℕ
 -- checks 2 to 14
 pub record Fitting (object order : List ℕ) (counts : OrderHeader) (len : ℕ) : Type 0 where
   pub placeable : Placeable object order counts len
-  pub relocations : relocation_check object order (addresses_for object order) ≡ AllKept
+  pub relocations : relocation_check object order (addresses_for object order) ≡ Ok tt
 
 -- an image with section t laid into it
 unfoldable pub with_section : List ℕ → List ℕ → ℕ → List ℕ → List ℕ

@@ -19,7 +19,6 @@ ghost use Rattle.relocations_apply.specs.Requires.{Storable, Sided, Indexed};
 use numbers_bytes::write_bytes;
 use numbers_definitions::Class;
 use relocations_rela::sites::{Site, site_at};
-use relocations_rules::RelocationCheck;
 
 // Stores what relocation j of a site leaves, if it leaves anything. Its word and its size are at place k of the lists.
 fn store_one(
@@ -103,7 +102,7 @@ pub fn lay_section(
     t: usize,
     part: &mut [u8],
 )
-    requires { SoundObject object.now × Placed object.now addresses.now × (relocation_check object.now order.now addresses.now ≡ RelocationCheck.Passed)
+    requires { SoundObject object.now × Placed object.now addresses.now × (relocation_check object.now order.now addresses.now ≡ Ok tt)
         × Worked object.now order.now addresses.now words.now sizes.now
         × (t < section_count object.now) × (loaded (section_at object.now t) ≡ true) × (length part.old ≡ (section_at object.now t).size)
         × (section_count object.now ≤ length addresses.now) × Indexed object.now relas.now starts.now }

@@ -8,14 +8,15 @@ use Rattle.relocations_rela.specs.declared.sites.Site.{Site}
 use Rattle.relocations_rela.specs.Sites.{site_at, count, decision_at}
 use Rattle.relocations_decisions.specs.Decisions.{touched}
 use Rattle.relocations_rules.specs.declared.Finding.{Finding}
-use Rattle.relocations_rules.specs.declared.Finding.TheVariants.{Kept, BadShape, BadSymbol, BadForm, NoPair, OutOfReach, OffBoundary}
-use Rattle.relocations_rules.specs.Search.{number, finding}
+use Rattle.relocations_rules.specs.declared.Finding.TheVariants.{BadShape, BadSymbol, BadForm, NoPair, OutOfReach, OffBoundary}
+use Rattle.relocations_rules.specs.Search.{finding}
 use Rattle.relocations_bytes.specs.Words.{word_at}
+use Rattle.relocations_check_one.specs.Outcomes.{number_of}
 
 -- the finding with a number, and with a reason where that is 10
 abbrev pub finding_of_number : ℕ → Reason → Finding
 finding_of_number n reason =
-    cond (eqb n 9) BadShape (cond (eqb n 10) (BadSymbol reason) (cond (eqb n 11) BadForm (cond (eqb n 12) NoPair (cond (eqb n 13) OutOfReach (cond (eqb n 14) OffBoundary Kept)))))
+    cond (eqb n 9) BadShape (cond (eqb n 10) (BadSymbol reason) (cond (eqb n 11) BadForm (cond (eqb n 12) NoPair (cond (eqb n 13) OutOfReach OffBoundary))))
 
 module _ (object order addresses : List ℕ) where
   -- the words and sizes of the first n relocations of a site, which begin at a place of the lists
@@ -25,13 +26,13 @@ module _ (object order addresses : List ℕ) where
 
   -- none of the first n relocations of a site breaks a rule
   abbrev pub KeptBelow : Site → ℕ → Type 0
-  KeptBelow x n = (j : ℕ) → j < n → number (finding object order addresses x j) ≡ 0
+  KeptBelow x n = (j : ℕ) → j < n → number_of (finding object order addresses x j) ≡ 0
 
   -- relocation j of a site is the first that breaks a rule, the one with number n
   pub record BrokenFirst (x : Site) (n j : ℕ) : Type 0 where
     pub there : j < count object x
     pub below : KeptBelow x j
-    pub number_is : n ≡ number (finding object order addresses x j)
+    pub number_is : n ≡ number_of (finding object order addresses x j)
     pub some : n ≡ 0 → ⊥
 
   -- the words and sizes of the relocations of the sections below i

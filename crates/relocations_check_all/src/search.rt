@@ -17,7 +17,7 @@ use placing_symbols::{Reason, Symbols, value_at};
 use relocations_check_one::check_one;
 use relocations_rela::shape::no_trail;
 use relocations_rela::sites::{Site, site_at};
-use relocations_rules::{Finding, RelocationCheck};
+use relocations_rules::{Broken, Finding};
 use relocations_types::decide;
 
 // What is found in a site: the number of the first broken rule, or 0, and the relocation that breaks it.
@@ -65,10 +65,7 @@ fn finding_of(number: u64, reason: Reason) -> Finding
     if number == 13 {
         return Finding::OutOfReach;
     }
-    if number == 14 {
-        return Finding::OffBoundary;
-    }
-    Finding::Kept
+    Finding::OffBoundary
 }
 
 // Checks the relocations of a site in file order, each through all rules before the next, and stores what they leave from
@@ -132,15 +129,15 @@ pub fn check_relocations(
     highs: &mut [u32],
     words: &mut [u64],
     sizes: &mut [u8],
-) -> RelocationCheck
+) -> Result<(), Broken>
     requires { SoundObject object.now × SymbolsOf object.now symbols × Placed object.now addresses × Valued object.now order.now addresses values.now states.now
         × Roomy object.now highs.old × Roomy object.now words.old × Roomy object.now sizes.old }
     ensures { (result ≡ relocation_check object.now order.now addresses)
-        × (result ≡ RelocationCheck.Passed → WordedBelow object.now order.now addresses (section_count object.now) words.new sizes.new)
+        × (result ≡ Ok tt → WordedBelow object.now order.now addresses (section_count object.now) words.new sizes.new)
         × (length highs.new ≡ length highs.old) × (length words.new ≡ length words.old) × (length sizes.new ≡ length sizes.old) }
 {
     let n = elf_read::section_count(object);
-    let mut result = RelocationCheck::Passed;
+    let mut result = Ok(());
     let mut number: usize = 0;
     let mut i: usize = 0;
     'search: while i < n {
@@ -155,7 +152,10 @@ pub fn check_relocations(
         if halt.number != 0 {
             let reason = reason_at(object, site, values, states, halt.at);
             let finding = finding_of(halt.number, reason);
-            result = RelocationCheck::Broken(finding, (number + halt.at) as u32);
+            result = Err(Broken {
+                finding,
+                relocation: (number + halt.at) as u32,
+            });
             break 'search;
         }
         number += elf_read::relocation_entries(object, site.rela);

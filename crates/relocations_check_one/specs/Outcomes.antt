@@ -20,6 +20,11 @@ use Rattle.relocations_rules.specs.Rules.{symbol, symbol_well, why, form_well, p
 use Rattle.relocations_rules.specs.Search.{number, check, first_broken}
 use Rattle.relocations_bytes.specs.Words.{word}
 
+-- the number of what is found, or 0
+abbrev pub number_of : Option Finding → ℕ
+number_of None = 0
+number_of (Some f) = number f
+
 -- the number of the first of 10 to 13 that is broken, or 0: of the symbol, the form, the pair and the distance, by whether each is kept
 unfoldable pub store_number : Bool → Bool → Bool → Bool → ℕ
 store_number symbols forms pairs reaches = cond symbols (cond forms (cond pairs (cond reaches 0 13) 12) 11) 10
@@ -32,7 +37,7 @@ module _ (v : ℕ → SymbolValue) (object : List ℕ) (x : Site) where
   target_by j = T (address_width object) (S (value_by j)) (A object x j)
 
   -- what relocation j breaks
-  unfoldable pub finding_by : ℕ → Finding
+  unfoldable pub finding_by : ℕ → Option Finding
   finding_by j =
       first_broken
       (check BadShape (shape_well object x j)
@@ -71,7 +76,7 @@ module _ (v : ℕ → SymbolValue) (object : List ℕ) (x : Site) where
   -- what is found out about relocation j: the number of the first of 9 to 14 that it breaks, or 0; and if it breaks none, the bytes that it
   -- leaves, where it found b
   pub record Comes (j b n w : ℕ) : Type 0 where
-    pub number_is : n ≡ number (finding_by j)
+    pub number_is : n ≡ number_of (finding_by j)
     pub word_is : n ≡ 0 → w ≡ word_by j b
 
 -- What goes on to the next relocation: how many bytes this one left, what the previous non-marker left, and the trail.

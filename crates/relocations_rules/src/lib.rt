@@ -4,10 +4,9 @@
 
 use placing_symbols::Reason;
 
-// Which of checks 9 to 14 a relocation breaks, if it breaks one; and why its symbol has no value, where that is 10.
+// Which of checks 9 to 14 a relocation breaks; and why its symbol has no value, where that is 10.
 #[derive(Clone, Copy)]
 pub enum Finding {
-    Kept,
     BadShape,
     BadSymbol(Reason),
     BadForm,
@@ -16,10 +15,9 @@ pub enum Finding {
     OffBoundary,
 }
 
-// What checks 9 to 14 find: nothing, or the first rule broken by the first relocation that breaks one, and the number
-// of that relocation.
+// The first rule broken by the first relocation that breaks one, and the number of that relocation.
 #[derive(Clone, Copy)]
-pub enum RelocationCheck {
-    Passed,
-    Broken(Finding, u32),
+pub struct Broken {
+    pub finding: Finding,
+    pub relocation: u32,
 }

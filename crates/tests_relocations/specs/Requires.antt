@@ -1,8 +1,7 @@
 -- What the functions that lay ask of their callers.
-use Rattle.std.specs.Prelude.{◌≡◌, List, ℕ}
+use Rattle.std.specs.Prelude.{◌≡◌, List, ℕ, Ok}
 use Rattle.elf_check.specs.Requires.{SoundObject}
 use Rattle.relocations_rela.specs.Requires.{Placed}
-use Rattle.relocations_rules.specs.declared.RelocationCheck.TheVariants.{Passed}
 use Rattle.relocations_rules.specs.Search.{relocation_check}
 use Rattle.relocations_check_all.specs.Sites.{Worked}
 
@@ -10,5 +9,5 @@ use Rattle.relocations_check_all.specs.Sites.{Worked}
 pub record Layable (object order addresses words sizes : List ℕ) : Type 0 where
   pub sound : SoundObject object
   pub placed : Placed object addresses
-  pub passed : relocation_check object order addresses ≡ Passed
+  pub passed : relocation_check object order addresses ≡ Ok tt
   pub worked : Worked object order addresses words sizes

@@ -32,13 +32,12 @@ use Rattle.journal_history.proofs.Laws.History.{run_over, agrees_after, history_
 use Rattle.placing_match.specs.Placements.{placement_check}
 use Rattle.placing_match.specs.Externals.{external_check}
 use Rattle.placing_check.specs.Placing.{placing_check}
-use Rattle.relocations_rules.specs.declared.RelocationCheck.{RelocationCheck}
-use Rattle.relocations_rules.specs.declared.RelocationCheck.TheVariants.{Passed as AllKept, Broken}
+use Rattle.relocations_rules.specs.declared.Broken.{Broken}
 use Rattle.relocations_rules.specs.Search.{number, reason, relocation_check}
 use Rattle.placing_match.proofs.Laws.Theorems.{nothing_to_place as «none-placed»}
 use Rattle.calls_judgement.specs.Requires.{Fitting}
 use Rattle.calls_judgement.specs.Judgement.{after_test, after_sections, after_fault, after_relocations, plan_of, judgement}
-use Rattle.calls_judgement.proofs.Laws.Judgement.{broken_is, some_number, Fits, plan_fits}
+use Rattle.calls_judgement.proofs.Laws.Judgement.{some_number, Fits, plan_fits}
 use Rattle.calls_judgement.proofs.Laws.Laying.{length_fits, length_short, plan_inside, lays_inside}
 use Rattle.calls_demands.specs.Rules.{Rules}
 use Rattle.calls_demands.specs.First.{nil, rule, Checks, none, one, HoldBelow, AllHold, FirstBroken, table}
@@ -250,7 +249,7 @@ refused_above object order len answer h =
     by : (m q r : ℕ) → 0 < m → refused (says_why m q r) ≡ refused answer → 0 < answer.number
     by m q r l e = let same : says_why m q r ≡ answer = cc in omega (arith, ap (λ x. x.number) same)
 
-    go : (t a b : Bool) (c : Result ⊤ ℕ) (d e f : Result ⊤ ℕ) (g : RelocationCheck) → relocation_check object order (addresses_for object order) ≡ g
+    go : (t a b : Bool) (c : Result ⊤ ℕ) (d e f : Result ⊤ ℕ) (g : Result ⊤ Broken) → relocation_check object order (addresses_for object order) ≡ g
         → after_test 4 t (after_test 2 a (after_test 3 b (after_sections c (after_fault 6 d (after_fault 7 e (after_fault 8 f (after_relocations g (plan (plan_of object order))))))))) ≡ refused answer
         → 0 < answer.number
     go false a b c d e f g q h = by 4 0 0 (omega arith) h
@@ -260,10 +259,10 @@ refused_above object order len answer h =
     go true true true (Ok _) (Err i) e f g q h = by 6 i 0 (omega arith) h
     go true true true (Ok _) (Ok _) (Err i) f g q h = by 7 i 0 (omega arith) h
     go true true true (Ok _) (Ok _) (Ok _) (Err i) g q h = by 8 i 0 (omega arith) h
-    go true true true (Ok _) (Ok _) (Ok _) (Ok _) (Broken x k) q h =
-        let some : number x ≡ 0 → ⊥ = eqb-false (number x) 0 (some_number x (broken_is object order (addresses_for object order) x k q)) in
-        by (number x) k (reason x) (omega arith) h
-    go true true true (Ok _) (Ok _) (Ok _) (Ok _) AllKept q h =
+    go true true true (Ok _) (Ok _) (Ok _) (Ok _) (Err b) q h =
+        let some : number b.finding ≡ 0 → ⊥ = eqb-false (number b.finding) 0 (some_number b.finding) in
+        by (number b.finding) b.relocation (reason b.finding) (omega arith) h
+    go true true true (Ok _) (Ok _) (Ok _) (Ok _) (Ok _) q h =
         let z : ◌≡◌ {A = ℕ} 0 1 = cc in
         absurd (omega arith)
 

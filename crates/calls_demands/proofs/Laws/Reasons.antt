@@ -1,6 +1,6 @@
 -- Why a symbol failed, on whole objects: each reason of Ticket 9 is given where the ticket says so, as one list with one claim; and no call
 -- that leaves the reason out meets demand 2.
-use Rattle.std.specs.Prelude.{Ok}
+use Rattle.std.specs.Prelude.{None, Ok, Option, Some}
 use mathlib.Core.Path.{◌≡◌, refl, sym, ap, ◌∙◌, subst}
 use mathlib.Core.Bool.{false, not, ◌&&◌}
 use mathlib.Core.List.{List, [], ◌∷◌, ◌++◌, map}
@@ -78,8 +78,9 @@ pub record Example : Type 0 where
   pub given : Answer
   pub said : Answer
 
-abbrev answered : Finding → Answer
-answered f = says_why (number f) 0 (reason f)
+abbrev answered : Option Finding → Answer
+answered None = done
+answered (Some f) = says_why (number f) 0 (reason f)
 
 -- of a relocation of type 1 that names symbol 1
 abbrev of : List ℕ → ℕ → ℕ → ℕ → Example

@@ -1,5 +1,5 @@
 -- What an install answers is what the table says: done if every rule holds, otherwise the first broken rule.
-use Rattle.std.specs.Prelude.{Err, Ok, Result, ⊤}
+use Rattle.std.specs.Prelude.{Err, None, Ok, Option, Result, Some, ⊤}
 use mathlib.Core.Logic.{inl, inr}
 use mathlib.Core.Path.{◌≡◌, refl, sym, subst}
 use mathlib.Core.Bool.{Bool, true, false, not, cond, ◌&&◌}
@@ -39,11 +39,11 @@ use Rattle.relocations_rela.specs.declared.sites.Site.{Site}
 use Rattle.relocations_rela.specs.Shape.{shape_well}
 use Rattle.relocations_rela.specs.Sites.{decision_at, A, P}
 use Rattle.relocations_rules.specs.declared.Finding.{Finding}
-use Rattle.relocations_rules.specs.declared.Finding.TheVariants.{Kept, BadShape, BadSymbol, BadForm, NoPair, OutOfReach, OffBoundary}
-use Rattle.relocations_rules.specs.declared.RelocationCheck.TheVariants.{Passed as AllKept, Broken}
+use Rattle.relocations_rules.specs.declared.Finding.TheVariants.{BadShape, BadSymbol, BadForm, NoPair, OutOfReach, OffBoundary}
+use Rattle.relocations_rules.specs.declared.Broken.{Broken}
 use Rattle.relocations_values.specs.Values.{value_at, target_at}
 use Rattle.relocations_rules.specs.Rules.{symbol_well, why, form_well, pair_well, distance_well, boundary_well}
-use Rattle.relocations_rules.specs.Search.{number, reason, first_broken, finding, finding_of, is_broken, relocation_check}
+use Rattle.relocations_rules.specs.Search.{number, reason, first_broken, finding, finding_of, is_broken, blamed, relocation_check}
 use Rattle.calls_judgement.specs.Requires.{Readable, Named, Placeable, Fitting}
 use Rattle.calls_judgement.specs.Judgement.{after_test, after_sections, after_fault, after_relocations, plan_of, judgement}
 use Rattle.calls_demands.specs.Rules.{OrderWell, WindowWell, HeaderWell, TableWell, PlacedAsAllocated, ValuedIfUndefined, PlacedIfAllocated, site, entry_of, Shape, Room}
@@ -62,14 +62,14 @@ module _ (object order : List ℕ) where
   line = rule 9 0 (Shape object order) (symbol_rules object order (later_rules object order))
 
   -- what a finding says about relocation k
-  abbrev Means : ℕ → Finding → Type 0
-  Means k Kept = HoldAt line k
-  Means k BadShape = BrokenAt line (says 9 k)
-  Means k (BadSymbol why) = BrokenAt line (says_why 10 k (reason_number why))
-  Means k BadForm = BrokenAt line (says 11 k)
-  Means k NoPair = BrokenAt line (says 12 k)
-  Means k OutOfReach = BrokenAt line (says 13 k)
-  Means k OffBoundary = BrokenAt line (says 14 k)
+  abbrev Means : ℕ → Option Finding → Type 0
+  Means k None = HoldAt line k
+  Means k (Some BadShape) = BrokenAt line (says 9 k)
+  Means k (Some (BadSymbol why)) = BrokenAt line (says_why 10 k (reason_number why))
+  Means k (Some BadForm) = BrokenAt line (says 11 k)
+  Means k (Some NoPair) = BrokenAt line (says 12 k)
+  Means k (Some OutOfReach) = BrokenAt line (says 13 k)
+  Means k (Some OffBoundary) = BrokenAt line (says 14 k)
 
   means : (k : ℕ) → Means k (finding_of object order (addresses_for object order) k)
   unfolding finding_of finding first_broken
@@ -95,7 +95,7 @@ module _ (object order : List ℕ) where
 
       go : (a : Bool) → shape_well object x j ≡ a → (b : Bool) → symbol_well object x j v ≡ b → (c : Bool) → form_well object x j ≡ c → (p : Bool) → pair_well object x j ≡ p
           → (q : Bool) → distance_well (class_of object) (has_rvc object) d t (P object x j) ≡ q → (r : Bool) → boundary_well d (P object x j) (A object x j) ≡ r
-          → Means k (cond a (cond b (cond c (cond p (cond q (cond r Kept OffBoundary) OutOfReach) NoPair) BadForm) (BadSymbol (why v))) BadShape)
+          → Means k (cond a (cond b (cond c (cond p (cond q (cond r None (Some OffBoundary)) (Some OutOfReach)) (Some NoPair)) (Some BadForm)) (Some (BadSymbol (why v)))) (Some BadShape))
       go false e₁ b e₂ c e₃ p e₄ q e₅ r e₆ = inl (refl, λ s. clash _ e₁ (well_shape object x j s))
       go true e₁ false e₂ c e₃ p e₄ q e₅ r e₆ = inr (shape_well_lem object x j e₁, symbol_broken object order (later_rules object order) k e₂)
       go true e₁ true e₂ false e₃ p e₄ q e₅ r e₆ = inr (shape_well_lem object x j e₁, after e₂ _ refl (inl (refl, λ s. clash _ e₃ (well_form object x j s))))
@@ -114,23 +114,17 @@ module _ (object order : List ℕ) where
             (form_well_lem object x j e₃, (pair_well_lem object x j e₄, (reach_well object x j t e₅, (boundary_well_lem object x j e₆, tt)))),
       )
 
-  kept_holds : (k : ℕ) (f : Finding) → is_broken f ≡ false → Means k f → HoldAt line k
-  kept_holds k Kept e m = m
-  kept_holds k BadShape e m = never (sym e)
-  kept_holds k (BadSymbol why) e m = never (sym e)
-  kept_holds k BadForm e m = never (sym e)
-  kept_holds k NoPair e m = never (sym e)
-  kept_holds k OutOfReach e m = never (sym e)
-  kept_holds k OffBoundary e m = never (sym e)
+  kept_holds : (k : ℕ) (f : Option Finding) → is_broken f ≡ false → Means k f → HoldAt line k
+  kept_holds k None e m = m
+  kept_holds k (Some f) e m = never (sym e)
 
-  broken_breaks : (k : ℕ) (f : Finding) → is_broken f ≡ true → Means k f → BrokenAt line (says_why (number f) k (reason f))
-  broken_breaks k Kept e m = never e
-  broken_breaks k BadShape e m = m
-  broken_breaks k (BadSymbol why) e m = m
-  broken_breaks k BadForm e m = m
-  broken_breaks k NoPair e m = m
-  broken_breaks k OutOfReach e m = m
-  broken_breaks k OffBoundary e m = m
+  broken_breaks : (k : ℕ) (f : Finding) → Means k (Some f) → BrokenAt line (says_why (number f) k (reason f))
+  broken_breaks k BadShape m = m
+  broken_breaks k (BadSymbol why) m = m
+  broken_breaks k BadForm m = m
+  broken_breaks k NoPair m = m
+  broken_breaks k OutOfReach m = m
+  broken_breaks k OffBoundary m = m
 
   -- ---- the first broken of them, over all relocations
 
@@ -140,11 +134,14 @@ module _ (object order : List ℕ) where
   kept_at : (k : ℕ) → broken k ≡ false → HoldAt line k
   kept_at k e = kept_holds k (finding_of object order (addresses_for object order) k) e (means k)
 
-  broken_here : (k : ℕ) → broken k ≡ true
-      → BrokenAt line (says_why (number (finding_of object order (addresses_for object order) k)) k (reason (finding_of object order (addresses_for object order) k)))
-  broken_here k e = broken_breaks k (finding_of object order (addresses_for object order) k) e (means k)
+  -- the relocation that is blamed, as one of n, of which those before it keep every rule
+  blamed_here : (f : Files) (tail : Checks) (next : Verdict) (n k : ℕ) → k < n → ((q : ℕ) → q < k → HoldAt line q) → (o : Option Finding) → is_broken o ≡ true → Means k o
+      → Told (check n line tail) (settle f (after_relocations (blamed o k) next)).answer
+  unfolding settle
+  blamed_here f tail next n k l below None e m = never e
+  blamed_here f tail next n k l below (Some x) e m = inr (inl (l, below, broken_breaks k x m))
 
-  relocations : (f : Files) (tail : Checks) (next : Verdict) → (relocation_check object order (addresses_for object order) ≡ AllKept → Told tail (settle f next).answer)
+  relocations : (f : Files) (tail : Checks) (next : Verdict) → (relocation_check object order (addresses_for object order) ≡ Ok tt → Told tail (settle f next).answer)
       → Told (check (relocation_count object) line tail) (settle f (after_relocations (relocation_check object order (addresses_for object order)) next)).answer
   unfolding relocation_check settle
   relocations f tail next t = go (ltb (first broken (relocation_count object)) (relocation_count object)) refl
@@ -155,8 +152,8 @@ module _ (object order : List ℕ) where
       k : ℕ
       k = first broken n
 
-      go : (b : Bool) → ltb k n ≡ b → Told (check n line tail) (settle f (after_relocations (cond b (Broken (finding_of object order (addresses_for object order) k) k) AllKept) next)).answer
-      go true e = inr (inl (ltb-true k n e, (λ q l. kept_at q (first_below broken n q l)), broken_here k (first_at broken n (ltb-true k n e))))
+      go : (b : Bool) → ltb k n ≡ b → Told (check n line tail) (settle f (after_relocations (cond b (blamed (finding_of object order (addresses_for object order) k) k) (Ok tt)) next)).answer
+      go true e = blamed_here f tail next n k (ltb-true k n e) (λ q l. kept_at q (first_below broken n q l)) _ (first_at broken n (ltb-true k n e)) (means k)
       go false e = later n line tail (settle f next).answer (λ q l. kept_at q (first_below broken n q (omega (arith, ltb-false k n e)))) (t (rw e))
 
 -- ---- the other checks, each before any that follow, which may count on it

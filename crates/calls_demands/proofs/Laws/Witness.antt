@@ -1,7 +1,7 @@
 -- Two installs of one object that stand in one image, so that the demands are not empty where they say most: a paired high and low half, a
 -- call, a branch back, ADD and SUB at one place, and a taking-back. What follows holds of any two calls that keep what is promised, and of
 -- ours.
-use Rattle.std.specs.Prelude.{None, Option, Some}
+use Rattle.std.specs.Prelude.{None, Ok, Option, Some}
 use mathlib.Core.Path.{◌≡◌, refl, sym, ap, subst, ◌∙◌}
 use mathlib.Core.Bool.{true, not}
 use mathlib.Core.List.{List, [], ◌∷◌, ◌++◌}
@@ -57,7 +57,6 @@ use Rattle.placing_symbols.specs.Values.{of_section, of_entry, symbol_value}
 use Rattle.relocations_rela.specs.Sites.{site_at, decision_at}
 use Rattle.relocations_rela.specs.Shape.{never_falls, stays_inside, previous, shares_place, no_overlap, shape_well}
 use Rattle.relocations_values.specs.Pairs.{is_pair, how_many, pair_of}
-use Rattle.relocations_rules.specs.declared.RelocationCheck.TheVariants.{Passed}
 use Rattle.relocations_rules.specs.Rules.{symbol, in_target, symbol_well, stands_well, form_well, pair_well}
 use Rattle.relocations_rules.specs.Search.{first_broken, finding, finding_of, relocation_check}
 use Rattle.relocations_rules.proofs.Laws.Search.{passed_kept, kept_rules, Rules as Tests}
@@ -171,7 +170,7 @@ record Fine (code from : ℕ) : Type 0 where
   order_is : well_formed (class_of object) (order_with code) ≡ true
   window_is : window_allowed (address_width object) (base_for object (order_with code)) 52 ≡ true
   placed_are : everywhere (λ i. not (misplaced object (addresses_for object (order_with code)) (base_for object (order_with code)) 52 i)) 6 ≡ true
-  relocations_are : relocation_check object (order_with code) (addresses_for object (order_with code)) ≡ Passed
+  relocations_are : relocation_check object (order_with code) (addresses_for object (order_with code)) ≡ Ok tt
   -- what is laid lies in 28 bytes
   only_laid : (t b : ℕ) → Covers object (order_with code) t b → (from ≤ b) × (b < from + 28)
 

@@ -13,7 +13,7 @@ use Rattle.relocations_rela.specs.Requires.{Placed}
 use Rattle.relocations_check_all.specs.Sites.{Roomy}
 use Rattle.relocations_rules.specs.Search.{relocation_check}
 use Rattle.relocations_rules.proofs.Laws.Sites.{placed}
-use Rattle.calls_judgement.proofs.Laws.Judgement.{broken_is, gives_9_to_14, gives_plan, some_number}
+use Rattle.calls_judgement.proofs.Laws.Judgement.{gives_9_to_14, gives_plan, some_number}
 use Rattle.calls_judge.proofs.Laws.Answers.{refused_well}
 use Rattle.calls_judge.proofs.judge_by_values.Goals as goal
 use Rattle.calls_judge.proofs.judge_by_values.Goals.{After-check_relocations, After-symbol_values-placed, Start}
@@ -54,21 +54,16 @@ found c =
 kept : {object l m : List ℕ} → Roomy object l → length m ≡ length l → Roomy object m
 kept r e = record { room = omega (arith, r.room, e); short = omega (arith, r.short, e) }
 
-pub refusal-requires : goal.refusal-requires
-refusal-requires c =
-    broken_is (S (goal.at.refusal-requires c).Start) (O (goal.at.refusal-requires c).Start) (L (goal.at.refusal-requires c).Start) _ _ (found (goal.at.refusal-requires c).After-check_relocations ∙ c.in-Broken.is)
-
-pub returns-in-Passed : goal.returns-in-Passed
-returns-in-Passed c =
+pub returns-in-Ok : goal.returns-in-Ok
+returns-in-Ok c =
     let e = c.check_relocations.ensures in
     record {
-      verdict_is = sym (gives_plan (S (goal.at.returns-in-Passed c).Start) (O (goal.at.returns-in-Passed c).Start) c.args.len c.args.counts (record { placeable = c.requires.0; relocations = found (goal.at.returns-in-Passed c).After-check_relocations ∙ c.in-Passed.is }));
-      ready = λ _. record { addresses_are = placed_is (goal.at.returns-in-Passed c).After-symbol_values-placed; worked = record { worded = e.1 c.in-Passed.is; words_room = kept c.requires.4.words_room e.3; sizes_room = kept c.requires.4.sizes_room e.4 } };
+      verdict_is = sym (gives_plan (S (goal.at.returns-in-Ok c).Start) (O (goal.at.returns-in-Ok c).Start) c.args.len c.args.counts (record { placeable = c.requires.0; relocations = found (goal.at.returns-in-Ok c).After-check_relocations ∙ c.in-Ok.is }));
+      ready = λ _. record { addresses_are = placed_is (goal.at.returns-in-Ok c).After-symbol_values-placed; worked = record { worded = e.1 c.in-Ok.is; words_room = kept c.requires.4.words_room e.3; sizes_room = kept c.requires.4.sizes_room e.4 } };
     }
 
-pub returns-in-Broken : goal.returns-in-Broken
-returns-in-Broken c =
-    let is = found (goal.at.returns-in-Broken c).After-check_relocations ∙ c.in-Broken.is in
-    let broken = broken_is (S (goal.at.returns-in-Broken c).Start) (O (goal.at.returns-in-Broken c).Start) (L (goal.at.returns-in-Broken c).Start) c.in-Broken.finding c.in-Broken.k is in
-    refused_well (S (goal.at.returns-in-Broken c).Start) (O (goal.at.returns-in-Broken c).Start) c.args.len _ _ _ (ap (λ a. eqb a.number 0) c.refusal.ensures ∙ some_number c.in-Broken.finding broken)
-    (gives_9_to_14 (S (goal.at.returns-in-Broken c).Start) (O (goal.at.returns-in-Broken c).Start) c.args.len c.args.counts _ _ c.requires.0 is ∙ ap refused (sym c.refusal.ensures))
+pub returns-in-Err : goal.returns-in-Err
+returns-in-Err c =
+    let is = found (goal.at.returns-in-Err c).After-check_relocations ∙ c.in-Err.is in
+    refused_well (S (goal.at.returns-in-Err c).Start) (O (goal.at.returns-in-Err c).Start) c.args.len _ _ _ (ap (λ a. eqb a.number 0) c.refusal.ensures ∙ some_number c.in-Err.broken.finding)
+    (gives_9_to_14 (S (goal.at.returns-in-Err c).Start) (O (goal.at.returns-in-Err c).Start) c.args.len c.args.counts _ c.requires.0 is ∙ ap refused (sym c.refusal.ensures))

@@ -1,11 +1,5 @@
 -- `calls_judge::refusal` meets its contract.
-use mathlib.Core.Path.{sym, ap, ◌∙◌}
-use Rattle.numbers_definitions.proofs.Laws.Tests.{never}
-use Rattle.relocations_rules.specs.Search.{is_broken}
 use Rattle.calls_judge.proofs.refusal.Goals as goal
-
-pub returns-in-Kept : goal.returns-in-Kept
-returns-in-Kept c = never (sym (ap is_broken c.in-Kept.is) ∙ c.requires)
 
 pub returns-in-BadShape : goal.returns-in-BadShape
 returns-in-BadShape c = rw c.in-BadShape.is

@@ -26,10 +26,9 @@ use Rattle.placing_match.specs.Placements.{placement_check}
 use Rattle.placing_match.specs.Externals.{external_check}
 use Rattle.placing_check.specs.Placing.{placing_check}
 use Rattle.relocations_rules.specs.declared.Finding.{Finding}
-use Rattle.relocations_rules.specs.declared.Finding.TheVariants.{Kept, BadShape, BadSymbol, BadForm, NoPair, OutOfReach, OffBoundary}
-use Rattle.relocations_rules.specs.declared.RelocationCheck.{RelocationCheck}
-use Rattle.relocations_rules.specs.declared.RelocationCheck.TheVariants.{Passed as AllKept, Broken}
-use Rattle.relocations_rules.specs.Search.{number, reason, finding_of, is_broken, relocation_check}
+use Rattle.relocations_rules.specs.declared.Finding.TheVariants.{BadShape, BadSymbol, BadForm, NoPair, OutOfReach, OffBoundary}
+use Rattle.relocations_rules.specs.declared.Broken.{Broken}
+use Rattle.relocations_rules.specs.Search.{number, reason, relocation_check}
 use Rattle.calls_judgement.specs.Judgement.{after_test, after_sections, after_fault, after_relocations, plan_of, judgement}
 use Rattle.calls_judgement.specs.Requires.{Readable, Named, Placeable, Fitting}
 
@@ -53,31 +52,14 @@ module _ (c : Class) (order : List ℕ) where
 
 -- ---- relocations
 
--- what is found broken breaks a rule, and has a number
-pub broken_is : (object order a : List ℕ) (f : Finding) (k : ℕ) → relocation_check object order a ≡ Broken f k → is_broken f ≡ true
-unfolding relocation_check
-broken_is object order a f k e = go (ltb (first p (relocation_count object)) (relocation_count object)) refl e
-  where
-    p : ℕ → Bool
-    p m = is_broken (finding_of object order a m)
-
-    go : (b : Bool) → ltb (first p (relocation_count object)) (relocation_count object) ≡ b
-        → cond b (Broken (finding_of object order a (first p (relocation_count object))) (first p (relocation_count object))) AllKept ≡ Broken f k → is_broken f ≡ true
-    go true q r =
-        let same : finding_of object order a (first p (relocation_count object)) ≡ f = cc in
-        ap is_broken (sym same) ∙ first_at p (relocation_count object) (ltb-true _ _ q)
-    go false q r =
-        let z : ◌≡◌ {A = ℕ} 0 1 = cc in
-        absurd (omega arith)
-
-pub some_number : (f : Finding) → is_broken f ≡ true → eqb (number f) 0 ≡ false
-some_number Kept e = never e
-some_number BadShape e = refl
-some_number (BadSymbol why) e = refl
-some_number BadForm e = refl
-some_number NoPair e = refl
-some_number OutOfReach e = refl
-some_number OffBoundary e = refl
+-- what is found has a number
+pub some_number : (f : Finding) → eqb (number f) 0 ≡ false
+some_number BadShape = refl
+some_number (BadSymbol why) = refl
+some_number BadForm = refl
+some_number NoPair = refl
+some_number OutOfReach = refl
+some_number OffBoundary = refl
 
 -- ---- the verdict at each check
 
@@ -123,9 +105,9 @@ module _ (object order : List ℕ) (len : ℕ) where
         → judgement object order len ≡ refused (says 8 i)
     gives_8 i n p = named_well n ∙ rw p
 
-    pub gives_9_to_14 : (f : Finding) (k : ℕ) → Placeable object order counts len → relocation_check object order (addresses_for object order) ≡ Broken f k
-        → judgement object order len ≡ refused (says_why (number f) k (reason f))
-    gives_9_to_14 f k p e = named_well p.named ∙ rw (p.placing, e)
+    pub gives_9_to_14 : (b : Broken) → Placeable object order counts len → relocation_check object order (addresses_for object order) ≡ Err b
+        → judgement object order len ≡ refused (says_why (number b.finding) b.relocation (reason b.finding))
+    gives_9_to_14 b p e = named_well p.named ∙ rw (p.placing, e)
 
     pub gives_plan : Fitting object order counts len → judgement object order len ≡ plan (plan_of object order)
     gives_plan f = named_well f.placeable.named ∙ rw (f.placeable.placing, f.relocations)
@@ -153,7 +135,7 @@ plan_fits object order len ps h =
 
     go : (h : Bool) → header_allowed object ≡ h → (a : Bool) → well_formed c order ≡ a → (b : Bool) → window_allowed (address_width object) (base c order) len ≡ b
         → (s : Result ⊤ ℕ) → section_check object ≡ s → (d : Result ⊤ ℕ) → placement_check object order ≡ d → (e : Result ⊤ ℕ) → external_check object order ≡ e
-        → (f : Result ⊤ ℕ) → placing_check object (addresses c order) (base c order) len ≡ f → (g : RelocationCheck) → relocation_check object order (addresses c order) ≡ g
+        → (f : Result ⊤ ℕ) → placing_check object (addresses c order) (base c order) len ≡ f → (g : Result ⊤ Broken) → relocation_check object order (addresses c order) ≡ g
         → after_test 4 h (after_test 2 a (after_test 3 b (after_sections s (after_fault 6 d (after_fault 7 e (after_fault 8 f (after_relocations g (plan (plan_of object order))))))))) ≡ plan ps
         → Fits object order len ps
     go false p₀ a p₁ b p₂ s p₃ d p₄ e p₅ f p₆ g p₇ h = wrong (says 4 0) ps h
@@ -163,8 +145,8 @@ plan_fits object order len ps h =
     go true p₀ true p₁ true p₂ (Ok _) p₃ (Err i) p₄ e p₅ f p₆ g p₇ h = wrong (says 6 i) ps h
     go true p₀ true p₁ true p₂ (Ok _) p₃ (Ok _) p₄ (Err i) p₅ f p₆ g p₇ h = wrong (says 7 i) ps h
     go true p₀ true p₁ true p₂ (Ok _) p₃ (Ok _) p₄ (Ok _) p₅ (Err i) p₆ g p₇ h = wrong (says 8 i) ps h
-    go true p₀ true p₁ true p₂ (Ok _) p₃ (Ok _) p₄ (Ok _) p₅ (Ok _) p₆ (Broken x k) p₇ h = wrong (says_why (number x) k (reason x)) ps h
-    go true p₀ true p₁ true p₂ (Ok _) p₃ (Ok _) p₄ (Ok _) p₅ (Ok _) p₆ AllKept p₇ h =
+    go true p₀ true p₁ true p₂ (Ok _) p₃ (Ok _) p₄ (Ok _) p₅ (Ok _) p₆ (Err b) p₇ h = wrong (says_why (number b.finding) b.relocation (reason b.finding)) ps h
+    go true p₀ true p₁ true p₂ (Ok _) p₃ (Ok _) p₄ (Ok _) p₅ (Ok _) p₆ (Ok _) p₇ h =
         let s = well_formed_sound c order p₁ in
         record {
           counts = order_header_of c order;

@@ -21,6 +21,8 @@ use Rattle.relocations_rela.specs.Sites.{site_at}
 use Rattle.relocations_rela.specs.Shape.{never_falls, stays_inside, previous, no_overlap, shape_well}
 use Rattle.placing_symbols.specs.Values.{symbol_value}
 use Rattle.relocations_rules.specs.Rules.{symbol_well, stands_well, form_well, pair_well}
+use Rattle.std.specs.Prelude.{None, Option, Some}
+use Rattle.relocations_rules.specs.declared.Finding.{Finding}
 use Rattle.relocations_rules.specs.Search.{number, first_broken, finding, finding_of}
 use Rattle.relocations_bytes.specs.Patches.{patched}
 use Rattle.relocations_bytes.specs.Sections.{sum_at, applied, after, rela_of, relocated}
@@ -58,12 +60,16 @@ abbrev laid : ℕ → ℕ → ℕ → ℕ → ℤ
 laid type w a p = pos (le_at 8 (relocated (object_of 1 type w a) [] (0 ∷ p ∷ []) 1) 0)
 
 -- the number of the first rule that it breaks, or 0 if it breaks none
+abbrev number_given : Option Finding → ℤ
+number_given None = pos 0
+number_given (Some f) = pos (number f)
+
 abbrev gives : ℕ → ℕ → ℕ → ℕ → ℤ
-gives type w a p = pos (number (finding_of (object_of 1 type w a) [] (0 ∷ p ∷ []) 0))
+gives type w a p = number_given (finding_of (object_of 1 type w a) [] (0 ∷ p ∷ []) 0)
 
 -- the same where the bit is clear, and all others are set
 abbrev without : ℕ → ℕ → ℕ → ℕ → ℤ
-without type w a p = pos (number (finding_of (object_of 0xFFFFFFFE type w a) [] (0 ∷ p ∷ []) 0))
+without type w a p = number_given (finding_of (object_of 0xFFFFFFFE type w a) [] (0 ∷ p ∷ []) 0)
 
 -- ---- the same in class 2
 
@@ -88,10 +94,10 @@ abbrev laid64 : ℕ → ℕ → ℕ → ℕ → ℤ
 laid64 type w a p = pos (le_at 8 (relocated (object_of64 1 type w a) [] (0 ∷ p ∷ []) 1) 0)
 
 abbrev gives64 : ℕ → ℕ → ℕ → ℕ → ℤ
-gives64 type w a p = pos (number (finding_of (object_of64 1 type w a) [] (0 ∷ p ∷ []) 0))
+gives64 type w a p = number_given (finding_of (object_of64 1 type w a) [] (0 ∷ p ∷ []) 0)
 
 abbrev without64 : ℕ → ℕ → ℕ → ℕ → ℤ
-without64 type w a p = pos (number (finding_of (object_of64 0xFFFFFFFE type w a) [] (0 ∷ p ∷ []) 0))
+without64 type w a p = number_given (finding_of (object_of64 0xFFFFFFFE type w a) [] (0 ∷ p ∷ []) 0)
 
 unfoldable pub numbers : List Number
 numbers =

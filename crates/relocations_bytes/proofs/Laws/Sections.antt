@@ -1,5 +1,6 @@
 -- Laws of sections after their relocations.
 use Rattle.placing_symbols.specs.Reasons.{SymbolValue}
+use Rattle.std.specs.Prelude.{Ok}
 use mathlib.Core.Path.{◌≡◌, refl, sym, ap, ◌∙◌, subst}
 use mathlib.Core.Bool.{Bool, true, false, ◌&&◌}
 use mathlib.Core.List.{List}
@@ -32,7 +33,6 @@ use Rattle.relocations_types.specs.declared.Decision.{Decision}
 use Rattle.relocations_types.specs.declared.Decision.TheVariants.{Marker, Align, Store, Refused}
 use Rattle.placing_symbols.specs.Values.{symbol_value}
 use Rattle.relocations_rela.specs.declared.sites.Site.{Site}
-use Rattle.relocations_rules.specs.declared.RelocationCheck.TheVariants.{Passed}
 use Rattle.relocations_rela.specs.Sites.{site_at, count, entry, decision_at, offset, P, found}
 use Rattle.relocations_values.specs.Values.{S, T, value_at}
 use Rattle.relocations_decisions.specs.Decisions.{takes_pair, is_store}
@@ -127,7 +127,7 @@ module _ (object order addresses : List ℕ) (x : Site) (j : ℕ) where
 
 -- ---- the RELA section of a section
 
-module _ (object order addresses : List ℕ) (f : SoundObject object) (p : Placed object addresses) (pass : relocation_check object order addresses ≡ Passed) where
+module _ (object order addresses : List ℕ) (f : SoundObject object) (p : Placed object addresses) (pass : relocation_check object order addresses ≡ Ok tt) where
   -- the relocations of a RELA section that counts break no rule
   pub checked : (i : ℕ) → i < section_count object → counting_rela object i ≡ true → Checked object order addresses (site_at object addresses i)
   checked i h e =

@@ -1,4 +1,5 @@
 -- Laws of the search over the sites.
+use Rattle.std.specs.Prelude.{⊤, Option, Some, None, Result, Ok, Err}
 use mathlib.Core.Path.{◌≡◌, refl, sym, ap, ◌∙◌, subst}
 use mathlib.Core.Bool.{Bool, true, false}
 use mathlib.Core.List.{List}
@@ -18,30 +19,21 @@ use Rattle.relocations_rela.specs.declared.sites.Site.{Site}
 use Rattle.relocations_rela.specs.Sites.{site_at, count}
 use Rattle.relocations_rela.proofs.Laws.Sites.{count_is}
 use Rattle.relocations_rules.specs.declared.Finding.{Finding}
-use Rattle.relocations_rules.specs.declared.Finding.TheVariants.{Kept, BadShape, BadSymbol, BadForm, NoPair, OutOfReach, OffBoundary}
-use Rattle.relocations_rules.specs.declared.RelocationCheck.{RelocationCheck}
-use Rattle.relocations_rules.specs.declared.RelocationCheck.TheVariants.{Passed, Broken}
-use Rattle.relocations_rules.specs.Search.{number, finding, finding_of, is_broken, relocation_check}
+use Rattle.relocations_rules.specs.declared.Finding.TheVariants.{BadShape, BadSymbol, BadForm, NoPair, OutOfReach, OffBoundary}
+use Rattle.relocations_rules.specs.declared.Broken.{Broken}
+use Rattle.relocations_rules.specs.Search.{number, finding, finding_of, is_broken, blamed, relocation_check}
 use Rattle.relocations_rules.specs.Rules.{why}
-use Rattle.relocations_rules.proofs.Laws.Search.{counted, finding_entry, check_broken, check_passed, symbol_finding}
+use Rattle.relocations_rules.proofs.Laws.Search.{counted, finding_entry, check_broken, check_passed}
+use Rattle.relocations_check_one.specs.Outcomes.{number_of}
 use Rattle.relocations_check_all.specs.Sites.{finding_of_number, Worded, WordedBelow, SiteChecked}
-use Rattle.relocations_check_all.proofs.Laws.Sites.{number_kept, finding_number}
+use Rattle.relocations_check_all.proofs.Laws.Sites.{number_kept, number_finding, reason_found}
 
-some_broken : (f : Finding) → (number f ≡ 0 → ⊥) → is_broken f ≡ true
-some_broken Kept n = absurd (n refl)
-some_broken BadShape n = refl
-some_broken (BadSymbol why) n = refl
-some_broken BadForm n = refl
-some_broken NoPair n = refl
-some_broken OutOfReach n = refl
-some_broken OffBoundary n = refl
+abbrev is_passed : Result ⊤ Broken → Bool
+is_passed (Ok _) = true
+is_passed (Err b) = false
 
-abbrev is_passed : RelocationCheck → Bool
-is_passed Passed = true
-is_passed (Broken f k) = false
-
-pub broken_passed : {B : Type 0} (f : Finding) (k : ℕ) → Broken f k ≡ Passed → B
-broken_passed f k e = never (ap is_passed e)
+pub broken_passed : {B : Type 0} (b : Broken) → ◌≡◌ {A = Result ⊤ Broken} (Err b) (Ok tt) → B
+broken_passed b e = never (ap is_passed e)
 
 module _ (object order addresses : List ℕ) where
   -- the relocations of the sections below i break no rule, and their words and sizes are stored; there are n of them
@@ -81,10 +73,10 @@ module _ (object order addresses : List ℕ) where
     place j l =
         ap (λ n. finding_of object order addresses (n + j)) below.number_is ∙ finding_entry object i j h (omega (arith, many)) order addresses
 
-    place_kept : (j : ℕ) → j < count object (site_at object addresses i) → number (finding object order addresses (site_at object addresses i) j) ≡ 0 → is_broken (finding_of object order addresses (n + j)) ≡ false
+    place_kept : (j : ℕ) → j < count object (site_at object addresses i) → number_of (finding object order addresses (site_at object addresses i) j) ≡ 0 → is_broken (finding_of object order addresses (n + j)) ≡ false
     place_kept j l e = ap is_broken (place j l ∙ number_kept (finding object order addresses (site_at object addresses i) j) e)
 
-    kept_up_to : (u : ℕ) → u ≤ count object (site_at object addresses i) → ((j : ℕ) → j < u → number (finding object order addresses (site_at object addresses i) j) ≡ 0)
+    kept_up_to : (u : ℕ) → u ≤ count object (site_at object addresses i) → ((j : ℕ) → j < u → number_of (finding object order addresses (site_at object addresses i) j) ≡ 0)
         → (k : ℕ) → k < n + u → is_broken (finding_of object order addresses k) ≡ false
     kept_up_to u l all k b = go (dec_lt k n)
       where
@@ -135,18 +127,13 @@ module _ (object order addresses : List ℕ) where
           let b = site.broken some in
           omega (arith, below.number_is, counted object i at h (omega (arith, many, b.there)))
 
-      pub below_broken : (reason : Reason) → reason ≡ why (value_at object order addresses x at) → relocation_check object order addresses ≡ Broken (finding_of_number m reason) (n + at)
+      pub below_broken : (reason : Reason) → reason ≡ why (value_at object order addresses x at) → relocation_check object order addresses ≡ Err (record { finding = finding_of_number m reason; relocation = n + at })
       below_broken reason because =
           let b = site.broken some in
-          let f : Finding = finding object order addresses (site_at object addresses i) at in
-          let ten : number f ≡ 10 → f ≡ BadSymbol reason =
-          λ e. symbol_finding object order addresses (site_at object addresses i) at e ∙ sym (ap BadSymbol (because ∙ ap (λ x. why (value_at object order addresses x at)) is)) in
-          let what : finding_of object order addresses (n + at) ≡ finding object order addresses (site_at object addresses i) at = place at b.there in
-          let breaks : is_broken (finding_of object order addresses (n + at)) ≡ true =
-          ap is_broken what ∙ some_broken (finding object order addresses (site_at object addresses i) at) (λ z. b.some (b.number_is ∙ z)) in
-          let same : finding_of object order addresses (n + at) ≡ finding_of_number m reason =
-          what ∙ sym (finding_number f reason ten) ∙ ap (λ m. finding_of_number m reason) (sym b.number_is) in
-          check_broken object order addresses (n + at) broken_there (kept_up_to at (omega (arith, b.there)) b.below) breaks ∙ ap (λ f. Broken f (n + at)) same
+          let value : why (value_at object order addresses x at) ≡ why (value_at object order addresses (site_at object addresses i) at) = ap (λ x. why (value_at object order addresses x at)) is in
+          let same : finding_of object order addresses (n + at) ≡ Some (finding_of_number m reason) =
+          place at b.there ∙ number_finding (finding object order addresses (site_at object addresses i) at) m reason some b.number_is (reason_found object order addresses (site_at object addresses i) at reason (because ∙ value)) in
+          check_broken object order addresses (n + at) broken_there (kept_up_to at (omega (arith, b.there)) b.below) (ap is_broken same) ∙ ap (λ f. blamed f (n + at)) same
 
   -- all relocations of a site have room
   pub site_room : SoundObject object → (i : ℕ) → i < section_count object → counting_rela object i ≡ true → relocations_below object i + count object (site_at object addresses i) ≤ relocation_count object
@@ -154,5 +141,5 @@ module _ (object order addresses : List ℕ) where
   site_room sound i h e = omega (arith, count_is object addresses sound i h e, sum_mono (relocations_in object) (suc i) (section_count object) h)
 
   -- all sections
-  pub below_all : (n : ℕ) (words sizes : List ℕ) → Below (section_count object) n words sizes → relocation_check object order addresses ≡ Passed
+  pub below_all : (n : ℕ) (words sizes : List ℕ) → Below (section_count object) n words sizes → relocation_check object order addresses ≡ Ok tt
   below_all n words sizes b = check_passed object order addresses (λ k h. b.kept k (omega (arith, b.number_is)))

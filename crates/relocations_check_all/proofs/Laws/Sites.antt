@@ -1,7 +1,8 @@
 -- Laws of the search over the relocations of a site.
 use Rattle.placing_symbols.specs.Reasons.{State, SymbolValue}
+use Rattle.std.specs.Prelude.{None, Option, Some}
 use mathlib.Core.Path.{◌≡◌, refl, sym, ap, ◌∙◌, subst}
-use mathlib.Core.Bool.{true, cond}
+use mathlib.Core.Bool.{Bool, true, false, cond}
 use mathlib.Core.List.{List}
 use Prim.Native.Nat.{ℕ, suc, ◌+◌, ◌^◌, ◌≤◌, ◌<◌}
 use native.Mathlib.Omega.{arith}
@@ -25,40 +26,71 @@ use Rattle.relocations_rela.specs.Shape.{shape_well}
 use Rattle.relocations_rela.specs.Trails.{no_trail, advanced, trail_at, shares_by}
 use Rattle.relocations_rela.specs.Requires.{SoundSite}
 use Rattle.relocations_rules.specs.declared.Finding.{Finding}
-use Rattle.relocations_rules.specs.declared.Finding.TheVariants.{Kept, BadShape, BadSymbol, BadForm, NoPair, OutOfReach, OffBoundary}
-use Rattle.relocations_rules.specs.Search.{number, finding}
+use Rattle.relocations_rules.specs.declared.Finding.TheVariants.{BadShape, BadSymbol, BadForm, NoPair, OutOfReach, OffBoundary}
+use Rattle.relocations_values.specs.Values.{value_at, target_at}
+use Rattle.relocations_rules.specs.Rules.{symbol_well, why, form_well, pair_well, distance_well, boundary_well}
+use Rattle.relocations_rules.specs.Search.{first_broken, finding}
+use Rattle.elf_read.specs.Headers.{class_of, has_rvc}
+use Rattle.relocations_rela.specs.Sites.{A, P}
 use Rattle.relocations_rules.proofs.Laws.Search.{kept_rules}
 use Rattle.relocations_bytes.specs.Sections.{after}
 use Rattle.relocations_bytes.specs.Words.{word_from, word_at, last_word}
 use Rattle.relocations_bytes.proofs.Laws.Words.{present}
 use Rattle.relocations_check_one.specs.Requires.{Listing}
-use Rattle.relocations_check_one.specs.Outcomes.{finding_by, word_by, Comes}
+use Rattle.relocations_check_one.specs.Outcomes.{number_of, finding_by, word_by, Comes}
 use Rattle.relocations_check_one.proofs.Laws.Outcomes.{finding_by_lem, word_by_lem}
 use Rattle.relocations_check_all.specs.Sites.{finding_of_number, Worded, KeptBelow, SameBelow}
 
 -- ---- numbers of findings
 
-pub number_kept : (f : Finding) → number f ≡ 0 → f ≡ Kept
-number_kept Kept e = refl
-number_kept BadShape e = absurd (omega arith)
-number_kept (BadSymbol why) e = absurd (omega arith)
-number_kept BadForm e = absurd (omega arith)
-number_kept NoPair e = absurd (omega arith)
-number_kept OutOfReach e = absurd (omega arith)
-number_kept OffBoundary e = absurd (omega arith)
+pub number_kept : (f : Option Finding) → number_of f ≡ 0 → f ≡ None
+number_kept None e = refl
+number_kept (Some BadShape) e = absurd (omega arith)
+number_kept (Some (BadSymbol why)) e = absurd (omega arith)
+number_kept (Some BadForm) e = absurd (omega arith)
+number_kept (Some NoPair) e = absurd (omega arith)
+number_kept (Some OutOfReach) e = absurd (omega arith)
+number_kept (Some OffBoundary) e = absurd (omega arith)
 
-pub finding_number : (f : Finding) (reason : Reason) → (number f ≡ 10 → f ≡ BadSymbol reason) → finding_of_number (number f) reason ≡ f
-finding_number Kept reason ten = refl
-finding_number BadShape reason ten = refl
-finding_number (BadSymbol why) reason ten = sym (ten refl)
-finding_number BadForm reason ten = refl
-finding_number NoPair reason ten = refl
-finding_number OutOfReach reason ten = refl
-finding_number OffBoundary reason ten = refl
+-- what is found, by its number and by the reason, which is asked for where the number is 10
+abbrev pub HasReason : Option Finding → Reason → Type 0
+HasReason None r = Unit {0}
+HasReason (Some BadShape) r = Unit {0}
+HasReason (Some (BadSymbol why)) r = why ≡ r
+HasReason (Some BadForm) r = Unit {0}
+HasReason (Some NoPair) r = Unit {0}
+HasReason (Some OutOfReach) r = Unit {0}
+HasReason (Some OffBoundary) r = Unit {0}
+
+pub number_finding : (f : Option Finding) (n : ℕ) (r : Reason) → (n ≡ 0 → ⊥) → n ≡ number_of f → HasReason f r → f ≡ Some (finding_of_number n r)
+number_finding None n r some e h = absurd (some e)
+number_finding (Some BadShape) n r some e h = rw e refl
+number_finding (Some (BadSymbol why)) n r some e h = rw (e, h)
+number_finding (Some BadForm) n r some e h = rw e
+number_finding (Some NoPair) n r some e h = rw e
+number_finding (Some OutOfReach) n r some e h = rw e
+number_finding (Some OffBoundary) n r some e h = rw e
+
+pub reason_found : (object order addresses : List ℕ) (x : Site) (j : ℕ) (r : Reason) → r ≡ why (value_at object order addresses x j) → HasReason (finding object order addresses x j) r
+unfolding finding first_broken
+reason_found object order addresses x j r e =
+    go (shape_well object x j) (symbol_well object x j v) (form_well object x j) (pair_well object x j) (distance_well (class_of object) (has_rvc object) (decision_at object x j) (target_at object order addresses x j) (P object x j)) (boundary_well (decision_at object x j) (P object x j) (A object x j))
+  where
+    v : SymbolValue
+    v = value_at object order addresses x j
+
+    go : (a b c p q k : Bool) → HasReason (cond a (cond b (cond c (cond p (cond q (cond k None (Some OffBoundary)) (Some OutOfReach)) (Some NoPair)) (Some BadForm)) (Some (BadSymbol (why v)))) (Some BadShape)) r
+    go false b c p q k = tt
+    go true false c p q k = sym e
+    go true true false p q k = tt
+    go true true true false q k = tt
+    go true true true true false k = tt
+    go true true true true true false = tt
+    go true true true true true true = tt
 
 module _ (object order addresses : List ℕ) (x : Site) where
   -- a relocation that breaks no rule keeps check 9
-  pub kept_shape : (j : ℕ) → number (finding object order addresses x j) ≡ 0 → shape_well object x j ≡ true
+  pub kept_shape : (j : ℕ) → number_of (finding object order addresses x j) ≡ 0 → shape_well object x j ≡ true
   kept_shape j e = (kept_rules object order addresses x j (number_kept (finding object order addresses x j) e)).shape
 
   -- ---- the word of relocation j, where none up to it breaks a rule
@@ -95,8 +127,8 @@ module _ (object order addresses : List ℕ) (x : Site) where
     same : ◌≡◌ {A = ℕ → SymbolValue} v (symbol_value object order addresses)
     same = λ i k. listed_is valued k i
 
-    pub number_found : (j b n w : ℕ) → Comes v object x j b n w → n ≡ number (finding object order addresses x j)
-    number_found j b n w c = c.number_is ∙ ap (λ v. number (finding_by v object x j)) same ∙ ap number (finding_by_lem object order addresses x j)
+    pub number_found : (j b n w : ℕ) → Comes v object x j b n w → n ≡ number_of (finding object order addresses x j)
+    number_found j b n w c = c.number_is ∙ ap (λ v. number_of (finding_by v object x j)) same ∙ ap number_of (finding_by_lem object order addresses x j)
 
     pub word_comes : (j b n w : ℕ) → Comes v object x j b n w → n ≡ 0 → w ≡ word_from object order addresses x j b
     word_comes j b n w c e = c.word_is e ∙ ap (λ v. word_by v object x j b) same ∙ word_by_lem object order addresses x j b
@@ -177,8 +209,8 @@ module _ (object order addresses : List ℕ) (x : Site) (base : ℕ) (words₀ s
         → Searching object order addresses x base words₀ sizes₀ highs₀ (set words (base + j) w) (set sizes (base + j) size) highs₁ t l made₁ (suc j)
     unfolding trail_at last_word
     searching_next words sizes highs highs₁ trail t d r last made made₁ j n w size l s there wroom sroom re de comes zero listing same te se le =
-        let number_is : number (finding object order addresses x j) ≡ 0 = sym (number_found object order addresses x values states sound valued j _ n w comes) ∙ zero in
-        let kept : KeptBelow object order addresses x (suc j) = below_next (λ i. number (finding object order addresses x i) ≡ 0) j s.kept number_is in
+        let number_is : number_of (finding object order addresses x j) ≡ 0 = sym (number_found object order addresses x values states sound valued j _ n w comes) ∙ zero in
+        let kept : KeptBelow object order addresses x (suc j) = below_next (λ i. number_of (finding object order addresses x i) ≡ 0) j s.kept number_is in
         let b : present_by trail d r last
         ≡ cond (shares_by (trail_at object x j) (decision_at object x j) (offset object x j)) (last_word object order addresses x j) (le_at (touched (decision_at object x j)) (found object x) (offset object x j)) =
         ap (λ t. present_by t d r last) s.trail_is ∙ ap (λ d. present_by (trail_at object x j) d r last) de ∙ ap (λ r. present_by (trail_at object x j) (decision_at object x j) r last) re

@@ -1,6 +1,6 @@
 -- Checks 9 to 14 of a relocation, by what its type asks for.
 use Rattle.placing_symbols.specs.Reasons.{SymbolValue}
-use Rattle.std.specs.Prelude.{Option}
+use Rattle.std.specs.Prelude.{None, Option, Some}
 use mathlib.Core.Path.{◌≡◌, refl, sym, ap, ◌∙◌, subst}
 use mathlib.Core.Bool.{Bool, true, false, not, cond, ◌&&◌}
 use mathlib.Core.List.{List}
@@ -40,14 +40,14 @@ use Rattle.relocations_rela.proofs.Laws.Trails.{shape_by_lem}
 use Rattle.relocations_values.specs.Values.{S, T}
 use Rattle.relocations_values.specs.Pairs.{pair_of}
 use Rattle.relocations_rules.specs.Rules.{is_resolved, in_target, symbol, symbol_well, why, form_well, is_one, pair_well, reaches_well, boundary_well}
-use Rattle.relocations_rules.specs.declared.Finding.TheVariants.{Kept, BadSymbol, BadForm, NoPair, OutOfReach, OffBoundary}
-use Rattle.relocations_rules.specs.Search.{number, first_broken, finding}
+use Rattle.relocations_rules.specs.declared.Finding.TheVariants.{BadSymbol, BadForm, NoPair, OutOfReach, OffBoundary}
+use Rattle.relocations_rules.specs.Search.{first_broken, finding}
 use Rattle.relocations_bytes.specs.Sections.{sum_at, distance_at}
 use Rattle.relocations_bytes.specs.Patches.{patched}
 use Rattle.relocations_bytes.specs.Words.{word, word_from}
 use Rattle.relocations_bytes.proofs.Laws.Patches.{same_patch}
 use Rattle.relocations_bytes.proofs.Laws.Sections.{symbol_read, place_read}
-use Rattle.relocations_check_one.specs.Outcomes.{store_number, value_by, target_by, finding_by, sum_by, distance_by, distance_of_by, pair_distance_by, word_by, Partnered, Comes}
+use Rattle.relocations_check_one.specs.Outcomes.{number_of, store_number, value_by, target_by, finding_by, sum_by, distance_by, distance_of_by, pair_distance_by, word_by, Partnered, Comes}
 use Rattle.relocations_check_one.specs.Requires.{Storing, Read}
 
 -- ---- with the values of an object and an order
@@ -64,7 +64,7 @@ module _ (object order addresses : List ℕ) (x : Site) (j : ℕ) where
 module _ (v : ℕ → SymbolValue) (object : List ℕ) (x : Site) (j : ℕ) where
   -- ---- 9 is broken
 
-  pub misshapen : shape_well object x j ≡ false → number (finding_by v object x j) ≡ 9
+  pub misshapen : shape_well object x j ≡ false → number_of (finding_by v object x j) ≡ 9
   unfolding finding_by first_broken
   misshapen e = rw e
 
@@ -72,14 +72,14 @@ module _ (v : ℕ → SymbolValue) (object : List ℕ) (x : Site) (j : ℕ) wher
 
   module _ (r : Rule) (e : decision_at object x j ≡ Store r) where
     pub store_number_lem : shape_well object x j ≡ true
-        → number (finding_by v object x j)
+        → number_of (finding_by v object x j)
         ≡ store_number (symbol_well object x j (value_by v object x j)) (form_well object x j) (pair_well object x j) (reaches_well (class_of object) (has_rvc object) r.calculation r.field (target_by v object x j) (P object x j))
     unfolding finding_by first_broken store_number
     store_number_lem s =
         rw (s, e)
         (go (symbol_well object x j (value_by v object x j)) (form_well object x j) (pair_well object x j) (reaches_well (class_of object) (has_rvc object) r.calculation r.field (target_by v object x j) (P object x j)))
       where
-        go : (a b c d : Bool) → number (cond a (cond b (cond c (cond d Kept OutOfReach) NoPair) BadForm) (BadSymbol (why (value_by v object x j)))) ≡ store_number a b c d
+        go : (a b c d : Bool) → number_of (cond a (cond b (cond c (cond d None (Some OutOfReach)) (Some NoPair)) (Some BadForm)) (Some (BadSymbol (why (value_by v object x j))))) ≡ store_number a b c d
         go false b c d = refl
         go true false c d = refl
         go true true false d = refl
@@ -112,16 +112,16 @@ module _ (v : ℕ → SymbolValue) (object : List ℕ) (x : Site) (j : ℕ) wher
 
   -- ---- markers that keep 9
 
-  pub align_number : decision_at object x j ≡ Align → shape_well object x j ≡ true → number (finding_by v object x j) ≡ cond (boundary_well Align (P object x j) (A object x j)) 0 14
+  pub align_number : decision_at object x j ≡ Align → shape_well object x j ≡ true → number_of (finding_by v object x j) ≡ cond (boundary_well Align (P object x j) (A object x j)) 0 14
   unfolding finding_by first_broken symbol_well form_well pair_well
   align_number e s = rw (s, e) (go (boundary_well Align (P object x j) (A object x j)))
     where
       go : (b : Bool)
-          → number (cond b Kept OffBoundary) ≡ cond b 0 14
+          → number_of (cond b None (Some OffBoundary)) ≡ cond b 0 14
       go true = refl
       go false = refl
 
-  pub marker_number : decision_at object x j ≡ Marker → shape_well object x j ≡ true → number (finding_by v object x j) ≡ 0
+  pub marker_number : decision_at object x j ≡ Marker → shape_well object x j ≡ true → number_of (finding_by v object x j) ≡ 0
   unfolding finding_by first_broken symbol_well form_well pair_well
   marker_number e s = rw (s, e)
 
@@ -202,7 +202,7 @@ module _ (v : ℕ → SymbolValue) (object : List ℕ) (x : Site) (j : ℕ) (rul
 
   pub number_read : (n t : ℕ) (symbols forms pairs reaches : Bool) → n ≡ store_number symbols forms pairs reaches → symbols ≡ symbol_well object x j (value_by v object x j)
       → forms ≡ form_well object x j → (symbols ≡ true → pairs ≡ pair_well object x j) → reaches ≡ reaches_well (class_of object) (has_rvc object) rule.calculation rule.field t p → t ≡ T w (S value) (signed 64 here.addend)
-      → n ≡ number (finding_by v object x j)
+      → n ≡ number_of (finding_by v object x j)
   number_read n t symbols forms pairs reaches e se fe pe re te =
       e
       ∙ any_pair symbols forms pairs (pair_well object x j) reaches pe
@@ -270,7 +270,7 @@ module _ (v : ℕ → SymbolValue) (object : List ℕ) (x : Site) (j : ℕ) (rul
   unfolding store_number symbol_well
   unresolved_comes b e =
       let out : symbol_well object x j (value_by v object x j) ≡ false = rw (f.decided, ← same, e) in
-      let ten : number (finding_by v object x j) ≡ 10 = store_number_lem v object x j rule f.decided f.shape ∙ rw out in
+      let ten : number_of (finding_by v object x j) ≡ 10 = store_number_lem v object x j rule f.decided f.shape ∙ rw out in
       record { number_is = sym ten; word_is = λ z. absurd (omega arith) }
 
   module _ (resolved : is_resolved (v here.symbol) ≡ true) where
@@ -318,7 +318,7 @@ module _ (object : List ℕ) (x : Site) (j : ℕ) (t : Trail) (d : Decision) (r 
   -- what breaks check 9
   pub shape_comes : (v : ℕ → SymbolValue) (b n w : ℕ) → shape_by t d r x.target.size ≡ false → n ≡ 9 → Comes v object x j b n w
   shape_comes v b n w e ne =
-      let nine : number (finding_by v object x j) ≡ 9 = misshapen v object x j (sym shape_read ∙ e) in
+      let nine : number_of (finding_by v object x j) ≡ 9 = misshapen v object x j (sym shape_read ∙ e) in
       record { number_is = ne ∙ sym nine; word_is = λ z. absurd (omega arith) }
 
   -- markers
@@ -332,7 +332,7 @@ module _ (object : List ℕ) (x : Site) (j : ℕ) (t : Trail) (d : Decision) (r 
       align : decision_at object x j ≡ Align
       align = sym f.decided ∙ e
 
-      go : (k : Bool) → shape_well object x j ≡ k → cond k (cond (boundary_well Align (P object x j) (A object x j)) 0 14) 9 ≡ number (finding_by v object x j)
+      go : (k : Bool) → shape_well object x j ≡ k → cond k (cond (boundary_well Align (P object x j) (A object x j)) 0 14) 9 ≡ number_of (finding_by v object x j)
       go true q = sym (align_number v object x j align q)
       go false q = sym (misshapen v object x j q)
 
@@ -343,6 +343,6 @@ module _ (object : List ℕ) (x : Site) (j : ℕ) (t : Trail) (d : Decision) (r 
       marker : decision_at object x j ≡ Marker
       marker = sym f.decided ∙ e
 
-      go : (k : Bool) → shape_well object x j ≡ k → cond k 0 9 ≡ number (finding_by v object x j)
+      go : (k : Bool) → shape_well object x j ≡ k → cond k 0 9 ≡ number_of (finding_by v object x j)
       go true q = sym (marker_number v object x j marker q)
       go false q = sym (misshapen v object x j q)

@@ -1,16 +1,17 @@
 -- Laws of the search over all relocations.
 use Rattle.placing_symbols.specs.Reasons.{SymbolValue}
+use Rattle.std.specs.Prelude.{⊤, Option, Some, None, Result, Ok, Err}
 use mathlib.Core.Path.{◌≡◌, refl, sym, ap, ◌∙◌}
 use mathlib.Core.Bool.{Bool, true, false, cond}
 use mathlib.Core.List.{List}
 use Prim.Native.Nat.{ℕ, suc, ◌+◌, ◌-◌, ◌<◌}
 use native.Mathlib.Omega.{arith}
 use lib.Dec.{ltb}
-use borrow.Author.Tests.{lt-ltb, le-ltb, ltb-false}
+use borrow.Author.Tests.{lt-ltb, le-ltb, ltb-false, ltb-true}
 use Rattle.numbers_definitions.proofs.Laws.Tests.{never}
 use Rattle.numbers_definitions.specs.First.{first}
 use Rattle.numbers_definitions.specs.Sums.{sum}
-use Rattle.numbers_definitions.proofs.Laws.First.{first_is, first_below}
+use Rattle.numbers_definitions.proofs.Laws.First.{first_is, first_below, first_at}
 use Rattle.numbers_definitions.proofs.Laws.Sums.{sum_mono}
 use Rattle.elf_read.specs.declared.Location.{Location}
 use Rattle.elf_read.specs.Headers.{class_of, has_rvc, section_count}
@@ -20,13 +21,13 @@ use Rattle.elf_read.proofs.Laws.Entries.{located}
 use Rattle.relocations_types.specs.declared.Decision.{Decision}
 use Rattle.relocations_rela.specs.declared.sites.Site.{Site}
 use Rattle.relocations_rules.specs.declared.Finding.{Finding}
-use Rattle.relocations_rules.specs.declared.Finding.TheVariants.{Kept, BadShape, BadSymbol, BadForm, NoPair, OutOfReach, OffBoundary}
-use Rattle.relocations_rules.specs.declared.RelocationCheck.TheVariants.{Passed, Broken}
+use Rattle.relocations_rules.specs.declared.Finding.TheVariants.{BadShape, BadSymbol, BadForm, NoPair, OutOfReach, OffBoundary}
+use Rattle.relocations_rules.specs.declared.Broken.{Broken}
 use Rattle.relocations_rela.specs.Sites.{site_at, decision_at, A, P}
 use Rattle.relocations_values.specs.Values.{value_at, target_at}
 use Rattle.relocations_rela.specs.Shape.{shape_well}
 use Rattle.relocations_rules.specs.Rules.{symbol_well, why, form_well, pair_well, distance_well, boundary_well}
-use Rattle.relocations_rules.specs.Search.{number, first_broken, finding, finding_of, is_broken, relocation_check}
+use Rattle.relocations_rules.specs.Search.{number, first_broken, finding, finding_of, is_broken, blamed, relocation_check}
 
 -- ---- the number of an entry
 
@@ -56,13 +57,13 @@ module _ (object : List ℕ) (i j : ℕ) (h : i < section_count object) (l : j <
 
 module _ (object order addresses : List ℕ) where
   pub check_broken : (k : ℕ) → k < relocation_count object → ((m : ℕ) → m < k → is_broken (finding_of object order addresses m) ≡ false)
-      → is_broken (finding_of object order addresses k) ≡ true → relocation_check object order addresses ≡ Broken (finding_of object order addresses k) k
+      → is_broken (finding_of object order addresses k) ≡ true → relocation_check object order addresses ≡ blamed (finding_of object order addresses k) k
   unfolding relocation_check
   check_broken k h below here =
       let is : first (λ k. is_broken (finding_of object order addresses k)) (relocation_count object) ≡ k = first_is _ (relocation_count object) k (omega arith) below (λ _. here) in
       rw (is, lt-ltb _ _ h)
 
-  pub check_passed : ((m : ℕ) → m < relocation_count object → is_broken (finding_of object order addresses m) ≡ false) → relocation_check object order addresses ≡ Passed
+  pub check_passed : ((m : ℕ) → m < relocation_count object → is_broken (finding_of object order addresses m) ≡ false) → relocation_check object order addresses ≡ Ok tt
   unfolding relocation_check
   check_passed all =
       let n : ℕ = relocation_count object in
@@ -70,29 +71,30 @@ module _ (object order addresses : List ℕ) where
       rw (is, le-ltb n n (omega arith))
 
   -- if they pass, no relocation breaks a rule
-  pub passed_kept : relocation_check object order addresses ≡ Passed → (k : ℕ) → k < relocation_count object → finding_of object order addresses k ≡ Kept
+  pub passed_kept : relocation_check object order addresses ≡ Ok tt → (k : ℕ) → k < relocation_count object → finding_of object order addresses k ≡ None
   unfolding relocation_check
   passed_kept e k h = kept (finding_of object order addresses k) (first_below p (relocation_count object) k (go (ltb (first p (relocation_count object)) (relocation_count object)) refl e))
     where
       p : ℕ → Bool
       p m = is_broken (finding_of object order addresses m)
 
-      go : (b : Bool) → ltb (first p (relocation_count object)) (relocation_count object) ≡ b
-          → cond b (Broken (finding_of object order addresses (first p (relocation_count object))) (first p (relocation_count object))) Passed ≡ Passed
-          → k < first p (relocation_count object)
-      go true q r =
+      unblamed : (f : Option Finding) (m : ℕ) → blamed f m ≡ Ok tt → is_broken f ≡ false
+      unblamed None m r = refl
+      unblamed (Some f) m r =
           let z : ◌≡◌ {A = ℕ} 0 1 = cc in
           absurd (omega arith)
+
+      go : (b : Bool) → ltb (first p (relocation_count object)) (relocation_count object) ≡ b
+          → cond b (blamed (finding_of object order addresses (first p (relocation_count object))) (first p (relocation_count object))) (Ok tt) ≡ Ok tt
+          → k < first p (relocation_count object)
+      go true q r =
+          let here : p (first p (relocation_count object)) ≡ true = first_at p (relocation_count object) (ltb-true _ _ q) in
+          never (sym (unblamed _ _ r) ∙ here)
       go false q r = omega (arith, ltb-false (first p (relocation_count object)) (relocation_count object) q)
 
-      kept : (f : Finding) → is_broken f ≡ false → f ≡ Kept
-      kept Kept q = refl
-      kept BadShape q = never (sym q)
-      kept (BadSymbol why) q = never (sym q)
-      kept BadForm q = never (sym q)
-      kept NoPair q = never (sym q)
-      kept OutOfReach q = never (sym q)
-      kept OffBoundary q = never (sym q)
+      kept : (f : Option Finding) → is_broken f ≡ false → f ≡ None
+      kept None q = refl
+      kept (Some f) q = never (sym q)
 
 -- ---- a relocation that breaks no rule, taken apart
 
@@ -105,10 +107,10 @@ pub record Rules (object order addresses : List ℕ) (x : Site) (j : ℕ) : Type
   pub distance : distance_well (class_of object) (has_rvc object) (decision_at object x j) (target_at object order addresses x j) (P object x j) ≡ true
   pub boundary : boundary_well (decision_at object x j) (P object x j) (A object x j) ≡ true
 
-other : {B : Type 0} (f : Finding) → is_broken f ≡ true → f ≡ Kept → B
-other f b e = never (sym (ap is_broken e) ∙ b)
+other : {B : Type 0} (f : Finding) → Some f ≡ None → B
+other f e = never (sym (ap is_broken e))
 
-pub kept_rules : (object order addresses : List ℕ) (x : Site) (j : ℕ) → finding object order addresses x j ≡ Kept → Rules object order addresses x j
+pub kept_rules : (object order addresses : List ℕ) (x : Site) (j : ℕ) → finding object order addresses x j ≡ None → Rules object order addresses x j
 unfolding finding first_broken
 kept_rules object order addresses x j e =
     go (shape_well object x j) refl (symbol_well object x j v) refl (form_well object x j) refl (pair_well object x j) refl (distance_well (class_of object) (has_rvc object) d t (P object x j)) refl
@@ -125,36 +127,11 @@ kept_rules object order addresses x j e =
 
     go : (a : Bool) → shape_well object x j ≡ a → (b : Bool) → symbol_well object x j v ≡ b → (c : Bool) → form_well object x j ≡ c → (p : Bool) → pair_well object x j ≡ p
         → (q : Bool) → distance_well (class_of object) (has_rvc object) d t (P object x j) ≡ q → (r : Bool) → boundary_well d (P object x j) (A object x j) ≡ r
-        → cond a (cond b (cond c (cond p (cond q (cond r Kept OffBoundary) OutOfReach) NoPair) BadForm) (BadSymbol (why v))) BadShape ≡ Kept → Rules object order addresses x j
-    go false e₁ b e₂ c e₃ p e₄ q e₅ r e₆ k = other BadShape refl k
-    go true e₁ false e₂ c e₃ p e₄ q e₅ r e₆ k = other (BadSymbol (why v)) refl k
-    go true e₁ true e₂ false e₃ p e₄ q e₅ r e₆ k = other BadForm refl k
-    go true e₁ true e₂ true e₃ false e₄ q e₅ r e₆ k = other NoPair refl k
-    go true e₁ true e₂ true e₃ true e₄ false e₅ r e₆ k = other OutOfReach refl k
-    go true e₁ true e₂ true e₃ true e₄ true e₅ false e₆ k = other OffBoundary refl k
+        → cond a (cond b (cond c (cond p (cond q (cond r None (Some OffBoundary)) (Some OutOfReach)) (Some NoPair)) (Some BadForm)) (Some (BadSymbol (why v)))) (Some BadShape) ≡ None → Rules object order addresses x j
+    go false e₁ b e₂ c e₃ p e₄ q e₅ r e₆ k = other BadShape k
+    go true e₁ false e₂ c e₃ p e₄ q e₅ r e₆ k = other (BadSymbol (why v)) k
+    go true e₁ true e₂ false e₃ p e₄ q e₅ r e₆ k = other BadForm k
+    go true e₁ true e₂ true e₃ false e₄ q e₅ r e₆ k = other NoPair k
+    go true e₁ true e₂ true e₃ true e₄ false e₅ r e₆ k = other OutOfReach k
+    go true e₁ true e₂ true e₃ true e₄ true e₅ false e₆ k = other OffBoundary k
     go true e₁ true e₂ true e₃ true e₄ true e₅ true e₆ k = record { shape = e₁; symbol = e₂; form = e₃; pair = e₄; distance = e₅; boundary = e₆ }
-
--- a relocation that breaks check 10 breaks it for the reason of its symbol
-pub symbol_finding : (object order addresses : List ℕ) (x : Site) (j : ℕ) → number (finding object order addresses x j) ≡ 10
-    → finding object order addresses x j ≡ BadSymbol (why (value_at object order addresses x j))
-unfolding finding first_broken
-symbol_finding object order addresses x j e =
-    go (shape_well object x j) (symbol_well object x j v) (form_well object x j) (pair_well object x j) (distance_well (class_of object) (has_rvc object) d t (P object x j)) (boundary_well d (P object x j) (A object x j)) e
-  where
-    v : SymbolValue
-    v = value_at object order addresses x j
-
-    d : Decision
-    d = decision_at object x j
-
-    t : ℕ
-    t = target_at object order addresses x j
-
-    go : (a b c p q r : Bool) → let f = cond a (cond b (cond c (cond p (cond q (cond r Kept OffBoundary) OutOfReach) NoPair) BadForm) (BadSymbol (why v))) BadShape in number f ≡ 10 → f ≡ BadSymbol (why v)
-    go false b c p q r e = absurd (omega arith)
-    go true false c p q r e = refl
-    go true true false p q r e = absurd (omega arith)
-    go true true true false q r e = absurd (omega arith)
-    go true true true true false r e = absurd (omega arith)
-    go true true true true true false e = absurd (omega arith)
-    go true true true true true true e = absurd (omega arith)

@@ -15,7 +15,7 @@ use Rattle.relocations_rela.specs.declared.sites.Site.{Site}
 use Rattle.relocations_rela.specs.Sites.{site_at, count, entry}
 use Rattle.relocations_rela.specs.Requires.{SoundSite}
 use Rattle.relocations_rela.proofs.Laws.Sites.{sound_site}
-use Rattle.relocations_rules.specs.declared.RelocationCheck.TheVariants.{Broken}
+use Rattle.std.specs.Prelude.{Err}
 use Rattle.relocations_rules.specs.Rules.{is_resolved, why}
 use Rattle.relocations_rules.proofs.Laws.Rules.{resolved_there}
 use Rattle.relocations_check_all.proofs.Laws.Search.{Below, below_start, below_skip, site_room, below_site, broken_there, below_broken, below_all, broken_passed}
@@ -141,7 +141,7 @@ returns-then-halt-ne0 c =
     let is =
     below_broken a.object.now a.order.now a.addresses f.0 c.search.i (here (goal.at.returns-then-halt-ne0 c).After-is_counting_rela) (counts (goal.at.returns-then-halt-ne0 c).After-site_at-site) _ _ _ _ _ inv.1 _ _ _ (site_is (goal.at.returns-then-halt-ne0 c).After-site_at-site)
     (e.0 a.order.now a.addresses f.3) c.if-halt-ne0.true _ because in
-    (ap (λ g. Broken g (c.search.number + c.check_site-halt.result.at)) c.finding_of-finding.ensures ∙ sym is, (λ z. broken_passed _ _ z), e.3 ∙ inv.2, e.1 ∙ inv.3, e.2 ∙ inv.4)
+    (ap (λ g. Err (record { finding = g; relocation = c.search.number + c.check_site-halt.result.at })) c.finding_of-finding.ensures ∙ sym is, (λ z. broken_passed _ z), e.3 ∙ inv.2, e.1 ∙ inv.3, e.2 ∙ inv.4)
 
 pub shape_of-highs-then-halt-ne0 : goal.shape_of-highs-then-halt-ne0
 shape_of-highs-then-halt-ne0 c = c.check_site-halt.ensures.3 ∙ c.search.invariant.2

@@ -2,7 +2,7 @@
 use mathlib.Core.Path.{◌≡◌}
 use Prim.Native.Nat.{◌-◌, ◌≤◌}
 use lib.ListN.{length}
-use Rattle.relocations_rules.specs.declared.RelocationCheck.TheVariants.{Passed}
+use Rattle.std.specs.Prelude.{Ok}
 use Rattle.relocations_check_all.proofs.Laws.Search.{Below}
 use Rattle.relocations_check_all.proofs.search.check_relocations.Given as goal
 
@@ -13,7 +13,7 @@ invariant-search l =
     × (length l.highs ≡ length l.initial.highs)
     × (length l.words ≡ length l.initial.words)
     × (length l.sizes ≡ length l.initial.sizes)
-    × (l.result ≡ Passed)
+    × (l.result ≡ Ok tt)
 
 abbrev pub decreases-search : goal.decreases-search
 decreases-search l = l.n - l.i

@@ -17,8 +17,5 @@ returns-then-number-eq12 c = rw (ne_eqb c.args.number 9 c.if-number-eq9.false, n
 pub returns-then-number-eq13 : goal.returns-then-number-eq13
 returns-then-number-eq13 c = rw (ne_eqb c.args.number 9 c.if-number-eq9.false, ne_eqb c.args.number 10 c.if-number-eq10.false, ne_eqb c.args.number 11 c.if-number-eq11.false, ne_eqb c.args.number 12 c.if-number-eq12.false, eq-eqb c.args.number 13 c.if-number-eq13.true)
 
-pub returns-then-number-eq14 : goal.returns-then-number-eq14
-returns-then-number-eq14 c = rw (ne_eqb c.args.number 9 c.if-number-eq9.false, ne_eqb c.args.number 10 c.if-number-eq10.false, ne_eqb c.args.number 11 c.if-number-eq11.false, ne_eqb c.args.number 12 c.if-number-eq12.false, ne_eqb c.args.number 13 c.if-number-eq13.false, eq-eqb c.args.number 14 c.if-number-eq14.true)
-
 pub returns : goal.returns
-returns c = rw (ne_eqb c.args.number 9 c.if-number-eq9.false, ne_eqb c.args.number 10 c.if-number-eq10.false, ne_eqb c.args.number 11 c.if-number-eq11.false, ne_eqb c.args.number 12 c.if-number-eq12.false, ne_eqb c.args.number 13 c.if-number-eq13.false, ne_eqb c.args.number 14 c.if-number-eq14.false)
+returns c = rw (ne_eqb c.args.number 9 c.if-number-eq9.false, ne_eqb c.args.number 10 c.if-number-eq10.false, ne_eqb c.args.number 11 c.if-number-eq11.false, ne_eqb c.args.number 12 c.if-number-eq12.false, ne_eqb c.args.number 13 c.if-number-eq13.false)
