@@ -11,31 +11,26 @@ ghost use Rattle.elf_check.specs.Requires.{Targeted, target_new, targets_differ}
 use elf_read::{MAX_SECTIONS, NOBITS, NULL, REL, RELA, SYMTAB, class_of};
 use numbers_arithmetic::ends_within;
 
-// Document 02: "symbols and outside values up to 8,192, records up to 32,768"
+// An object has at most 8,192 symbols and 32,768 relocations.
 pub const MAX_SYMBOLS: usize = 8192;
 
 pub const MAX_RELOCATIONS: usize = 32768;
 
-// Whether no two counting RELA sections have one target, in one way through the sections. `marks` has an entry for each section, which comes
-// as 0 and gets one more than the number of the RELA section that relocates it.
-fn targets_differ(object: &[u8], marks: &mut [u32]) -> bool
-    requires { TableInside object.now × (section_count object.now ≤ length marks.old) × ((t : ℕ) → get_or marks.old t 0 ≡ 0) }
+// Whether no two counting RELA sections have one target, in one way through the sections. `met` tells of each section whether it is the
+// target of one that was passed.
+fn targets_differ(object: &[u8]) -> bool
+    requires { TableInside object.now }
     ensures { result ≡ targets_differ object.now }
 {
-    let n = elf_read::section_count(object);
-    let mut i: usize = 0;
-    'next: while i < n {
-        if !elf_read::is_counting_rela(object, i) {
-            i += 1;
-            continue 'next;
+    let mut met = [false; MAX_SECTIONS];
+    for i in 0..elf_read::section_count(object) {
+        if elf_read::is_counting_rela(object, i) {
+            let target = elf_read::read_section(object, i).info as usize;
+            if met[target] {
+                return false;
+            }
+            met[target] = true;
         }
-        let h = elf_read::read_section(object, i);
-        let t = h.info as usize;
-        if marks[t] != 0 {
-            return false;
-        }
-        marks[t] = i as u32 + 1;
-        i += 1;
     }
     true
 }
@@ -48,12 +43,10 @@ fn is_target_new(object: &[u8], differ: bool, i: usize, target: u32) -> bool
     if differ {
         return true;
     }
-    let mut j: usize = 0;
-    while j < i {
+    for j in 0..i {
         if elf_read::relocates(object, j, target as usize) {
             return false;
         }
-        j += 1;
     }
     true
 }
@@ -147,17 +140,14 @@ pub fn check_sections(object: &[u8]) -> Result<(), u32>
     let n = elf_read::section_count(object);
     let table = elf_read::symbol_table(object);
     let few = elf_read::relocations_within(object, n, MAX_RELOCATIONS);
-    let mut marks = [0u32; MAX_SECTIONS];
-    let differ = targets_differ(object, &mut marks);
-    let mut i: usize = 0;
-    while i < n {
+    let differ = targets_differ(object);
+    for i in 0..n {
         if !(is_plain_well(object, i)
             & is_symbol_table_well(object, table, i)
             & is_relocation_well(object, table, few, differ, i))
         {
             return Err(i as u32);
         }
-        i += 1;
     }
     Ok(())
 }

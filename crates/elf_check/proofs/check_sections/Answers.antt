@@ -4,8 +4,6 @@ use mathlib.Core.Bool.{true, not, ◌&&◌}
 use native.Mathlib.Omega.{arith}
 use lib.Dec.{leb}
 use borrow.Author.Count.{below_more}
-use Rattle.numbers_definitions.proofs.Laws.Lists.{zeros_length, zeros_at}
-use Rattle.elf_read.specs.Headers.{max_sections}
 use Rattle.elf_read.specs.Sections.{relocations_below}
 use Rattle.elf_read.specs.Requires.{TableInside}
 use Rattle.elf_header.specs.Headers.{table_allowed}
@@ -38,13 +36,7 @@ pub relocations_within-few-requires : goal.relocations_within-few-requires
 relocations_within-few-requires c = (inside (goal.at.relocations_within-few-requires c).Else-not-check_table, omega (arith, c.section_count-n.ensures))
 
 pub targets_differ-differ-requires : goal.targets_differ-differ-requires
-targets_differ-differ-requires c =
-    let table = inside (goal.at.targets_differ-differ-requires c).Else-not-check_table in
-    let long = zeros_length max_sections in
-    (table, omega (arith, table.few, long), zeros_at max_sections)
-
-pub loop-i-init : goal.loop-i-init
-loop-i-init c = (omega arith, λ j h. absurd (omega arith))
+targets_differ-differ-requires c = inside (goal.at.targets_differ-differ-requires c).Else-not-check_table
 
 pub is_plain_well-requires : goal.is_plain_well-requires
 is_plain_well-requires c =
@@ -69,12 +61,12 @@ overflow_cast-result c =
 
 pub returns-then-not-is_plain_well-is_symbol_table_well : goal.returns-then-not-is_plain_well-is_symbol_table_well
 returns-then-not-is_plain_well-is_symbol_table_well c =
-    sym (check_broken _ c.loop-i.i (allowed (goal.at.returns-then-not-is_plain_well-is_symbol_table_well c).Else-not-check_table) (omega (arith, c.section_count-n.ensures)) c.loop-i.invariant.1 (well_is (goal.at.returns-then-not-is_plain_well-is_symbol_table_well c).After-is_relocation_well ∙ c.if-not-is_plain_well-is_symbol_table_well.true))
+    sym (check_broken _ c.loop-i.i (allowed (goal.at.returns-then-not-is_plain_well-is_symbol_table_well c).Else-not-check_table) (omega (arith, c.section_count-n.ensures)) c.loop-i.invariant (well_is (goal.at.returns-then-not-is_plain_well-is_symbol_table_well c).After-is_relocation_well ∙ c.if-not-is_plain_well-is_symbol_table_well.true))
 
 pub loop-i-preserved : goal.loop-i-preserved
 loop-i-preserved c =
-    (omega arith, below_more _ _ c.loop-i.invariant.1 (ap not (well_is (goal.at.loop-i-preserved c).After-is_relocation_well ∙ c.if-not-is_plain_well-is_symbol_table_well.false)))
+    below_more _ _ c.loop-i.invariant (ap not (well_is (goal.at.loop-i-preserved c).After-is_relocation_well ∙ c.if-not-is_plain_well-is_symbol_table_well.false))
 
 pub returns : goal.returns
 returns c =
-    sym (check_sound _ (allowed (goal.at.returns c).Else-not-check_table) (λ j h. c.loop-i.invariant.1 j (omega (arith, c.section_count-n.ensures))))
+    sym (check_sound _ (allowed (goal.at.returns c).Else-not-check_table) (λ j h. c.loop-i.invariant j (omega (arith, c.section_count-n.ensures))))

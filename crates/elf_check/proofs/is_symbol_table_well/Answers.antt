@@ -1,10 +1,6 @@
 -- `elf_check::is_symbol_table_well` meets its contract.
-use Rattle.elf_read.proofs.Laws.Headers.{header_there}
 use Rattle.elf_check.specs.Rules.{symbol_table_well}
 use Rattle.elf_check.proofs.is_symbol_table_well.Goals as goal
-
-pub class_of-requires : goal.class_of-requires
-class_of-requires c = header_there _ c.requires.0.header
 
 pub returns : goal.returns
 unfolding symbol_table_well

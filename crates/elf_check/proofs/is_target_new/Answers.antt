@@ -3,13 +3,11 @@ use mathlib.Core.Path.{◌≡◌, sym, ap, ◌∙◌}
 use mathlib.Core.Bool.{Bool, not, ◌&&◌}
 use native.Mathlib.Omega.{arith}
 use lib.Dec.{eqb}
-use borrow.Author.Count.{below_more}
 use Rattle.numbers_definitions.specs.First.{everywhere}
 use Rattle.numbers_definitions.proofs.Laws.First.{everywhere_is, everywhere_not}
 use Rattle.elf_read.specs.Sections.{section_at, counting_rela}
 use Rattle.elf_check.specs.Requires.{target_new}
 use Rattle.elf_check.proofs.Laws.Targets.{differ_new}
-use borrow.Author.Rules.{rules}
 use Rattle.elf_check.proofs.is_target_new.Goals as goal
 use Rattle.elf_check.proofs.is_target_new.Goals.{Start}
 
@@ -26,17 +24,10 @@ returns-then-differ c =
     let a = c.args in
     sym (differ_new a.object.now a.i c.requires.1 c.requires.2 (sym c.requires.4 ∙ c.if-differ.true))
 
-pub loop-j-init : goal.loop-j-init
-loop-j-init c = (omega arith, λ k h. absurd (omega arith))
-
 pub returns-then-relocates : goal.returns-then-relocates
 returns-then-relocates c =
     by_target (goal.at.returns-then-relocates c).Start _ (sym (everywhere_not _ c.args.i c.loop-j.j (omega arith) (ap not (sym c.relocates.ensures ∙ c.if-relocates.true))))
 
-pub loop-j-preserved : goal.loop-j-preserved
-loop-j-preserved c =
-    (search rules, below_more _ _ c.loop-j.invariant.1 (ap not (sym c.relocates.ensures ∙ c.if-relocates.false)))
-
 pub returns : goal.returns
 returns c =
-    by_target (goal.at.returns c).Start _ (sym (everywhere_is _ c.args.i (λ k h. c.loop-j.invariant.1 k (omega arith))))
+    by_target (goal.at.returns c).Start _ (sym (everywhere_is _ c.args.i (λ k h. c.loop-j.invariant k (omega arith))))

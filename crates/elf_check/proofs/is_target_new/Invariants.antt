@@ -1,13 +1,10 @@
 -- `elf_check::is_target_new` meets its contract.
 use mathlib.Core.Path.{◌≡◌}
-use Prim.Native.Nat.{ℕ, ◌-◌, ◌≤◌, ◌<◌}
+use Prim.Native.Nat.{ℕ, ◌<◌}
 use mathlib.Core.Bool.{true, not, ◌&&◌}
 use lib.Dec.{eqb}
 use Rattle.elf_read.specs.Sections.{section_at, counting_rela}
 use Rattle.elf_check.proofs.is_target_new.Given as goal
 
 abbrev pub invariant-loop-j : goal.invariant-loop-j
-invariant-loop-j l = (l.j ≤ l.i) × ((k : ℕ) → k < l.j → not (counting_rela l.object k && eqb (section_at l.object k).info l.target) ≡ true)
-
-abbrev pub decreases-loop-j : goal.decreases-loop-j
-decreases-loop-j l = l.i - l.j
+invariant-loop-j l = (k : ℕ) → k < l.j → not (counting_rela l.object k && eqb (section_at l.object k).info l.target) ≡ true
