@@ -10,8 +10,10 @@ ghost use Rattle.order_lookup.specs.Addresses.{placed_at, no_addresses, addresse
 use elf_read::MAX_SECTIONS;
 use numbers_definitions::{Address, Class};
 use order_format::OrderHeader;
+use std::cmp::Ordering;
 
 // The value that the n entries from `at` on give to number k, if they give one. They ascend strictly, so this is a binary search.
+// It is a loop of its own: the library searches slices of elements, and an entry is as many bytes as the class says.
 fn find(class: Class, order: &[u8], at: usize, n: usize, k: u32) -> Option<Address>
     requires { Searchable class order.now at n }
     ensures { result ≡ value_in class order.now at n k }
@@ -21,14 +23,10 @@ fn find(class: Class, order: &[u8], at: usize, n: usize, k: u32) -> Option<Addre
     while low < high {
         let middle = low + (high - low) / 2;
         let e = order_format::read_entry(class, order, at, middle);
-        if e.index == k {
-            let value = e.value;
-            return Some(value);
-        }
-        if e.index < k {
-            low = middle + 1;
-        } else {
-            high = middle;
+        match e.index.cmp(&k) {
+            Ordering::Less => low = middle + 1,
+            Ordering::Equal => return Some(e.value),
+            Ordering::Greater => high = middle,
         }
     }
     None
@@ -61,23 +59,20 @@ pub fn take_external(class: Class, order: &[u8], counts: OrderHeader, from: usiz
     requires { (reading class order.now ≡ Some counts) × Reached class order.now from k }
     ensures { (result.value ≡ external_value class order.now k) × Reached class order.now result.next (k + 1) }
 {
+    let nothing = Taken {
+        value: None,
+        next: from,
+    };
     if counts.externals <= from {
-        return Taken {
-            value: None,
-            next: from,
-        };
+        return nothing;
     }
     let start = order_format::externals_start(class, counts.placements);
     let e = order_format::read_entry(class, order, start, from);
     if e.index != k {
-        return Taken {
-            value: None,
-            next: from,
-        };
+        return nothing;
     }
-    let value = e.value;
     Taken {
-        value: Some(value),
+        value: Some(e.value),
         next: from + 1,
     }
 }
@@ -91,7 +86,7 @@ pub fn placed_at(class: Class, order: &[u8], counts: OrderHeader, section: u32) 
     find(class, order, start, counts.placements, section)
 }
 
-// "The 32 row addresses travel as one array passed by value."; document 02 has up to 128 rows.
+// The addresses of all sections travel as one array passed by value.
 pub type Addresses = [u64; MAX_SECTIONS];
 
 // Stores the address of each section that the order places into an array of zeros. A section that the order does not place
@@ -105,16 +100,13 @@ pub fn fill_addresses(
     requires { (array ≡ no_addresses) × (reading class order.now ≡ Some counts) }
     ensures { result ≡ addresses class order.now }
 {
-    let n = counts.placements;
     let start = order_format::placements_start(class);
-    let mut i: usize = 0;
-    while i < n {
+    for i in 0..counts.placements {
         let e = order_format::read_entry(class, order, start, i);
         let section = e.index as usize;
         if section < MAX_SECTIONS {
             array[section] = e.value.0;
         }
-        i += 1;
     }
     array
 }

@@ -1,12 +1,8 @@
 -- `order_lookup::fill_addresses` meets its contract.
 use mathlib.Core.Path.{◌≡◌}
-use Prim.Native.Nat.{◌-◌, ◌≤◌}
 use Rattle.order_lookup.proofs.Laws.Array.{filled}
 use Rattle.order_lookup.proofs.fill_addresses.Given as goal
 
 abbrev pub invariant-loop-i : goal.invariant-loop-i
 invariant-loop-i l =
-    (l.i ≤ l.n) × (l.array ≡ filled l.class l.order l.i)
-
-abbrev pub decreases-loop-i : goal.decreases-loop-i
-decreases-loop-i l = l.n - l.i
+    l.array ≡ filled l.class l.order l.i
