@@ -1,6 +1,6 @@
 -- Laws of the lowest fault.
-use Rattle.std.specs.Prelude.{Err, None, Ok, Some}
-use mathlib.Core.Path.{◌≡◌, refl, sym, ap, ◌∙◌}
+use Rattle.std.specs.Prelude.{Err, None, Ok, Result, Some, ⊤}
+use mathlib.Core.Path.{◌≡◌, refl, sym, ap, subst, ◌∙◌}
 use mathlib.Core.Bool.{Bool, true, false, cond, ◌&&◌}
 use mathlib.Core.List.{List}
 use Prim.Native.Nat.{ℕ, ◌^◌, ◌<◌}
@@ -27,6 +27,20 @@ unfolding lowest
 lowest_nowhere p n none =
     let is : first p n ≡ n = first_is p n n (omega arith) none (λ h. absurd (omega arith)) in
     rw (is, le-ltb n n (omega arith))
+
+pub lowest_err : (p : ℕ → Bool) (n k : ℕ) → lowest p n ≡ Err k → (k < n) × ((j : ℕ) → j < k → p j ≡ false) × (p k ≡ true)
+unfolding lowest
+lowest_err p n k e = go (ltb (first p n) n) refl e
+  where
+    go : (b : Bool) → ltb (first p n) n ≡ b → ◌≡◌ {A = Result ⊤ ℕ} (cond b (Err (first p n)) (Ok tt)) (Err k)
+        → (k < n) × ((j : ℕ) → j < k → p j ≡ false) × (p k ≡ true)
+    go true h r =
+        let is : first p n ≡ k = cc in
+        let there : first p n < n = ltb-true (first p n) n h in
+        subst (λ m. (m < n) × ((j : ℕ) → j < m → p j ≡ false) × (p m ≡ true)) is (there, first_below p n, first_at p n there)
+    go false h r =
+        let z : ◌≡◌ {A = ℕ} 0 1 = cc in
+        absurd (omega arith)
 
 -- ---- numbers that a list of entries names
 

@@ -5,10 +5,8 @@ use mathlib.Core.List.{List}
 use Prim.Native.Nat.{ℕ, ◌^◌, ◌<◌}
 use mathlib.Core.Bool.{true, not, ◌&&◌}
 use native.Mathlib.Omega.{arith}
-use borrow.Author.Count.{below_more}
 use Rattle.numbers_definitions.specs.declared.Class.{Class}
 use Rattle.elf_read.specs.Headers.{class_of}
-use Rattle.elf_read.proofs.Laws.Headers.{header_there}
 use Rattle.order_format.specs.declared.Entry.{Entry}
 use Rattle.order_format.specs.declared.OrderHeader.{OrderHeader}
 use Rattle.order_format.specs.Orders.{externals_at, entry_at, ascending}
@@ -18,7 +16,6 @@ use Rattle.order_format.proofs.Laws.Sound.{Sound, reading_sound, sound_counts}
 use Rattle.placing_match.specs.Placements.{lowest}
 use Rattle.placing_match.specs.Externals.{is_undefined, external_check}
 use Rattle.placing_match.proofs.Laws.Lowest.{lowest_named, lowest_unnamed}
-use borrow.Author.Rules.{rules}
 use Rattle.placing_match.proofs.check_externals.Goals as goal
 use Rattle.placing_match.proofs.check_externals.Goals.{After-externals_start-start, After-is_undefined, After-read_entry-e}
 
@@ -56,7 +53,7 @@ same c =
     ∙ ap (λ (k : Class). lowest (λ x. is_given (external_value k (order c) x) && not (is_undefined (object c) x)) (2 ^ 32)) c.class_of-class.ensures
 
 abbrev entry : (c : After-read_entry-e) → Entry
-entry c = entry_at (class (goal.at.After-read_entry-e c).After-externals_start-start) (order (goal.at.After-read_entry-e c).After-externals_start-start) (start (goal.at.After-read_entry-e c).After-externals_start-start) c.loop-j.j
+entry c = entry_at (class (goal.at.After-read_entry-e c).After-externals_start-start) (order (goal.at.After-read_entry-e c).After-externals_start-start) (start (goal.at.After-read_entry-e c).After-externals_start-start) c.search.j
 
 tested : (c : After-is_undefined) → c.is_undefined.result ≡ is_undefined (object (goal.at.After-is_undefined c).After-externals_start-start) (entry (goal.at.After-is_undefined c).After-read_entry-e).index
 tested c = c.is_undefined.ensures ∙ ap (λ (e : Entry). is_undefined (object (goal.at.After-is_undefined c).After-externals_start-start) e.index) c.read_entry-e.ensures
@@ -66,40 +63,20 @@ externals_start-start-requires c =
     let f = reading_sound (class_of c.args.object.now) c.args.order.now c.args.counts c.requires.1 in
     omega (arith, f.few)
 
-pub class_of-class-requires : goal.class_of-class-requires
-class_of-class-requires c = header_there c.args.object.now c.requires.0.table.header
-
-pub symbols_of-symbols-requires : goal.symbols_of-symbols-requires
-symbols_of-symbols-requires c = c.requires.0
-
-pub is_undefined-requires : goal.is_undefined-requires
-is_undefined-requires c =
-    (c.requires.0, c.symbols_of-symbols.ensures)
-
-pub loop-j-init : goal.loop-j-init
-loop-j-init c = (omega arith, λ k h. absurd (omega arith))
-
 pub read_entry-e-requires : goal.read_entry-e-requires
 read_entry-e-requires c =
-    omega (arith, c.externals_start-start.ensures, (reads (goal.at.read_entry-e-requires c).After-externals_start-start).whole, entry_inside (class (goal.at.read_entry-e-requires c).After-externals_start-start) c.loop-j.j (number (goal.at.read_entry-e-requires c).After-externals_start-start) c.loop-j-test.true)
+    omega (arith, c.externals_start-start.ensures, (reads (goal.at.read_entry-e-requires c).After-externals_start-start).whole, entry_inside (class (goal.at.read_entry-e-requires c).After-externals_start-start) c.search.j (number (goal.at.read_entry-e-requires c).After-externals_start-start) c.search-test.true)
 
 pub returns-then-not-is_undefined : goal.returns-then-not-is_undefined
 returns-then-not-is_undefined c =
     let index : c.read_entry-e.result.index ≡ (entry (goal.at.returns-then-not-is_undefined c).After-read_entry-e).index = ap (λ (c : Entry). c.index) c.read_entry-e.ensures in
     let small : (entry (goal.at.returns-then-not-is_undefined c).After-read_entry-e).index < 2 ^ 32 = omega (arith, index, c.read_entry-e.type_inv) in
     ap Err index
-    ∙ sym (lowest_named (class (goal.at.returns-then-not-is_undefined c).After-externals_start-start) (order (goal.at.returns-then-not-is_undefined c).After-externals_start-start) (start (goal.at.returns-then-not-is_undefined c).After-externals_start-start) (number (goal.at.returns-then-not-is_undefined c).After-externals_start-start) (up (goal.at.returns-then-not-is_undefined c).After-externals_start-start) (λ x. not (is_undefined (object (goal.at.returns-then-not-is_undefined c).After-externals_start-start) x)) c.loop-j.j (omega arith) small c.loop-j.invariant.1
+    ∙ sym (lowest_named (class (goal.at.returns-then-not-is_undefined c).After-externals_start-start) (order (goal.at.returns-then-not-is_undefined c).After-externals_start-start) (start (goal.at.returns-then-not-is_undefined c).After-externals_start-start) (number (goal.at.returns-then-not-is_undefined c).After-externals_start-start) (up (goal.at.returns-then-not-is_undefined c).After-externals_start-start) (λ x. not (is_undefined (object (goal.at.returns-then-not-is_undefined c).After-externals_start-start) x)) c.search.j (omega arith) small c.search.invariant
     (ap not (sym (tested (goal.at.returns-then-not-is_undefined c).After-is_undefined)) ∙ (ap not c.if-not-is_undefined.true)))
     ∙ same (goal.at.returns-then-not-is_undefined c).After-externals_start-start
 
-pub overflow_add-j : goal.overflow_add-j
-overflow_add-j c = record { fits = omega (arith, c.loop-j-test.true, (reads (goal.at.overflow_add-j c).After-externals_start-start).some) }
-
-pub loop-j-preserved : goal.loop-j-preserved
-loop-j-preserved c =
-    (search rules, below_more _ _ c.loop-j.invariant.1 (ap not (sym (tested (goal.at.loop-j-preserved c).After-is_undefined)) ∙ (ap not c.if-not-is_undefined.false)))
-
 pub returns : goal.returns
 returns c =
-    sym (lowest_unnamed (class (goal.at.returns c).After-externals_start-start) (order (goal.at.returns c).After-externals_start-start) (start (goal.at.returns c).After-externals_start-start) (number (goal.at.returns c).After-externals_start-start) (up (goal.at.returns c).After-externals_start-start) (λ x. not (is_undefined (object (goal.at.returns c).After-externals_start-start) x)) (λ k h. c.loop-j.invariant.1 k (omega arith)))
+    sym (lowest_unnamed (class (goal.at.returns c).After-externals_start-start) (order (goal.at.returns c).After-externals_start-start) (start (goal.at.returns c).After-externals_start-start) (number (goal.at.returns c).After-externals_start-start) (up (goal.at.returns c).After-externals_start-start) (λ x. not (is_undefined (object (goal.at.returns c).After-externals_start-start) x)) (λ k h. c.search.invariant k (omega arith)))
     ∙ same (goal.at.returns c).After-externals_start-start
