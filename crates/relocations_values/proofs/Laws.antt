@@ -1,7 +1,5 @@
 -- The laws of the definitions in specs/.
 pub mod Pairs
-pub mod Exchanges
-pub mod Heaps
 pub mod Sorting
 pub mod Highs
 pub mod Lookup

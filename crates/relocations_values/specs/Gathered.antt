@@ -1,7 +1,7 @@
 -- The high halves of a site as they are gathered, in the order of the file.
-use Rattle.std.specs.Prelude.{◌≡◌, Bool, true, false, List, ℕ, ◌≤◌, ◌<◌, length, get_or}
+use Rattle.std.specs.Prelude.{◌≡◌, Bool, true, false, cond, List, ℕ, ◌≤◌, ◌<◌, length, get_or, ltb}
 use Rattle.relocations_rela.specs.declared.sites.Site.{Site}
-use Rattle.relocations_rela.specs.Sites.{count}
+use Rattle.relocations_rela.specs.Sites.{count, offset}
 use Rattle.relocations_values.specs.Highs.{is_high}
 use Rattle.relocations_values.specs.Sorting.{keys, Ordered}
 
@@ -20,3 +20,7 @@ High object x k = (k < count object x) × (is_high object x k ≡ true)
 pub record Gathers (object : List ℕ) (x : Site) (l : List ℕ) (m : ℕ) (falls : Bool) : Type 0 where
   pub lists : Lists (High object x) l m
   pub ordered : falls ≡ false → Ordered (keys object x l) m
+
+-- the offset of relocation k, or 0 if there is none
+abbrev pub key_of : List ℕ → Site → ℕ → ℕ
+key_of object x k = cond (ltb k (count object x)) (offset object x k) 0

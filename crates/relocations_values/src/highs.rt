@@ -1,14 +1,10 @@
 // The high halves of a site, listed once, so that each low half finds its pair by halving.
-ghost use Rattle.std.specs.Prelude.{◌≡◌, Bool, ◌^◌, ◌≤◌, ◌<◌, length};
-ghost use Rattle.numbers_definitions.specs.declared.Class.{Class};
-ghost use Rattle.relocations_types.specs.Types.{decision};
-ghost use Rattle.relocations_decisions.specs.Decisions.{gives_pair};
+ghost use Rattle.std.specs.Prelude.{◌≡◌, ◌^◌, ◌≤◌, ◌<◌, length};
 ghost use Rattle.relocations_rela.specs.Sites.{count};
 ghost use Rattle.relocations_rela.specs.Requires.{SoundSite};
 ghost use Rattle.relocations_values.specs.Highs.{Listed};
-ghost use Rattle.relocations_values.specs.Gathered.{Gathers};
+ghost use Rattle.relocations_values.specs.Gathered.{Gathers, key_of};
 
-use super::sorting::sort;
 use relocations_rela::sites::Site;
 use relocations_types::is_pairing;
 
@@ -19,35 +15,36 @@ struct Gathered {
     falls: bool,
 }
 
-// Whether a relocation type is that of a high half. It is the same in both classes, with and without short instructions.
-fn is_high(kind: u32) -> bool
-    ensures { (c : Class) (rvc : Bool) → result ≡ gives_pair (decision c rvc kind) }
-{
-    is_pairing(kind)
-}
-
 // Gathers the numbers of the high halves of a site, in the order of the file.
 fn gather(object: &[u8], site: Site, highs: &mut [u32]) -> Gathered
     requires { SoundSite object.now site × (count object.now site ≤ length highs.old) × (length highs.old < 2 ^ 32) }
     ensures { Gathers object.now site highs.new result.count result.falls }
 {
-    let n = elf_read::relocation_entries(object, site.rela);
     let mut m: usize = 0;
     let mut last: u64 = 0;
     let mut falls = false;
-    let mut k: usize = 0;
-    while k < n {
-        let here = k;
-        k += 1;
-        if is_high(elf_read::read_kind(object, site.rela, here)) {
-            let offset = elf_read::read_offset(object, site.rela, here);
-            highs[m] = here as u32;
+    for k in 0..elf_read::relocation_entries(object, site.rela) {
+        if is_pairing(elf_read::read_kind(object, site.rela, k)) {
+            let offset = elf_read::read_offset(object, site.rela, k);
+            highs[m] = k as u32;
             m += 1;
             falls = falls | (offset.0 < last);
             last = offset.0;
         }
     }
     Gathered { count: m, falls }
+}
+
+// The offset of relocation k, or 0 if there is none: a sort or a search may ask for the key of any number.
+pub fn key_of(object: &[u8], site: Site, k: u32) -> u64
+    requires { SoundSite object.now site }
+    ensures { result ≡ key_of object.now site k }
+{
+    let k = k as usize;
+    if k < elf_read::relocation_entries(object, site.rela) {
+        return elf_read::read_offset(object, site.rela, k).0;
+    }
+    0
 }
 
 // Lists the high halves of a site, in the order of their offsets. Returns how many there are. They are sorted only where
@@ -57,10 +54,8 @@ pub fn list_highs(object: &[u8], site: Site, highs: &mut [u32]) -> usize
     ensures { Listed object.now site highs.new result × (length highs.new ≡ length highs.old) }
 {
     let gathered = gather(object, site, highs);
-    let m = gathered.count;
     if gathered.falls {
-        sort(object, site, highs, m);
-        return m;
+        highs[..gathered.count].sort_unstable_by_key(|k| key_of(object, site, *k));
     }
-    m
+    gathered.count
 }

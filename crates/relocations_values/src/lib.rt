@@ -3,7 +3,6 @@
 
 pub mod highs;
 pub mod pairs;
-mod sorting;
 
 ghost use Rattle.std.specs.Prelude.{◌≡◌};
 ghost use Rattle.numbers_definitions.specs.Whole.{plus};

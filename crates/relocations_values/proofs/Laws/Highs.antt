@@ -19,11 +19,9 @@ use Rattle.relocations_types.specs.Types.{decision}
 use Rattle.relocations_decisions.specs.Decisions.{gives_pair}
 use Rattle.relocations_rela.specs.declared.sites.Site.{Site}
 use Rattle.relocations_rela.specs.Sites.{count, entry, offset}
-use Rattle.relocations_rela.specs.Requires.{SoundSite}
 use Rattle.relocations_values.specs.Highs.{is_high, Listed}
-use Rattle.relocations_values.specs.Sorting.{keys, Numbered, Ordered, Exchanged}
+use Rattle.relocations_values.specs.Sorting.{keys, Ordered}
 use Rattle.relocations_values.specs.Gathered.{Lists, High, Gathers}
-use Rattle.relocations_values.proofs.Laws.Exchanges.{lists_exchanged}
 
 module _ (object : List ℕ) (x : Site) where
   -- ---- gathering
@@ -139,9 +137,6 @@ module _ (object : List ℕ) (x : Site) where
       once i j a b e (no h) (yes k) = absurd (omega (arith, g.rising j i k a))
       once i j a b e (no h) (no k) = omega arith
 
-  pub numbered : (l : List ℕ) (m : ℕ) → SoundSite object x → Lists (High object x) l m → Numbered object x l m
-  numbered l m s k = record { site = s; fits = k.fits; numbers = λ i h. (k.each i h).0 }
-
   pub listed : (l : List ℕ) (m : ℕ) → Lists (High object x) l m → Ordered (keys object x l) m → Listed object x l m
   listed l m k o =
       record {
@@ -151,6 +146,3 @@ module _ (object : List ℕ) (x : Site) where
         once = λ i j a b e. omega (arith, k.once i j (omega arith) b e);
         ordered = o;
       }
-
-  pub listed_sorted : (l r : List ℕ) (m : ℕ) → Lists (High object x) l m → Exchanged l m r → Ordered (keys object x r) m → Listed object x r m
-  listed_sorted l r m k e = listed r m (lists_exchanged (High object x) m l r k e)

@@ -1,13 +1,8 @@
--- `relocations_values::highs::gather` meets its contract. The loop's invariant: the high halves below k are listed. The measure is what is left.
+-- `relocations_values::highs::gather` meets its contract. The loop's invariant: the high halves below k are listed.
 use mathlib.Core.Path.{◌≡◌}
-use Prim.Native.Nat.{◌-◌, ◌≤◌}
 use lib.ListN.{length}
 use Rattle.relocations_values.proofs.Laws.Highs.{Gathering}
 use Rattle.relocations_values.proofs.highs.gather.Given as goal
 
 abbrev pub invariant-loop-k : goal.invariant-loop-k
-invariant-loop-k l =
-    (l.k ≤ l.n) × (length l.highs ≡ length l.initial.highs) × Gathering l.object l.site l.highs l.m l.last l.falls l.k
-
-abbrev pub decreases-loop-k : goal.decreases-loop-k
-decreases-loop-k l = l.n - l.k
+invariant-loop-k l = (length l.highs ≡ length l.initial.highs) × Gathering l.object l.site l.highs l.m l.last l.falls l.k
