@@ -35,98 +35,113 @@ fn targets_differ(object: &[u8]) -> bool
     true
 }
 
-// Whether no counting RELA below section i, which is one, has its target. `differ` tells whether that is so of all.
-fn is_target_new(object: &[u8], differ: bool, i: usize, target: u32) -> bool
-    requires { TableInside object.now × (i < section_count object.now) × (counting_rela object.now i ≡ true) × (target ≡ (section_at object.now i).info) × (differ ≡ targets_differ object.now) }
-    ensures { result ≡ target_new object.now i }
-{
-    if differ {
-        return true;
+// An object whose section headers lie in it, and what is known of all its sections together: `table` is the lowest symbol table,
+// `few` tells whether the relocations of all sections are not too many, and `differ` whether no two counting RELA sections have one target.
+#[derive(Clone, Copy)]
+struct Sections<'a> {
+    object: &'a [u8],
+    table: usize,
+    few: bool,
+    differ: bool,
+    ghost inside: { TableInside object.now },
+    ghost table_is: { table ≡ symbol_table object.now },
+    ghost few_is: { few ≡ leb (relocations_below object.now (section_count object.now)) max_relocations },
+    ghost differ_is: { differ ≡ targets_differ object.now },
+}
+
+impl Sections<'_> {
+    // Whether no counting RELA below section i, which is one, has its target.
+    fn is_target_new(&self, i: usize, target: u32) -> bool
+        requires { (i < section_count self.now.object.now) × (counting_rela self.now.object.now i ≡ true) × (target ≡ (section_at self.now.object.now i).info) }
+        ensures { result ≡ target_new self.now.object.now i }
+    {
+        if self.differ {
+            return true;
+        }
+        for j in 0..i {
+            if elf_read::relocates(self.object, j, target as usize) {
+                return false;
+            }
+        }
+        true
     }
-    for j in 0..i {
-        if elf_read::relocates(object, j, target as usize) {
+
+    // The rules that look at section i alone.
+    fn is_plain_well(&self, i: usize) -> bool
+        requires { i < section_count self.now.object.now }
+        ensures { result ≡ (starts_null self.now.object.now i && inside_file self.now.object.now i && allocated_well self.now.object.now i) }
+    {
+        let h = elf_read::read_section(self.object, i);
+        let kind = h.kind;
+        let align = h.alignment;
+        let starts = (i != 0) | (kind == NULL);
+        let ends = ends_within(h.offset.0, h.size, self.object.len() as u64);
+        let inside = (kind == NULL) | (kind == NOBITS) | ends;
+        let aligned = (align == 0) | numbers_arithmetic::one_bit(align);
+        let table = (kind == SYMTAB) | (kind == RELA) | (kind == REL);
+        starts & inside & (!elf_read::is_allocated(h) | (aligned & !table))
+    }
+
+    // The rule of the symbol table.
+    fn is_symbol_table_well(&self, i: usize) -> bool
+        requires { i < section_count self.now.object.now }
+        ensures { result ≡ symbol_table_well self.now.object.now i }
+    {
+        let size = elf_read::symbol_size(class_of(self.object));
+        let h = elf_read::read_section(self.object, i);
+        (h.kind != SYMTAB)
+            | ((i == self.table)
+                & (h.entsize == size)
+                & (h.size % size == 0)
+                & (elf_read::symbol_entries(self.object, h) <= MAX_SYMBOLS))
+    }
+
+    // Whether the relocations up to section i are not too many.
+    fn is_number_kept(&self, i: usize) -> bool
+        requires { i < section_count self.now.object.now }
+        ensures { result ≡ relocations_kept self.now.object.now i }
+    {
+        if self.few {
+            return true;
+        }
+        elf_read::relocations_within(self.object, i + 1, MAX_RELOCATIONS)
+    }
+
+    // The rules of a counting RELA.
+    fn is_rela_kept(&self, i: usize) -> bool
+        requires { Targeted self.now.object.now i × (counting_rela self.now.object.now i ≡ true) }
+        ensures { result ≡ (rela_kept self.now.object.now i && relocations_kept self.now.object.now i) }
+    {
+        let h = elf_read::read_section(self.object, i);
+        let target = elf_read::read_section(self.object, h.info as usize);
+        let size = elf_read::relocation_size(class_of(self.object));
+        let sized = (h.entsize == size) & (h.size % size == 0);
+        let linked = (self.table < elf_read::section_count(self.object))
+            & (h.link as usize == self.table);
+        sized
+            & linked
+            & elf_read::is_loaded(target)
+            & self.is_target_new(i, h.info)
+            & self.is_number_kept(i)
+    }
+
+    // The rules of RELA and REL sections.
+    fn is_relocation_well(&self, i: usize) -> bool
+        requires { i < section_count self.now.object.now }
+        ensures { result ≡ (no_counting_rel self.now.object.now i && rela_well self.now.object.now i && relocations_well self.now.object.now i) }
+    {
+        let h = elf_read::read_section(self.object, i);
+        if !elf_read::has_target(self.object, h) {
+            return true;
+        }
+        if h.kind == REL {
             return false;
         }
+        if h.kind != RELA {
+            return true;
+        }
+        self.is_rela_kept(i)
     }
-    true
-}
-
-// The rules that look at section i alone.
-fn is_plain_well(object: &[u8], i: usize) -> bool
-    requires { TableInside object.now × (i < section_count object.now) }
-    ensures { result ≡ (starts_null object.now i && inside_file object.now i && allocated_well object.now i) }
-{
-    let h = elf_read::read_section(object, i);
-    let kind = h.kind;
-    let align = h.alignment;
-    let starts = (i != 0) | (kind == NULL);
-    let ends = ends_within(h.offset.0, h.size, object.len() as u64);
-    let inside = (kind == NULL) | (kind == NOBITS) | ends;
-    let aligned = (align == 0) | numbers_arithmetic::one_bit(align);
-    let table = (kind == SYMTAB) | (kind == RELA) | (kind == REL);
-    starts & inside & (!elf_read::is_allocated(h) | (aligned & !table))
-}
-
-// The rule of the symbol table. `table` is the lowest one.
-fn is_symbol_table_well(object: &[u8], table: usize, i: usize) -> bool
-    requires { TableInside object.now × (i < section_count object.now) × (table ≡ symbol_table object.now) }
-    ensures { result ≡ symbol_table_well object.now i }
-{
-    let size = elf_read::symbol_size(class_of(object));
-    let h = elf_read::read_section(object, i);
-    (h.kind != SYMTAB)
-        | ((i == table)
-            & (h.entsize == size)
-            & (h.size % size == 0)
-            & (elf_read::symbol_entries(object, h) <= MAX_SYMBOLS))
-}
-
-// Whether the relocations up to section i are not too many. `few` tells whether those of all sections are not.
-fn is_number_kept(object: &[u8], few: bool, i: usize) -> bool
-    requires { TableInside object.now × (i < section_count object.now) × (few ≡ leb (relocations_below object.now (section_count object.now)) max_relocations) }
-    ensures { result ≡ relocations_kept object.now i }
-{
-    if few {
-        return true;
-    }
-    elf_read::relocations_within(object, i + 1, MAX_RELOCATIONS)
-}
-
-// The rules of a counting RELA. `table` is the lowest symbol table, `few` tells whether all relocations are not too many,
-// and `differ` whether no two have one target.
-fn is_rela_kept(object: &[u8], table: usize, few: bool, differ: bool, i: usize) -> bool
-    requires { Targeted object.now i × (table ≡ symbol_table object.now) × (few ≡ leb (relocations_below object.now (section_count object.now)) max_relocations) × (differ ≡ targets_differ object.now) × (counting_rela object.now i ≡ true) }
-    ensures { result ≡ (rela_kept object.now i && relocations_kept object.now i) }
-{
-    let h = elf_read::read_section(object, i);
-    let target = elf_read::read_section(object, h.info as usize);
-    let size = elf_read::relocation_size(class_of(object));
-    let sized = (h.entsize == size) & (h.size % size == 0);
-    let linked = (table < elf_read::section_count(object)) & (h.link as usize == table);
-    sized
-        & linked
-        & elf_read::is_loaded(target)
-        & is_target_new(object, differ, i, h.info)
-        & is_number_kept(object, few, i)
-}
-
-// The rules of RELA and REL sections. `table` is the lowest symbol table, `few` tells whether all relocations are not too
-// many, and `differ` whether no two RELA sections have one target.
-fn is_relocation_well(object: &[u8], table: usize, few: bool, differ: bool, i: usize) -> bool
-    requires { TableInside object.now × (i < section_count object.now) × (table ≡ symbol_table object.now) × (few ≡ leb (relocations_below object.now (section_count object.now)) max_relocations) × (differ ≡ targets_differ object.now) }
-    ensures { result ≡ (no_counting_rel object.now i && rela_well object.now i && relocations_well object.now i) }
-{
-    let h = elf_read::read_section(object, i);
-    if !elf_read::has_target(object, h) {
-        return true;
-    }
-    if h.kind == REL {
-        return false;
-    }
-    if h.kind != RELA {
-        return true;
-    }
-    is_rela_kept(object, table, few, differ, i)
 }
 
 // Check 5. An error is the first section that breaks a rule. A fault of the table itself has place 0.
@@ -138,13 +153,16 @@ pub fn check_sections(object: &[u8]) -> Result<(), u32>
         return Err(0);
     }
     let n = elf_read::section_count(object);
-    let table = elf_read::symbol_table(object);
-    let few = elf_read::relocations_within(object, n, MAX_RELOCATIONS);
-    let differ = targets_differ(object);
+    let sections = Sections {
+        object,
+        table: elf_read::symbol_table(object),
+        few: elf_read::relocations_within(object, n, MAX_RELOCATIONS),
+        differ: targets_differ(object),
+    };
     for i in 0..n {
-        if !(is_plain_well(object, i)
-            & is_symbol_table_well(object, table, i)
-            & is_relocation_well(object, table, few, differ, i))
+        if !(sections.is_plain_well(i)
+            & sections.is_symbol_table_well(i)
+            & sections.is_relocation_well(i))
         {
             return Err(i as u32);
         }

@@ -29,31 +29,23 @@ well_is c =
 pub returns-then-not-check_table : goal.returns-then-not-check_table
 returns-then-not-check_table c = sym (check_table_broken _ (sym c.check_table.ensures ∙ c.if-not-check_table.true))
 
-pub symbol_table-table-requires : goal.symbol_table-table-requires
-symbol_table-table-requires c = inside (goal.at.symbol_table-table-requires c).Else-not-check_table
+pub symbol_table-requires : goal.symbol_table-requires
+symbol_table-requires c = inside (goal.at.symbol_table-requires c).Else-not-check_table
 
-pub relocations_within-few-requires : goal.relocations_within-few-requires
-relocations_within-few-requires c = (inside (goal.at.relocations_within-few-requires c).Else-not-check_table, omega (arith, c.section_count-n.ensures))
+pub relocations_within-requires : goal.relocations_within-requires
+relocations_within-requires c = (inside (goal.at.relocations_within-requires c).Else-not-check_table, omega (arith, c.section_count-n.ensures))
 
-pub targets_differ-differ-requires : goal.targets_differ-differ-requires
-targets_differ-differ-requires c = inside (goal.at.targets_differ-differ-requires c).Else-not-check_table
+pub targets_differ-requires : goal.targets_differ-requires
+targets_differ-requires c = inside (goal.at.targets_differ-requires c).Else-not-check_table
 
-pub is_plain_well-requires : goal.is_plain_well-requires
-is_plain_well-requires c =
-    (inside (goal.at.is_plain_well-requires c).Else-not-check_table, omega (arith, c.section_count-n.ensures))
-
-pub is_symbol_table_well-requires : goal.is_symbol_table_well-requires
-is_symbol_table_well-requires c =
-    (inside (goal.at.is_symbol_table_well-requires c).Else-not-check_table, omega (arith, c.section_count-n.ensures), c.symbol_table-table.ensures)
-
-pub is_relocation_well-requires : goal.is_relocation_well-requires
-is_relocation_well-requires c = (
-  inside (goal.at.is_relocation_well-requires c).Else-not-check_table,
-  omega (arith, c.section_count-n.ensures),
-  c.symbol_table-table.ensures,
-  c.relocations_within-few.ensures ∙ ap (λ m. leb (relocations_below c.args.object.now m) max_relocations) c.section_count-n.ensures,
-  c.targets_differ-differ.ensures,
-)
+pub invariant_of-sections : goal.invariant_of-sections
+invariant_of-sections c =
+    record {
+      inside = inside (goal.at.invariant_of-sections c).Else-not-check_table;
+      table_is = c.symbol_table.ensures;
+      few_is = c.relocations_within.ensures ∙ ap (λ m. leb (relocations_below c.args.object.now m) max_relocations) c.section_count-n.ensures;
+      differ_is = c.targets_differ.ensures;
+    }
 
 pub overflow_cast-result : goal.overflow_cast-result
 overflow_cast-result c =

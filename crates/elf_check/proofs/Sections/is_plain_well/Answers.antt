@@ -1,6 +1,6 @@
--- `elf_check::is_plain_well` meets its contract.
+-- `elf_check::Sections::is_plain_well` meets its contract.
 use Rattle.elf_check.specs.Rules.{starts_null, inside_file, allocated_well}
-use Rattle.elf_check.proofs.is_plain_well.Goals as goal
+use Rattle.elf_check.proofs.Sections.is_plain_well.Goals as goal
 
 pub returns : goal.returns
 unfolding starts_null inside_file allocated_well
