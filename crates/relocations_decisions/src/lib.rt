@@ -8,15 +8,14 @@ ghost use Rattle.relocations_decisions.specs.Decisions.{is_store, is_refused, to
 use instructions_fields::{Field, Width};
 use relocations_types::{Calculation, Decision, Operand, Role, Rule};
 
-// Whether bytes are stored (document 01: a non-marker).
+// Whether bytes are stored: it is no marker. The matches of this crate name every case on purpose, so that a new one has to be
+// placed in each.
 pub fn is_store(decision: Decision) -> bool
     ensures { result ≡ is_store decision }
 {
     match decision {
         Decision::Store(_) => true,
-        Decision::Marker => false,
-        Decision::Align => false,
-        Decision::Refused => false,
+        Decision::Marker | Decision::Align | Decision::Refused => false,
     }
 }
 
@@ -25,9 +24,7 @@ pub fn is_refused(decision: Decision) -> bool
 {
     match decision {
         Decision::Refused => true,
-        Decision::Store(_) => false,
-        Decision::Marker => false,
-        Decision::Align => false,
+        Decision::Store(_) | Decision::Marker | Decision::Align => false,
     }
 }
 
@@ -37,9 +34,7 @@ pub fn bytes_touched(decision: Decision) -> u8
 {
     match decision {
         Decision::Store(rule) => rule.size,
-        Decision::Marker => 0,
-        Decision::Align => 0,
-        Decision::Refused => 0,
+        Decision::Marker | Decision::Align | Decision::Refused => 0,
     }
 }
 
@@ -49,9 +44,7 @@ fn is_stacked(calculation: Calculation) -> bool
 {
     match calculation {
         Calculation::Of(_, _) => false,
-        Calculation::Add => true,
-        Calculation::Sub => true,
-        Calculation::Set => true,
+        Calculation::Add | Calculation::Sub | Calculation::Set => true,
     }
 }
 
@@ -60,14 +53,11 @@ fn value_bits(field: Field) -> u32
     ensures { result ≡ value_bits field }
 {
     match field {
-        Field::U => 32,
-        Field::I => 12,
-        Field::S => 12,
+        Field::U | Field::Call => 32,
+        Field::I | Field::S | Field::Cj => 12,
         Field::B => 13,
         Field::J => 21,
         Field::Cb => 9,
-        Field::Cj => 12,
-        Field::Call => 32,
         Field::Data(width) => match width {
             Width::W6 => 6,
             Width::W8 => 8,
@@ -78,16 +68,16 @@ fn value_bits(field: Field) -> u32
     }
 }
 
-// The width of an ADD, SUB or SET in bits, or 0 for any other calculation.
+// The width of an ADD, SUB or SET in bits, or 0 for any other calculation. It is no Option: it goes round the loop over the
+// relocations beside numbers of one size.
 pub fn stack_bits(rule: Rule) -> u32
     ensures { result ≡ stack_bits rule }
 {
-    let calculation = rule.calculation;
-    let field = rule.field;
-    if is_stacked(calculation) {
-        return value_bits(field);
+    if is_stacked(rule.calculation) {
+        value_bits(rule.field)
+    } else {
+        0
     }
-    0
 }
 
 // The width of an ADD, SUB or SET in bits, or 0 for any other type.
@@ -96,9 +86,7 @@ pub fn stack_width(decision: Decision) -> u32
 {
     match decision {
         Decision::Store(rule) => stack_bits(rule),
-        Decision::Marker => 0,
-        Decision::Align => 0,
-        Decision::Refused => 0,
+        Decision::Marker | Decision::Align | Decision::Refused => 0,
     }
 }
 
@@ -107,8 +95,7 @@ pub fn is_paired(operand: Operand) -> bool
     ensures { result ≡ is_paired operand }
 {
     match operand {
-        Operand::Absolute => false,
-        Operand::PcRelative => false,
+        Operand::Absolute | Operand::PcRelative => false,
         Operand::Paired => true,
     }
 }
@@ -119,9 +106,7 @@ pub fn takes_pair(calculation: Calculation) -> bool
 {
     match calculation {
         Calculation::Of(_, operand) => is_paired(operand),
-        Calculation::Add => false,
-        Calculation::Sub => false,
-        Calculation::Set => false,
+        Calculation::Add | Calculation::Sub | Calculation::Set => false,
     }
 }
 
@@ -129,13 +114,8 @@ pub fn needs_pair(decision: Decision) -> bool
     ensures { result ≡ needs_pair decision }
 {
     match decision {
-        Decision::Store(rule) => {
-            let calculation = rule.calculation;
-            takes_pair(calculation)
-        }
-        Decision::Marker => false,
-        Decision::Align => false,
-        Decision::Refused => false,
+        Decision::Store(rule) => takes_pair(rule.calculation),
+        Decision::Marker | Decision::Align | Decision::Refused => false,
     }
 }
 
@@ -153,12 +133,7 @@ pub fn gives_pair(decision: Decision) -> bool
     ensures { result ≡ gives_pair decision }
 {
     match decision {
-        Decision::Store(rule) => {
-            let role = rule.role;
-            is_high_of_pair(role)
-        }
-        Decision::Marker => false,
-        Decision::Align => false,
-        Decision::Refused => false,
+        Decision::Store(rule) => is_high_of_pair(rule.role),
+        Decision::Marker | Decision::Align | Decision::Refused => false,
     }
 }
