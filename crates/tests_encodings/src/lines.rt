@@ -1,24 +1,19 @@
 // The lines: numbers in hexadecimal, with a space before each but the first.
 use super::choices;
-use instructions_fields::{Field, Width};
-use instructions_riscv::forms::Form;
-use instructions_riscv::ranges::Range;
+use instructions_fields::Field;
+use instructions_riscv::forms::has_form;
+use instructions_riscv::ranges::{Range, in_reach, keeps_alignment};
+use instructions_riscv::{data, halves};
+use numbers_arithmetic::difference;
 use numbers_definitions::Class;
-use relocations_types::{Calculation, Decision, Operand, Part, Role, Rule};
+use relocations_types::{Calculation, Decision, Rule};
 use std::io;
 use std::io::Write;
+use tests_harness::{end, then};
 
 fn first(out: &mut impl Write, kind: u8, n: u64) -> io::Result<()> {
     out.write_all(&[kind])?;
     then(out, n)
-}
-
-fn then(out: &mut impl Write, n: u64) -> io::Result<()> {
-    write!(out, " {n:x}")
-}
-
-fn end(out: &mut impl Write) -> io::Result<()> {
-    writeln!(out)
 }
 
 fn flag(out: &mut impl Write, b: bool) -> io::Result<()> {
@@ -27,7 +22,7 @@ fn flag(out: &mut impl Write, b: bool) -> io::Result<()> {
 
 // f: a field, a word, a value, the word with the value put in, and what the word holds.
 pub fn field(out: &mut impl Write, number: u64, word: u64, value: u64) -> io::Result<()> {
-    let field = choices::field(number);
+    let field = choices::FIELDS[(number % 13) as usize];
     first(out, b'f', number)?;
     then(out, word)?;
     then(out, value)?;
@@ -38,20 +33,18 @@ pub fn field(out: &mut impl Write, number: u64, word: u64, value: u64) -> io::Re
 
 // h: a number and its halves.
 pub fn half(out: &mut impl Write, x: u32) -> io::Result<()> {
-    first(out, b'h', x as u64)?;
-    then(
-        out,
-        instructions_riscv::halves::hi20(Class::Elf32, x as u64),
-    )?;
-    then(out, instructions_riscv::halves::lo12(x as u64))?;
+    let x = u64::from(x);
+    first(out, b'h', x)?;
+    then(out, halves::hi20(Class::Elf32, x))?;
+    then(out, halves::lo12(x))?;
     end(out)
 }
 
 // t: a type, whether bit 0 of e_flags is set, and then 0 for a marker, 1 for ALIGN, 3 for a refusal, or 2 with its rule.
 pub fn decision(out: &mut impl Write, rvc: bool, number: u8) -> io::Result<()> {
-    first(out, b't', number as u64)?;
+    first(out, b't', u64::from(number))?;
     flag(out, rvc)?;
-    match relocations_types::decide(Class::Elf32, rvc, number as u32) {
+    match relocations_types::decide(Class::Elf32, rvc, u32::from(number)) {
         Decision::Marker => then(out, 0),
         Decision::Align => then(out, 1),
         Decision::Store(asked) => rule(out, asked),
@@ -62,24 +55,20 @@ pub fn decision(out: &mut impl Write, rvc: bool, number: u8) -> io::Result<()> {
 
 // A rule: calculation, field, form, bytes, and 1 for a high half that pairs.
 fn rule(out: &mut impl Write, asked: Rule) -> io::Result<()> {
-    let calculation = asked.calculation;
-    let field = asked.field;
-    let form = asked.form;
-    let role = asked.role;
     then(out, 2)?;
-    calculated(out, calculation)?;
-    then(out, field_number(field))?;
-    then(out, form_number(form))?;
+    calculated(out, asked.calculation)?;
+    then(out, field_number(asked.field))?;
+    then(out, asked.form as u64)?;
     then(out, asked.size as u64)?;
-    then(out, role_number(role))
+    then(out, asked.role as u64)
 }
 
 // A calculation: the part and the operand, or 5 for ADD, 6 for SUB, 7 for SET.
 fn calculated(out: &mut impl Write, calculation: Calculation) -> io::Result<()> {
     match calculation {
         Calculation::Of(part, operand) => {
-            then(out, part_number(part))?;
-            then(out, operand_number(operand))
+            then(out, part as u64)?;
+            then(out, operand as u64)
         }
         Calculation::Add => then(out, 5),
         Calculation::Sub => then(out, 6),
@@ -89,21 +78,13 @@ fn calculated(out: &mut impl Write, calculation: Calculation) -> io::Result<()> 
 
 // d: a width, the field's word, S + A, and the word after ADD, SUB and SET.
 pub fn data(out: &mut impl Write, number: u64, v: u64, x: u64) -> io::Result<()> {
+    let width = choices::WIDTHS[(number % 5) as usize];
     first(out, b'd', number)?;
     then(out, v)?;
     then(out, x)?;
-    then(
-        out,
-        instructions_riscv::data::add(choices::width(number), v, x),
-    )?;
-    then(
-        out,
-        instructions_riscv::data::sub(choices::width(number), v, x),
-    )?;
-    then(
-        out,
-        instructions_riscv::data::set(choices::width(number), v, x),
-    )?;
+    then(out, data::add(width, v, x))?;
+    then(out, data::sub(width, v, x))?;
+    then(out, data::set(width, v, x))?;
     end(out)
 }
 
@@ -122,97 +103,24 @@ pub fn reach(out: &mut impl Write, number: u64, place: u64) -> io::Result<()> {
 }
 
 fn reached(class: Class, ends: Range, jump: choices::Jump) -> bool {
-    let d = numbers_arithmetic::difference(class, jump.t.0, jump.p.0);
-    instructions_riscv::ranges::in_reach(class, ends, d)
+    in_reach(class, ends, difference(class, jump.t.0, jump.p.0))
 }
 
 fn aligned(jump: choices::Jump) -> bool {
-    let d = numbers_arithmetic::difference(Class::Elf32, jump.t.0, jump.p.0);
-    instructions_riscv::ranges::keeps_alignment(false, d)
+    keeps_alignment(false, difference(Class::Elf32, jump.t.0, jump.p.0))
 }
 
 // i: a word, the next one, and which forms they have.
 pub fn forms(out: &mut impl Write, word: u64, next: u64) -> io::Result<()> {
     first(out, b'i', word)?;
     then(out, next)?;
-    flag(
-        out,
-        instructions_riscv::forms::has_form(Class::Elf32, Form::Any, word, next),
-    )?;
-    flag(
-        out,
-        instructions_riscv::forms::has_form(Class::Elf32, Form::Lui, word, next),
-    )?;
-    flag(
-        out,
-        instructions_riscv::forms::has_form(Class::Elf32, Form::Auipc, word, next),
-    )?;
-    flag(
-        out,
-        instructions_riscv::forms::has_form(Class::Elf32, Form::Jal, word, next),
-    )?;
-    flag(
-        out,
-        instructions_riscv::forms::has_form(Class::Elf32, Form::Branch, word, next),
-    )?;
-    flag(
-        out,
-        instructions_riscv::forms::has_form(Class::Elf32, Form::LowI, word, next),
-    )?;
-    flag(
-        out,
-        instructions_riscv::forms::has_form(Class::Elf32, Form::LowS, word, next),
-    )?;
-    flag(
-        out,
-        instructions_riscv::forms::has_form(Class::Elf32, Form::CallPair, word, next),
-    )?;
-    flag(
-        out,
-        instructions_riscv::forms::has_form(Class::Elf32, Form::CBranch, word, next),
-    )?;
-    flag(
-        out,
-        instructions_riscv::forms::has_form(Class::Elf32, Form::CJump, word, next),
-    )?;
+    for form in choices::FORMS {
+        flag(out, has_form(Class::Elf32, form, word, next))?;
+    }
     end(out)
 }
 
-fn part_number(part: Part) -> u64 {
-    match part {
-        Part::Whole => 0,
-        Part::Distance => 1,
-        Part::High => 2,
-        Part::Low => 3,
-        Part::BothHalves => 4,
-    }
-}
-
-fn operand_number(operand: Operand) -> u64 {
-    match operand {
-        Operand::Absolute => 0,
-        Operand::PcRelative => 1,
-        Operand::Paired => 2,
-    }
-}
-
-fn role_number(role: Role) -> u64 {
-    match role {
-        Role::Plain => 0,
-        Role::HighOfPair => 1,
-    }
-}
-
-fn width_number(width: Width) -> u64 {
-    match width {
-        Width::W6 => 8,
-        Width::W8 => 9,
-        Width::W16 => 10,
-        Width::W32 => 11,
-        Width::W64 => 12,
-    }
-}
-
+// A field's place among those that the lines of `f` go through.
 fn field_number(field: Field) -> u64 {
     match field {
         Field::U => 0,
@@ -223,21 +131,6 @@ fn field_number(field: Field) -> u64 {
         Field::Cb => 5,
         Field::Cj => 6,
         Field::Call => 7,
-        Field::Data(width) => width_number(width),
-    }
-}
-
-fn form_number(form: Form) -> u64 {
-    match form {
-        Form::Any => 0,
-        Form::Lui => 1,
-        Form::Auipc => 2,
-        Form::Jal => 3,
-        Form::Branch => 4,
-        Form::LowI => 5,
-        Form::LowS => 6,
-        Form::CallPair => 7,
-        Form::CBranch => 8,
-        Form::CJump => 9,
+        Field::Data(width) => 8 + width as u64,
     }
 }

@@ -7,28 +7,50 @@ mod lines;
 
 use std::io;
 use std::io::{BufWriter, Write};
+use tests_harness::Lines;
 
-// A kind is the letter that its lines begin with. Only those of 'e' begin with 'd': they are data at the edges of each
-// width.
+// Each kind of line begins with a letter of its own. Those of data come twice: at the edges of each width, and at numbers of
+// the sequence.
 fn main(rt: HostRuntime) -> io::Result<()> {
     let mut out = BufWriter::new(rt.alloc(), io::writer(&rt))?;
-    run(&mut out, b'f', 416)?;
-    run(&mut out, b'h', 64)?;
-    run(&mut out, b't', 512)?;
-    run(&mut out, b'e', 125)?;
-    run(&mut out, b'd', 40)?;
-    run(&mut out, b'r', 56)?;
-    run(&mut out, b'i', 192)?;
+    run(
+        &mut out,
+        416,
+        |out, i, a, b| lines::field(out, i % 13, a, b),
+    )?;
+    run(&mut out, 64, |out, _, a, _| {
+        lines::half(out, (a % 0x1_0000_0000) as u32)
+    })?;
+    run(&mut out, 512, |out, i, _, _| {
+        lines::decision(out, i < 256, (i % 256) as u8)
+    })?;
+    run(&mut out, 125, |out, i, _, _| edges(out, i))?;
+    run(&mut out, 40, |out, i, a, b| {
+        lines::data(out, i % 5, a, b)
+    })?;
+    run(
+        &mut out,
+        56,
+        |out, i, _, _| lines::reach(out, i / 14, i % 14),
+    )?;
+    run(&mut out, 192, |out, i, a, b| {
+        let opcode = choices::OPCODES[(i / 16 % 12) as usize];
+        lines::forms(out, choices::word(opcode, a), choices::word(0x67, b))
+    })?;
     out.flush()
 }
 
-// The lines of one kind, each with two numbers of a fixed sequence.
-fn run(out: &mut impl Write, kind: u8, count: u64) -> io::Result<()> {
+// Lines of one kind, by their numbers from 0 on, each with two numbers of a fixed sequence.
+fn run<F>(out: &mut Lines<'_>, count: u64, mut line: F) -> io::Result<()>
+where
+    F: FnMut(&mut Lines<'_>, u64, u64, u64) -> io::Result<()>,
+    requires { F.IsAlwaysCallable line }
+{
     let mut x: u64 = 0x9e37_79b9_7f4a_7c15;
     for i in 0..count {
         let a = next(x);
         x = next(a);
-        line(out, kind, i, a, x)?;
+        line(out, i, a, x)?;
     }
     Ok(())
 }
@@ -40,24 +62,14 @@ fn next(x: u64) -> u64 {
     b ^ (b << 17)
 }
 
-// Line number i of a kind, from the numbers a and b of the sequence.
-fn line(out: &mut impl Write, kind: u8, i: u64, a: u64, b: u64) -> io::Result<()> {
-    match kind {
-        b'f' => lines::field(out, i % 13, a, b),
-        b'h' => lines::half(out, (a % 0x1_0000_0000) as u32),
-        b't' => lines::decision(out, i < 256, (i % 256) as u8),
-        b'e' => lines::data(
-            out,
-            i / 25,
-            choices::edge(i / 25, i / 5 % 5),
-            choices::edge(i / 25, i % 5),
-        ),
-        b'd' => lines::data(out, i % 5, a, b),
-        b'r' => lines::reach(out, i / 14, i % 14),
-        _ => lines::forms(
-            out,
-            choices::word(choices::opcode(i / 16), a),
-            choices::word(0x67, b),
-        ),
-    }
+// Two edges of a width: each width with each pair of them.
+fn edges(out: &mut impl Write, i: u64) -> io::Result<()> {
+    let number = i / 25 % 5;
+    let edges = choices::edges(choices::WIDTHS[number as usize]);
+    lines::data(
+        out,
+        number,
+        edges[(i / 5 % 5) as usize],
+        edges[(i % 5) as usize],
+    )
 }
