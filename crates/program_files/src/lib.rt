@@ -5,11 +5,11 @@
 // malformed one.
 #![tactic(auto)]
 
-ghost use Rattle.std.specs.Prelude.{◌≡◌, IsUtf8, MatchResult};
+ghost use Rattle.std.specs.Prelude.{◌≡◌, IfOk, IsUtf8, MatchResult};
 ghost use Rattle.std.specs.Io.{ReadsAtMost};
 ghost use Rattle.io.specs.Counts.{IsPrefixLen};
 
-use program_modes::{PLAIN, Seen};
+use program_modes::Seen;
 use std::env::FillError;
 use std::fmt::InlineText;
 use std::io::{Read, Write};
@@ -25,47 +25,52 @@ pub const ROOM: usize = 65537;
 // Room for a path, without the 0 that ends it.
 const PATH: usize = 4095;
 
-// The numbers of the system's errors.
+// The numbers of the system's errors, whose texts the messages give: those of an `ErrorKind` are others.
 const EINVAL: i32 = 22;
 
 const ENAMETOOLONG: i32 = 36;
 
 const EILSEQ: i32 = 84;
 
-// A file as it was read: the number of its argument, whether it could be read, how many bytes of it were read, at most one
-// more than the limit, and what was seen of it before.
+// A file as it was read: the number of its argument, how many bytes of it were read, at most one more than the limit, and
+// what was seen of it before.
 #[derive(Clone, Copy)]
 pub struct File {
     pub at: usize,
-    pub is_read: bool,
     pub len: usize,
     pub seen: Seen,
 }
+
+// A failure of which standard error has been told.
+#[derive(Clone, Copy)]
+pub struct Told;
 
 // Puts argument i at the start of `given`, and returns its length. Of one that is longer than `given`, which is an error,
 // the first bytes are there.
 pub fn argument(rt: HostRuntime, i: usize, given: &mut [u8]) -> io::Result<usize>
     ensures { ReadsAtMost result given.new }
 {
-    match rt.arg(i, given) {
-        Ok(n) => Ok(n),
-        Err(FillError::TooLong) => Err(io::Error::from_raw_os_error(ENAMETOOLONG)),
-        Err(FillError::NotPresent) => Err(io::Error::from_raw_os_error(EINVAL)),
-    }
+    rt.arg(i, given).map_err(|error| {
+        io::Error::from_raw_os_error(match error {
+            FillError::TooLong => ENAMETOOLONG,
+            FillError::NotPresent => EINVAL,
+        })
+    })
 }
 
-// Reads the file that argument i names, or says why it cannot.
-pub fn read(rt: HostRuntime, i: usize, buf: &mut [u8]) -> File
-    ensures { IsPrefixLen result.len buf.new }
+// Reads the file that argument i names, or says why it cannot. What is no plain file is not opened.
+pub fn read(rt: HostRuntime, i: usize, buf: &mut [u8]) -> Result<File, Told>
+    ensures { IfOk result (λ file. IsPrefixLen file.len buf.new) }
 {
     let mut path = [0u8; PATH];
-    match argument(rt, i, &mut path) {
-        Ok(n) => read_path(rt, i, &path[..n], buf),
-        Err(error) => {
-            fail(rt, &path, error);
-            unread_file(i)
-        }
+    let n = argument(rt, i, &mut path).map_err(|error| fail(rt, &path, error))?;
+    let path = &path[..n];
+    let seen = ask(rt, path).map_err(|error| fail(rt, path, error))?;
+    if !seen.is_plain {
+        return Err(say(rt, path, b": not a plain file\n"));
     }
+    let len = read_plain(rt, path, buf).map_err(|error| fail(rt, path, error))?;
+    Ok(File { at: i, len, seen })
 }
 
 // Says that the file that argument i names is longer than the program takes.
@@ -77,52 +82,6 @@ pub fn say_long(rt: HostRuntime, i: usize) {
         &path[..n],
         b": longer than 65,536 bytes, the most that this program takes\n",
     );
-}
-
-fn unread_file(i: usize) -> File
-    ensures { result.len ≡ 0 }
-{
-    File {
-        at: i,
-        is_read: false,
-        len: 0,
-        seen: program_modes::unseen(),
-    }
-}
-
-// What is no plain file is not opened.
-fn read_path(rt: HostRuntime, i: usize, path: &[u8], buf: &mut [u8]) -> File
-    ensures { IsPrefixLen result.len buf.new }
-{
-    match ask(rt, path) {
-        Ok(seen) => read_seen(rt, i, path, seen, buf),
-        Err(error) => {
-            fail(rt, path, error);
-            unread_file(i)
-        }
-    }
-}
-
-// The rest of `read_path`, once the file was seen.
-fn read_seen(rt: HostRuntime, i: usize, path: &[u8], seen: Seen, buf: &mut [u8]) -> File
-    ensures { IsPrefixLen result.len buf.new }
-{
-    if seen.kind != PLAIN {
-        say(rt, path, b": not a plain file\n");
-        return unread_file(i);
-    }
-    match read_plain(rt, path, buf) {
-        Ok(len) => File {
-            at: i,
-            is_read: true,
-            len,
-            seen,
-        },
-        Err(error) => {
-            fail(rt, path, error);
-            unread_file(i)
-        }
-    }
 }
 
 fn read_plain(rt: HostRuntime, path: &[u8], buf: &mut [u8]) -> io::Result<usize>
@@ -141,10 +100,7 @@ pub fn open_read(rt: HostRuntime, path: &[u8]) -> io::Result<fs::File> {
 pub fn text(path: &[u8]) -> io::Result<&str>
     ensures { MatchResult result (λ text. text.now ≡ path.now) (λ _. ¬ (IsUtf8 path.now)) }
 {
-    match str::from_utf8(path) {
-        Ok(text) => Ok(text),
-        Err(_) => Err(io::Error::from_raw_os_error(EILSEQ)),
-    }
+    str::from_utf8(path).map_err(|_| io::Error::from_raw_os_error(EILSEQ))
 }
 
 // What is seen of the file at a path, or why nothing is. Linux takes paths of at most 4,095 bytes.
@@ -152,12 +108,9 @@ fn ask(rt: HostRuntime, path: &[u8]) -> io::Result<Seen> {
     program_modes::ask(rt, text(path)?)
 }
 
-// What is seen of the file at a path.
-pub fn look(rt: HostRuntime, path: &[u8]) -> Seen {
-    match text(path) {
-        Ok(path) => program_modes::look(rt, path),
-        Err(_) => program_modes::unseen(),
-    }
+// What is seen of the file at a path, where the reason for nothing does not matter.
+pub fn look(rt: HostRuntime, path: &[u8]) -> Option<Seen> {
+    ask(rt, path).ok()
 }
 
 // Reads until the file ends or buf is full. So an endless file counts as too long, and the program does not hang.
@@ -176,9 +129,10 @@ fn read_all(file: &mut fs::File, buf: &mut [u8]) -> io::Result<usize>
 }
 
 // Says something of a file on standard error.
-pub fn say(rt: HostRuntime, name: &[u8], what: &[u8]) {
+pub fn say(rt: HostRuntime, name: &[u8], what: &[u8]) -> Told {
     tell(rt, name);
     tell(rt, what);
+    Told
 }
 
 // Writes bytes to standard error. Where that fails, there is nobody left to tell.
@@ -188,19 +142,19 @@ pub fn tell(rt: HostRuntime, bytes: &[u8]) {
 }
 
 // Says on standard error what failed, by a name, a colon and the system's text for the error.
-pub fn fail(rt: HostRuntime, name: &[u8], error: io::Error) {
+pub fn fail(rt: HostRuntime, name: &[u8], error: io::Error) -> Told {
     let message: InlineText<256> = InlineText::of(error);
     let cause = cause(message.as_str());
     tell(rt, name);
     tell(rt, b": ");
     tell(rt, cause.as_bytes());
     tell(rt, b"\n");
+    Told
 }
 
 // The message of an error without its number, which `std` puts behind the system's text.
 fn cause(message: &str) -> &str {
-    match message.split_once(" (os error ") {
-        Some((cause, _)) => cause,
-        None => message,
-    }
+    message
+        .split_once(" (os error ")
+        .map_or(message, |(cause, _)| cause)
 }
