@@ -252,9 +252,6 @@ fn check_resolved(
         (cond shares last (le_at rule.size (found object.now site) here.offset.0)) result.number result.word
         × Listing object.now site highs.new result.made × (length highs.new ≡ length highs.old) }
 {
-    let calculation = rule.calculation;
-    let field = rule.field;
-    let form = rule.form;
     let value = Ok(s);
     let high = take_partner(
         object, symbols, site, values, states, highs, rule, here, made, j,
@@ -264,9 +261,7 @@ fn check_resolved(
     let applied = apply_rule(
         class,
         site.rvc,
-        calculation,
-        field,
-        form,
+        rule,
         found,
         present(shares, last, found),
         symbol_sum(value, here.addend),

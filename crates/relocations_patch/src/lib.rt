@@ -18,11 +18,11 @@ use instructions_riscv::data::{add, set, sub};
 use instructions_riscv::forms::{Form, has_form};
 use instructions_riscv::halves::{hi20, lo12};
 use instructions_riscv::ranges::{in_halves_reach, in_reach, keeps_alignment, range_of};
-use numbers_arithmetic::difference;
+use numbers_arithmetic::{add64, difference};
 use numbers_definitions::{Address, Class};
 use placing_symbols::SymbolValue;
 use relocations_decisions::is_paired;
-use relocations_types::{Calculation, Operand, Part};
+use relocations_types::{Calculation, Operand, Part, Rule};
 
 // Both halves of a number, at the bits where AUIPC or LUI and the instruction after it hold them.
 fn both_halves(class: Class, x: u64) -> u64
@@ -49,9 +49,8 @@ fn origin(operand: Operand, p: Address) -> u64
     ensures { (w t d : ℕ) → t < 2 ^ w → is_paired operand ≡ false → minus w t result ≡ operand_of w operand t p.0 d }
 {
     match operand {
-        Operand::Absolute => 0,
+        Operand::Absolute | Operand::Paired => 0,
         Operand::PcRelative => p.0,
-        Operand::Paired => 0,
     }
 }
 
@@ -69,9 +68,7 @@ fn operand_value(class: Class, calculation: Calculation, x: u64, p: Address, d: 
 {
     match calculation {
         Calculation::Of(_, operand) => operand_of(class, operand, x, p, d),
-        Calculation::Add => 0,
-        Calculation::Sub => 0,
-        Calculation::Set => 0,
+        Calculation::Add | Calculation::Sub | Calculation::Set => 0,
     }
 }
 
@@ -88,7 +85,7 @@ fn data_word(calculation: Calculation, width: Width, w: u64, x: u64, v: u64) -> 
     }
 }
 
-// The opcode of LUI or AUIPC. `requires` excludes every other form; those arms only complete the match.
+// The opcode of LUI or AUIPC.
 fn upper_opcode(form: Form) -> u64
     requires { is_upper form ≡ true }
     ensures { (k : Class) (word next : ℕ) → eqb (word % 128) result ≡ has_form k form word next }
@@ -96,14 +93,14 @@ fn upper_opcode(form: Form) -> u64
     match form {
         Form::Lui => 0x37,
         Form::Auipc => 0x17,
-        Form::Any => 0,
-        Form::Jal => 0,
-        Form::Branch => 0,
-        Form::LowI => 0,
-        Form::LowS => 0,
-        Form::CallPair => 0,
-        Form::CBranch => 0,
-        Form::CJump => 0,
+        Form::Any
+        | Form::Jal
+        | Form::Branch
+        | Form::LowI
+        | Form::LowS
+        | Form::CallPair
+        | Form::CBranch
+        | Form::CJump => unreachable!(),
     }
 }
 
@@ -132,28 +129,27 @@ pub struct Applied {
 
 // A rule at a place. `found` is the touched bytes as the object has them, and w as the relocation finds them; x is S + A in two's
 // complement, p is P, and d is the paired high half's T - P. `rvc` says that bit 0 of e_flags is set. One match on the field decides
-// everything: what goes into the field and which form is asked for are then known.
+// everything: what goes into the field and which form is asked for are then known. The arms of the jumps stay apart, so that each
+// asks for one form and one range that are constants.
 pub fn apply_rule(
     class: Class,
     rvc: bool,
-    calculation: Calculation,
-    field: Field,
-    form: Form,
+    rule: Rule,
     found: u64,
     w: u64,
     x: u64,
     p: Address,
     d: u64,
 ) -> Applied
-    requires { Regular calculation field form }
-    ensures { (result.stands ≡ stands_well class form p.0 found) × (result.reaches ≡ reaches_well class rvc calculation field (residue (bits class) (signed 64 x)) p.0) × (result.word ≡ patched (bits class) calculation field w (signed 64 x) p.0 d) }
+    requires { Regular rule.calculation rule.field rule.form }
+    ensures { (result.stands ≡ stands_well class rule.form p.0 found) × (result.reaches ≡ reaches_well class rvc rule.calculation rule.field (residue (bits class) (signed 64 x)) p.0) × (result.word ≡ patched (bits class) rule.calculation rule.field w (signed 64 x) p.0 d) }
 {
     let even = p.0 % 2 == 0;
     let next = found / 0x1_0000_0000;
-    let v = operand_value(class, calculation, x, p, d);
-    match field {
+    let v = operand_value(class, rule.calculation, x, p, d);
+    match rule.field {
         Field::U => Applied {
-            stands: even & (found % 128 == upper_opcode(form)),
+            stands: even & (found % 128 == upper_opcode(rule.form)),
             reaches: in_halves_reach(class, v),
             word: put_u(w, high_part(class, v)),
         },
@@ -195,7 +191,7 @@ pub fn apply_rule(
         Field::Data(width) => Applied {
             stands: true,
             reaches: true,
-            word: data_word(calculation, width, w, x, v),
+            word: data_word(rule.calculation, width, w, x, v),
         },
     }
 }
@@ -205,7 +201,7 @@ pub fn symbol_sum(value: SymbolValue, addend: u64) -> u64
     ensures { result ≡ residue 64 (pos (S value) +ℤ signed 64 addend) }
 {
     match value {
-        Ok(s) => numbers_arithmetic::add64(s.0, addend),
-        Err(_) => numbers_arithmetic::add64(0, addend),
+        Ok(s) => add64(s.0, addend),
+        Err(_) => add64(0, addend),
     }
 }

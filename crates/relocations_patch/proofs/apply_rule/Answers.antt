@@ -17,12 +17,12 @@ use Rattle.relocations_patch.proofs.apply_rule.Goals.{Start}
 pub upper_opcode-requires : goal.upper_opcode-requires
 upper_opcode-requires c =
     let a = c.args in
-    (subst (λ f. Regular a.calculation f a.form) c.in-U.is c.requires).2
+    (subst (λ f. Regular a.rule.calculation f a.rule.form) c.in-U.is c.requires).2
 
 pub data_word-requires : goal.data_word-requires
 data_word-requires c =
     let a = c.args in
-    (subst (λ f. Regular a.calculation f a.form) c.in-Data.is c.requires).0
+    (subst (λ f. Regular a.rule.calculation f a.rule.form) c.in-Data.is c.requires).0
 
 -- T
 abbrev target : Start → ℕ
@@ -32,15 +32,15 @@ pub returns-in-U : goal.returns-in-U
 returns-in-U c =
     let a = c.args in
     let told = c.in-U.is in
-    let g : Regular a.calculation U a.form = subst (λ f. Regular a.calculation f a.form) told c.requires in
-    instruction_made a.class a.rvc a.calculation a.form a.found a.w (target (goal.at.returns-in-U c).Start) a.p.0 a.d (signed 64 a.x)
-    a.field U High a.form _ _ _ _
+    let g : Regular a.rule.calculation U a.rule.form = subst (λ f. Regular a.rule.calculation f a.rule.form) told c.requires in
+    instruction_made a.class a.rvc a.rule.calculation a.rule.form a.found a.w (target (goal.at.returns-in-U c).Start) a.p.0 a.d (signed 64 a.x)
+    a.rule.field U High a.rule.form _ _ _ _
     told
     g.0
     refl
-    (upper_instruction a.form g.2)
+    (upper_instruction a.rule.form g.2)
     (c.upper_opcode.ensures a.class a.found (a.found / 2 ^ 32))
-    (c.in_halves_reach.ensures ∙ high_reaches a.class a.calculation g.0 (target (goal.at.returns-in-U c).Start) a.p.0 a.d _ g.1 c.operand_value-v.ensures)
+    (c.in_halves_reach.ensures ∙ high_reaches a.class a.rule.calculation g.0 (target (goal.at.returns-in-U c).Start) a.p.0 a.d _ g.1 c.operand_value-v.ensures)
     c.operand_value-v.ensures
     (c.put_u.ensures ∙ ap (put (layout U) a.w) c.high_part.ensures.0)
 
@@ -48,9 +48,9 @@ pub returns-in-I : goal.returns-in-I
 returns-in-I c =
     let a = c.args in
     let told = c.in-I.is in
-    let g : Regular a.calculation I a.form = subst (λ f. Regular a.calculation f a.form) told c.requires in
-    instruction_made a.class a.rvc a.calculation a.form a.found a.w (target (goal.at.returns-in-I c).Start) a.p.0 a.d (signed 64 a.x)
-    a.field I Low LowI _ _ _ _
+    let g : Regular a.rule.calculation I a.rule.form = subst (λ f. Regular a.rule.calculation f a.rule.form) told c.requires in
+    instruction_made a.class a.rvc a.rule.calculation a.rule.form a.found a.w (target (goal.at.returns-in-I c).Start) a.p.0 a.d (signed 64 a.x)
+    a.rule.field I Low LowI _ _ _ _
     told
     g.0
     g.1
@@ -64,9 +64,9 @@ pub returns-in-S : goal.returns-in-S
 returns-in-S c =
     let a = c.args in
     let told = c.in-S.is in
-    let g : Regular a.calculation S a.form = subst (λ f. Regular a.calculation f a.form) told c.requires in
-    instruction_made a.class a.rvc a.calculation a.form a.found a.w (target (goal.at.returns-in-S c).Start) a.p.0 a.d (signed 64 a.x)
-    a.field S Low LowS _ _ _ _
+    let g : Regular a.rule.calculation S a.rule.form = subst (λ f. Regular a.rule.calculation f a.rule.form) told c.requires in
+    instruction_made a.class a.rvc a.rule.calculation a.rule.form a.found a.w (target (goal.at.returns-in-S c).Start) a.p.0 a.d (signed 64 a.x)
+    a.rule.field S Low LowS _ _ _ _
     told
     g.0
     g.1
@@ -80,15 +80,15 @@ pub returns-in-B : goal.returns-in-B
 returns-in-B c =
     let a = c.args in
     let told = c.in-B.is in
-    let g : Regular a.calculation B a.form = subst (λ f. Regular a.calculation f a.form) told c.requires in
-    instruction_made a.class a.rvc a.calculation a.form a.found a.w (target (goal.at.returns-in-B c).Start) a.p.0 a.d (signed 64 a.x)
-    a.field B Distance Branch _ _ _ _
+    let g : Regular a.rule.calculation B a.rule.form = subst (λ f. Regular a.rule.calculation f a.rule.form) told c.requires in
+    instruction_made a.class a.rvc a.rule.calculation a.rule.form a.found a.w (target (goal.at.returns-in-B c).Start) a.p.0 a.d (signed 64 a.x)
+    a.rule.field B Distance Branch _ _ _ _
     told
     (record { operand = PcRelative; is = g.0 })
     g.1
     refl
     c.has_form-in-B.ensures
-    (c.jump_reaches.ensures (target (goal.at.returns-in-B c).Start) a.p.0 (relative a.class Distance a.calculation (target (goal.at.returns-in-B c).Start) a.p.0 a.d _ g.0 c.operand_value-v.ensures))
+    (c.jump_reaches.ensures (target (goal.at.returns-in-B c).Start) a.p.0 (relative a.class Distance a.rule.calculation (target (goal.at.returns-in-B c).Start) a.p.0 a.d _ g.0 c.operand_value-v.ensures))
     c.operand_value-v.ensures
     c.put_b.ensures
 
@@ -96,15 +96,15 @@ pub returns-in-J : goal.returns-in-J
 returns-in-J c =
     let a = c.args in
     let told = c.in-J.is in
-    let g : Regular a.calculation J a.form = subst (λ f. Regular a.calculation f a.form) told c.requires in
-    instruction_made a.class a.rvc a.calculation a.form a.found a.w (target (goal.at.returns-in-J c).Start) a.p.0 a.d (signed 64 a.x)
-    a.field J Distance Jal _ _ _ _
+    let g : Regular a.rule.calculation J a.rule.form = subst (λ f. Regular a.rule.calculation f a.rule.form) told c.requires in
+    instruction_made a.class a.rvc a.rule.calculation a.rule.form a.found a.w (target (goal.at.returns-in-J c).Start) a.p.0 a.d (signed 64 a.x)
+    a.rule.field J Distance Jal _ _ _ _
     told
     (record { operand = PcRelative; is = g.0 })
     g.1
     refl
     c.has_form-in-J.ensures
-    (c.jump_reaches-in-J.ensures (target (goal.at.returns-in-J c).Start) a.p.0 (relative a.class Distance a.calculation (target (goal.at.returns-in-J c).Start) a.p.0 a.d _ g.0 c.operand_value-v.ensures))
+    (c.jump_reaches-in-J.ensures (target (goal.at.returns-in-J c).Start) a.p.0 (relative a.class Distance a.rule.calculation (target (goal.at.returns-in-J c).Start) a.p.0 a.d _ g.0 c.operand_value-v.ensures))
     c.operand_value-v.ensures
     c.put_j.ensures
 
@@ -112,15 +112,15 @@ pub returns-in-Cb : goal.returns-in-Cb
 returns-in-Cb c =
     let a = c.args in
     let told = c.in-Cb.is in
-    let g : Regular a.calculation Cb a.form = subst (λ f. Regular a.calculation f a.form) told c.requires in
-    instruction_made a.class a.rvc a.calculation a.form a.found a.w (target (goal.at.returns-in-Cb c).Start) a.p.0 a.d (signed 64 a.x)
-    a.field Cb Distance CBranch _ _ _ _
+    let g : Regular a.rule.calculation Cb a.rule.form = subst (λ f. Regular a.rule.calculation f a.rule.form) told c.requires in
+    instruction_made a.class a.rvc a.rule.calculation a.rule.form a.found a.w (target (goal.at.returns-in-Cb c).Start) a.p.0 a.d (signed 64 a.x)
+    a.rule.field Cb Distance CBranch _ _ _ _
     told
     (record { operand = PcRelative; is = g.0 })
     g.1
     refl
     c.has_form-in-Cb.ensures
-    (c.jump_reaches-in-Cb.ensures (target (goal.at.returns-in-Cb c).Start) a.p.0 (relative a.class Distance a.calculation (target (goal.at.returns-in-Cb c).Start) a.p.0 a.d _ g.0 c.operand_value-v.ensures))
+    (c.jump_reaches-in-Cb.ensures (target (goal.at.returns-in-Cb c).Start) a.p.0 (relative a.class Distance a.rule.calculation (target (goal.at.returns-in-Cb c).Start) a.p.0 a.d _ g.0 c.operand_value-v.ensures))
     c.operand_value-v.ensures
     c.put_cb.ensures
 
@@ -128,15 +128,15 @@ pub returns-in-Cj : goal.returns-in-Cj
 returns-in-Cj c =
     let a = c.args in
     let told = c.in-Cj.is in
-    let g : Regular a.calculation Cj a.form = subst (λ f. Regular a.calculation f a.form) told c.requires in
-    instruction_made a.class a.rvc a.calculation a.form a.found a.w (target (goal.at.returns-in-Cj c).Start) a.p.0 a.d (signed 64 a.x)
-    a.field Cj Distance CJump _ _ _ _
+    let g : Regular a.rule.calculation Cj a.rule.form = subst (λ f. Regular a.rule.calculation f a.rule.form) told c.requires in
+    instruction_made a.class a.rvc a.rule.calculation a.rule.form a.found a.w (target (goal.at.returns-in-Cj c).Start) a.p.0 a.d (signed 64 a.x)
+    a.rule.field Cj Distance CJump _ _ _ _
     told
     (record { operand = PcRelative; is = g.0 })
     g.1
     refl
     c.has_form-in-Cj.ensures
-    (c.jump_reaches-in-Cj.ensures (target (goal.at.returns-in-Cj c).Start) a.p.0 (relative a.class Distance a.calculation (target (goal.at.returns-in-Cj c).Start) a.p.0 a.d _ g.0 c.operand_value-v.ensures))
+    (c.jump_reaches-in-Cj.ensures (target (goal.at.returns-in-Cj c).Start) a.p.0 (relative a.class Distance a.rule.calculation (target (goal.at.returns-in-Cj c).Start) a.p.0 a.d _ g.0 c.operand_value-v.ensures))
     c.operand_value-v.ensures
     c.put_cj.ensures
 
@@ -144,15 +144,15 @@ pub returns-in-Call : goal.returns-in-Call
 returns-in-Call c =
     let a = c.args in
     let told = c.in-Call.is in
-    let g : Regular a.calculation Call a.form = subst (λ f. Regular a.calculation f a.form) told c.requires in
-    instruction_made a.class a.rvc a.calculation a.form a.found a.w (target (goal.at.returns-in-Call c).Start) a.p.0 a.d (signed 64 a.x)
-    a.field Call BothHalves CallPair _ _ _ _
+    let g : Regular a.rule.calculation Call a.rule.form = subst (λ f. Regular a.rule.calculation f a.rule.form) told c.requires in
+    instruction_made a.class a.rvc a.rule.calculation a.rule.form a.found a.w (target (goal.at.returns-in-Call c).Start) a.p.0 a.d (signed 64 a.x)
+    a.rule.field Call BothHalves CallPair _ _ _ _
     told
     (record { operand = PcRelative; is = g.0 })
     g.1
     refl
     c.has_form-in-Call.ensures
-    (c.call_reaches.ensures (target (goal.at.returns-in-Call c).Start) a.p.0 (relative a.class BothHalves a.calculation (target (goal.at.returns-in-Call c).Start) a.p.0 a.d _ g.0 c.operand_value-v.ensures))
+    (c.call_reaches.ensures (target (goal.at.returns-in-Call c).Start) a.p.0 (relative a.class BothHalves a.rule.calculation (target (goal.at.returns-in-Call c).Start) a.p.0 a.d _ g.0 c.operand_value-v.ensures))
     c.operand_value-v.ensures
     (c.put_field.ensures ∙ ap (put (layout Call) a.w) c.both_halves.ensures)
 
@@ -160,9 +160,9 @@ pub returns-in-Data : goal.returns-in-Data
 returns-in-Data c =
     let a = c.args in
     let told = c.in-Data.is in
-    let g : Regular a.calculation (Data c.in-Data.width) a.form = subst (λ f. Regular a.calculation f a.form) told c.requires in
-    data_made a.class a.rvc a.calculation a.form a.found a.w (target (goal.at.returns-in-Data c).Start) a.p.0 a.d (signed 64 a.x)
-    a.field c.in-Data.width _
+    let g : Regular a.rule.calculation (Data c.in-Data.width) a.rule.form = subst (λ f. Regular a.rule.calculation f a.rule.form) told c.requires in
+    data_made a.class a.rvc a.rule.calculation a.rule.form a.found a.w (target (goal.at.returns-in-Data c).Start) a.p.0 a.d (signed 64 a.x)
+    a.rule.field c.in-Data.width _
     told
     g.0
     g.1

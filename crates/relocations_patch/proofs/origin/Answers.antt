@@ -1,4 +1,5 @@
 -- `relocations_patch::origin` meets its contract.
+use mathlib.Core.Logic.{⊎_elim}
 use mathlib.Core.Path.{◌≡◌, sym, ap, ◌∙◌}
 use Prim.Native.Nat.{ℕ, ◌%◌, ◌^◌, ◌<◌}
 use native.Mathlib.Nat.{add-zero}
@@ -16,12 +17,10 @@ from_zero w t h = sym (minus_unique w t 0 t h (ap (λ n. n % 2 ^ w) (add-zero t)
 pub returns-in-Absolute : goal.returns-in-Absolute
 returns-in-Absolute c =
     let a = c.args in
-    λ w t d h one. from_zero w t h ∙ sym (ap (λ o. operand_of w o t a.p.0 d) c.in-Absolute.is)
+    λ w t d h one.
+    ⊎_elim (λ e. from_zero w t h ∙ sym (ap (λ o. operand_of w o t a.p.0 d) e)) (λ e. never (sym one ∙ ap is_paired e)) c.in-Absolute.is
 
 pub returns-in-PcRelative : goal.returns-in-PcRelative
 returns-in-PcRelative c =
     let a = c.args in
     λ w t d h one. sym (ap (λ o. operand_of w o t a.p.0 d) c.in-PcRelative.is)
-
-pub returns-in-Paired : goal.returns-in-Paired
-returns-in-Paired c = λ w t d h one. never (sym one ∙ ap is_paired c.in-Paired.is)
