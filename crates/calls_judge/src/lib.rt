@@ -207,17 +207,14 @@ fn judge_placing(
     ensures { PlacedWell object.now order.now counts len result }
 {
     let filled = order_lookup::fill_addresses(class_of(object), addresses, order, counts);
-    let placing = placing_check::check_placing(object, filled, counts.base, len);
-    let placed = placing.addresses;
-    let fault = placing.fault;
-    match fault {
-        Ok(()) => Judged {
+    match placing_check::check_placing(object, filled, counts.base, len) {
+        Ok(placed) => Judged {
             answer: Answer::Done,
             addresses: placed,
         },
         Err(i) => Judged {
             answer: Answer::Misplaced(i),
-            addresses: placed,
+            addresses: filled,
         },
     }
 }

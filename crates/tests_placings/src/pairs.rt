@@ -50,7 +50,7 @@ fn sections(
         return tests_harness::answer(out, 3, 0);
     }
     match elf_check::check_sections(object) {
-        Err(i) => tests_harness::answer(out, 5, i as u64),
+        Err(i) => tests_harness::answer(out, 5, u64::from(i)),
         Ok(()) => placements(out, object, order, counts, len),
     }
 }
@@ -66,7 +66,7 @@ fn placements(
     requires { SoundObject object.now × (reading (class_of object.now) order.now ≡ Some counts) × (len ≤ max_image) }
 {
     match placing_match::check_placements(object, order, counts) {
-        Err(i) => tests_harness::answer(out, 6, i as u64),
+        Err(i) => tests_harness::answer(out, 6, u64::from(i)),
         Ok(()) => externals(out, object, order, counts, len),
     }
 }
@@ -82,7 +82,7 @@ fn externals(
     requires { SoundObject object.now × (reading (class_of object.now) order.now ≡ Some counts) × (len ≤ max_image) }
 {
     match placing_match::check_externals(object, order, counts) {
-        Err(k) => tests_harness::answer(out, 7, k as u64),
+        Err(k) => tests_harness::answer(out, 7, u64::from(k)),
         Ok(()) => placing(out, object, order, counts, len),
     }
 }
@@ -98,12 +98,9 @@ fn placing(
     requires { SoundObject object.now × (reading (class_of object.now) order.now ≡ Some counts) × (len ≤ max_image) }
 {
     let given = order_lookup::fill_addresses(class_of(object), [0u64; MAX_SECTIONS], order, counts);
-    let placed = placing_check::check_placing(object, given, counts.base, len);
-    let fault = placed.fault;
-    let array = placed.addresses;
-    match fault {
-        Err(i) => tests_harness::answer(out, 8, i as u64),
-        Ok(()) => passed(out, object, order, counts, array),
+    match placing_check::check_placing(object, given, counts.base, len) {
+        Err(i) => tests_harness::answer(out, 8, u64::from(i)),
+        Ok(array) => passed(out, object, order, counts, array),
     }
 }
 
