@@ -13,43 +13,20 @@ mod orders;
 
 use numbers_definitions::{Address, Class};
 use std::io;
-use std::io::{BufReader, BufWriter, Read, Write};
+use std::io::Write;
 use tests_harness::Command;
 
+// How many bytes the commands may store.
+const SPACE: usize = 1_048_640;
+
 fn main(rt: HostRuntime) -> io::Result<()> {
-    let alloc = rt.alloc();
-    let mut input = BufReader::new(alloc, rt.reader())?;
-    let mut out = BufWriter::new(alloc, io::writer(&rt))?;
-    let mut space = vec![in alloc; 0u8; 1_048_640]?;
-    let first = tests_harness::next(&mut input)?;
-    run(&mut input, &mut out, &mut space, first.a)?;
-    out.flush()
+    tests_harness::run(rt, SPACE, |out, space, command| step(out, space, command))
 }
 
-fn run(
-    input: &mut impl Read,
-    out: &mut impl Write,
-    space: &mut [u8],
-    count: u32,
-) -> io::Result<()> {
-    for _ in 0..count {
-        let command = tests_harness::next(input)?;
-        step(input, out, space, command)?;
-    }
-    Ok(())
-}
-
-fn step(
-    input: &mut impl Read,
-    out: &mut impl Write,
-    space: &mut [u8],
-    c: Command,
-) -> io::Result<()> {
+fn step(out: &mut impl Write, space: &[u8], c: Command) -> io::Result<()> {
     let a = c.a as usize;
     let b = c.b as usize;
-    let letter = c.letter;
-    match letter {
-        b's' => tests_harness::store(input, space, a, b),
+    match c.letter {
         b'o' => object(out, space, a),
         b'r' => order(out, Class::Elf32, space, a),
         b'R' => order(out, Class::Elf64, space, a),
@@ -60,19 +37,19 @@ fn step(
 
 // A base, by its halves.
 fn base(low: u32, high: u32) -> Address {
-    Address(low as u64 + 4294967296 * high as u64)
+    Address(u64::from(low) + 4294967296 * u64::from(high))
 }
 
 fn object(out: &mut impl Write, space: &[u8], length: usize) -> io::Result<()> {
-    if length <= space.len() {
-        return objects::line(out, &space[0..length]);
+    match space.get(..length) {
+        Some(object) => objects::line(out, object),
+        None => Ok(()),
     }
-    Ok(())
 }
 
 fn order(out: &mut impl Write, class: Class, space: &[u8], length: usize) -> io::Result<()> {
-    if length <= space.len() {
-        return orders::line(out, class, &space[0..length]);
+    match space.get(..length) {
+        Some(order) => orders::line(out, class, order),
+        None => Ok(()),
     }
-    Ok(())
 }

@@ -8,7 +8,7 @@ ghost use Rattle.elf_header.specs.Headers.{header_allowed};
 ghost use Rattle.elf_check.specs.Requires.{SoundObject};
 
 use super::{digest, lines};
-use elf_read::Section;
+use elf_read::{NOBITS, NULL, Section};
 use std::io;
 use std::io::Write;
 
@@ -26,7 +26,7 @@ fn check_sections(out: &mut impl Write, s: &[u8]) -> io::Result<()>
 {
     match elf_check::check_sections(s) {
         Ok(()) => passed(out, s),
-        Err(i) => lines::answer(out, b'o', 5, i as u64),
+        Err(i) => lines::answer(out, b'o', 5, u64::from(i)),
     }
 }
 
@@ -64,36 +64,35 @@ fn entries(out: &mut impl Write, s: &[u8]) -> io::Result<()>
 fn headers(s: &[u8]) -> u64
     requires { TableInside s.now }
 {
-    let n = elf_read::section_count(s);
     let mut d = digest::START;
-    let mut i: usize = 0;
-    while i < n {
+    for i in 0..elf_read::section_count(s) {
         d = header(d, elf_read::read_section(s, i));
-        i += 1;
     }
     d
 }
 
 fn header(digest: u64, h: Section) -> u64 {
-    let a = digest::mix(digest, h.kind as u64);
-    let b = digest::mix(a, h.flags);
-    let c = digest::mix(b, h.offset.0);
-    let d = digest::mix(c, h.size);
-    let e = digest::mix(d, h.link as u64);
-    let f = digest::mix(e, h.info as u64);
-    let g = digest::mix(f, h.alignment);
-    digest::mix(g, h.entsize)
+    digest::numbers(
+        digest,
+        &[
+            u64::from(h.kind),
+            h.flags,
+            h.offset.0,
+            h.size,
+            u64::from(h.link),
+            u64::from(h.info),
+            h.alignment,
+            h.entsize,
+        ],
+    )
 }
 
 fn roles(s: &[u8]) -> u64
     requires { TableInside s.now }
 {
-    let n = elf_read::section_count(s);
     let mut d = digest::START;
-    let mut i: usize = 0;
-    while i < n {
+    for i in 0..elf_read::section_count(s) {
         d = role(d, s, i);
-        i += 1;
     }
     d
 }
@@ -103,27 +102,32 @@ fn role(digest: u64, s: &[u8], i: usize) -> u64
     requires { TableInside s.now × (i < section_count s.now) }
 {
     let h = elf_read::read_section(s, i);
-    let a = digest::flag(digest, elf_read::is_allocated(h));
-    let b = digest::flag(a, elf_read::is_loaded(h));
-    digest::flag(b, elf_read::is_counting_rela(s, i))
+    let is_allocated = elf_read::is_allocated(h);
+    let is_loaded = elf_read::is_loaded(h);
+    let counts = elf_read::is_counting_rela(s, i);
+    digest::numbers(
+        digest,
+        &[
+            u64::from(is_allocated),
+            u64::from(is_loaded),
+            u64::from(counts),
+        ],
+    )
 }
 
 fn bodies(s: &[u8]) -> u64
     requires { TableInside s.now }
 {
-    let n = elf_read::section_count(s);
     let mut d = digest::START;
-    let mut i: usize = 0;
-    while i < n {
+    for i in 0..elf_read::section_count(s) {
         d = body(d, s, elf_read::read_section(s, i));
-        i += 1;
     }
     d
 }
 
 // The bytes of a section that has bytes in the file.
 fn body(digest: u64, s: &[u8], h: Section) -> u64 {
-    if (h.kind == 0) | (h.kind == 8) {
+    if (h.kind == NULL) | (h.kind == NOBITS) {
         return digest;
     }
     if !numbers_arithmetic::ends_within(h.offset.0, h.size, s.len() as u64) {
@@ -142,10 +146,8 @@ fn symbols(s: &[u8]) -> u64
     let n = elf_read::symbol_count(s);
     let h = elf_read::read_section(s, table);
     let mut d = digest::START;
-    let mut k: usize = 0;
-    while k < n {
+    for k in 0..n {
         d = symbol(d, s, h, k);
-        k += 1;
     }
     d
 }
@@ -154,10 +156,15 @@ fn symbol(digest: u64, s: &[u8], table: Section, k: usize) -> u64
     requires { EntryInside s.now table (symbol_entries (class_of s.now) table) k }
 {
     let y = elf_read::read_symbol(s, table, k);
-    let a = digest::mix(digest, y.value.0);
-    let b = digest::mix(a, y.kind as u64);
-    let c = digest::mix(b, y.binding as u64);
-    digest::mix(c, y.section as u64)
+    digest::numbers(
+        digest,
+        &[
+            y.value.0,
+            u64::from(y.kind),
+            u64::from(y.binding),
+            u64::from(y.section),
+        ],
+    )
 }
 
 // For each section, where three relocations are: the first one after the section, the one before that, and one in the
@@ -165,15 +172,12 @@ fn symbol(digest: u64, s: &[u8], table: Section, k: usize) -> u64
 fn locations(s: &[u8]) -> u64
     requires { SoundObject s.now }
 {
-    let n = elf_read::section_count(s);
     let mut d = digest::START;
-    let mut i: usize = 0;
-    while i < n {
+    for i in 0..elf_read::section_count(s) {
         let below = elf_read::relocations_below(s, i + 1);
         d = location(d, s, below);
         d = location(d, s, below / 2);
-        d = location(d, s, std::num::wrapping_sub_usize(below, 1));
-        i += 1;
+        d = location(d, s, below.wrapping_sub(1));
     }
     d
 }
@@ -182,20 +186,17 @@ fn location(digest: u64, s: &[u8], k: usize) -> u64
     requires { SoundObject s.now }
 {
     let at = elf_read::locate(s, k);
-    digest::mix(digest::mix(digest, at.section as u64), at.entry as u64)
+    digest::numbers(digest, &[at.section as u64, at.entry as u64])
 }
 
 fn relocations(s: &[u8]) -> u64
     requires { SoundObject s.now }
 {
-    let n = elf_read::section_count(s);
     let mut d = digest::START;
-    let mut i: usize = 0;
-    while i < n {
+    for i in 0..elf_read::section_count(s) {
         if elf_read::is_counting_rela(s, i) {
             d = relocations_in(d, s, elf_read::read_section(s, i));
         }
-        i += 1;
     }
     d
 }
@@ -205,10 +206,8 @@ fn relocations_in(digest: u64, s: &[u8], h: Section) -> u64
 {
     let n = elf_read::relocation_entries(s, h);
     let mut d = digest;
-    let mut k: usize = 0;
-    while k < n {
+    for k in 0..n {
         d = relocation(d, s, h, k);
-        k += 1;
     }
     d
 }
@@ -217,8 +216,8 @@ fn relocation(digest: u64, s: &[u8], h: Section, k: usize) -> u64
     requires { EntryInside s.now h (relocation_entries (class_of s.now) h) k }
 {
     let r = elf_read::read_relocation(s, h, k);
-    let a = digest::mix(digest, r.offset.0);
-    let b = digest::mix(a, r.kind as u64);
-    let c = digest::mix(b, r.symbol as u64);
-    digest::mix(c, r.addend)
+    digest::numbers(
+        digest,
+        &[r.offset.0, u64::from(r.kind), u64::from(r.symbol), r.addend],
+    )
 }

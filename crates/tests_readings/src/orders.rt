@@ -4,17 +4,18 @@ ghost use Rattle.order_format.specs.Orders.{entry_size, reading};
 
 use super::{digest, lines};
 use elf_read::MAX_SECTIONS;
-use numbers_definitions::Class;
+use numbers_definitions::{Address, Class};
 use order_format::OrderHeader;
 use order_lookup::Addresses;
 use std::io;
 use std::io::Write;
 
 pub fn line(out: &mut impl Write, class: Class, s: &[u8]) -> io::Result<()> {
-    match order_format::read_order(class, s) {
-        None => lines::answer(out, lines::letter(class, b'r', b'R'), 2, 0),
-        Some(counts) => well_formed(out, class, s, counts),
-    }?;
+    if let Some(counts) = order_format::read_order(class, s) {
+        well_formed(out, class, s, counts)?;
+    } else {
+        lines::answer(out, lines::letter(class, b'r', b'R'), 2, 0)?;
+    }
     tests_harness::end(out)
 }
 
@@ -47,24 +48,15 @@ fn entries(class: Class, s: &[u8], at: usize, n: usize) -> u64
     requires { at + entry_size class * n ≤ length s.now }
 {
     let mut d = digest::START;
-    let mut i: usize = 0;
-    while i < n {
+    for i in 0..n {
         let e = order_format::read_entry(class, s, at, i);
-        d = digest::mix(d, e.index as u64);
-        d = digest::mix(d, e.value.0);
-        i += 1;
+        d = digest::numbers(d, &[u64::from(e.index), e.value.0]);
     }
     d
 }
 
 fn addresses(array: Addresses) -> u64 {
-    let mut d = digest::START;
-    let mut i: usize = 0;
-    while i < MAX_SECTIONS {
-        d = digest::mix(d, array[i]);
-        i += 1;
-    }
-    d
+    digest::numbers(digest::START, &array)
 }
 
 // The values of the numbers 0 to 129.
@@ -72,10 +64,8 @@ fn low_values(class: Class, s: &[u8], counts: OrderHeader) -> u64
     requires { reading class s.now ≡ Some counts }
 {
     let mut d = digest::START;
-    let mut k: u32 = 0;
-    while k < 130 {
+    for k in 0..130 {
         d = values(d, class, s, counts, k);
-        k += 1;
     }
     d
 }
@@ -85,14 +75,12 @@ fn near_values(class: Class, s: &[u8], counts: OrderHeader, at: usize, n: usize)
     requires { (reading class s.now ≡ Some counts) × (at + entry_size class * n ≤ length s.now) }
 {
     let mut d = digest::START;
-    let mut i: usize = 0;
-    while i < n {
+    for i in 0..n {
         let e = order_format::read_entry(class, s, at, i);
         let k = e.index;
-        d = values(d, class, s, counts, std::num::wrapping_sub_u32(k, 1));
+        d = values(d, class, s, counts, k.wrapping_sub(1));
         d = values(d, class, s, counts, k);
-        d = values(d, class, s, counts, std::num::wrapping_add_u32(k, 1));
-        i += 1;
+        d = values(d, class, s, counts, k.wrapping_add(1));
     }
     d
 }
@@ -106,8 +94,5 @@ fn values(digest: u64, class: Class, s: &[u8], counts: OrderHeader, k: u32) -> u
 }
 
 fn value(digest: u64, v: Option<Address>) -> u64 {
-    match v {
-        Some(x) => digest::mix(digest, x.0),
-        None => digest::mix(digest, 0x1_0000_0000),
-    }
+    digest::mix(digest, v.map_or(0x1_0000_0000, |x| x.0))
 }

@@ -6,5 +6,5 @@ use Rattle.tests_readings.proofs.objects.locations.Goals as goal
 
 pub relocations_below-below-requires : goal.relocations_below-below-requires
 relocations_below-below-requires c =
-    let most : c.loop-i.i + 1 ≤ section_count c.args.s.now = omega (arith, c.section_count-n.ensures, c.loop-i-test.true) in
+    let most : c.loop-i.i + 1 ≤ section_count c.args.s.now = omega (arith, c.section_count-i-end.ensures, c.loop-i-test.true) in
     (c.requires.table, most, omega (arith, few_below c.args.s.now c.requires (c.loop-i.i + 1) most))

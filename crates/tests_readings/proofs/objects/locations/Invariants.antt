@@ -1,9 +1,0 @@
--- `tests_readings::objects::locations` is safe and ends. The loop's invariant: `i` is at most `n`. The measure is what is left of it.
-use Rattle.std.proofs.Common.{◌-◌, ◌≤◌}
-use Rattle.tests_readings.proofs.objects.locations.Given as goal
-
-abbrev pub invariant-loop-i : goal.invariant-loop-i
-invariant-loop-i l = l.i ≤ l.n
-
-abbrev pub decreases-loop-i : goal.decreases-loop-i
-decreases-loop-i l = l.n - l.i
