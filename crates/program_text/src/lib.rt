@@ -20,35 +20,13 @@ pub enum Command {
 pub fn asked(word: &[u8], count: usize) -> Command
     ensures { Asks word.now count result }
 {
-    if count == 6 {
-        if check::same(word, b"fit") {
-            return Command::Fit;
-        }
-        return Command::Unknown;
+    match (count, word) {
+        (6, b"fit") => Command::Fit,
+        (4, b"take-back") => Command::TakeBack,
+        (2, b"--help") => Command::Help,
+        (2, b"--version") => Command::Version,
+        _ => Command::Unknown,
     }
-    if count == 4 {
-        if check::same(word, b"take-back") {
-            return Command::TakeBack;
-        }
-        return Command::Unknown;
-    }
-    if count == 2 {
-        return asked_alone(word);
-    }
-    Command::Unknown
-}
-
-// The command of a word that no file follows.
-fn asked_alone(word: &[u8]) -> Command
-    ensures { Asks word.now 2 result }
-{
-    if check::same(word, b"--help") {
-        return Command::Help;
-    }
-    if check::same(word, b"--version") {
-        return Command::Version;
-    }
-    Command::Unknown
 }
 
 // Puts bytes after the first `at` bytes of out, and returns where they end.
@@ -58,7 +36,7 @@ pub fn append(out: &mut [u8], at: usize, bytes: &[u8]) -> usize
     ensures appended { Appended out.old at bytes.now result out.new }
 {
     let n = bytes.len();
-    numbers_bytes::copy(out, at, bytes, 0, n);
+    out[at..at + n].copy_from_slice(bytes);
     at + n
 }
 

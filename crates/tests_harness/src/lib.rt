@@ -72,9 +72,9 @@ pub fn next(input: &mut impl Read) -> io::Result<Command> {
 fn parse(text: &[u8; 13]) -> Command {
     Command {
         letter: text[0],
-        a: numbers_bytes::read32(text, 1),
-        b: numbers_bytes::read32(text, 5),
-        c: numbers_bytes::read32(text, 9),
+        a: numbers_bytes::read(text, 1),
+        b: numbers_bytes::read(text, 5),
+        c: numbers_bytes::read(text, 9),
     }
 }
 

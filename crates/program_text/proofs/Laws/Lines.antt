@@ -1,41 +1,19 @@
 -- Laws of appended bytes, of decimals and of an answer's line.
-use mathlib.Core.Path.{◌≡◌, refl, sym, ap, ◌∙◌}
-use Prim.Native.Nat.{ℕ, zero, suc, ◌+◌, ◌*◌, ◌/◌, ◌%◌, ◌^◌, ◌-◌, ◌≤◌, ◌<◌}
+use mathlib.Core.Path.{◌≡◌, refl, ap, ◌∙◌}
+use Prim.Native.Nat.{ℕ, zero, suc, ◌*◌, ◌/◌, ◌%◌, ◌^◌, ◌-◌, ◌≤◌, ◌<◌}
 use native.Mathlib.Omega.{arith}
 use native.Mathlib.Numerals.{unary_clauses}
 use native.Mathlib.Nat.{mod-eq_of_lt, pow-suc, pow-le-pow_right, div-lt_iff_lt-mul, le-div_iff_mul-le}
 use mathlib.Core.Bool.{Bool, true, false}
 use lib.Dec.{leb}
 use mathlib.Core.List.{List, [], ◌∷◌, ◌++◌}
-use lib.ListN.{length, take, drop, length-append}
-use lib.Seq.{sets, sets-eq, length-sets, take_at, length-take-le}
+use lib.ListN.{take}
 use borrow.Author.Tests.{lt-ltb, le-ltb, leb-true, leb-false}
-use Rattle.io.specs.Counts.{IsPrefixLen}
 use Rattle.io.specs.Digits.{hex_digit_ascii, last_digits, IsDigitCount}
-use Rattle.numbers_definitions.specs.Bytes.{part}
-use Rattle.numbers_definitions.proofs.Laws.Lists.{part_whole}
 use Rattle.plan_pieces.specs.Answers.{Answer}
 use Rattle.program_text.specs.Lines.{Appended, decimal_in, decimal, line}
 
 -- ---- appended bytes
-
--- bytes stored after the first part of a list
-pub appended : (before : List ℕ) (at : ℕ) (bytes : List ℕ) → at + length bytes ≤ length before
-    → Appended before at bytes (at + length bytes) (sets before at bytes)
-appended before at bytes h =
-    let n = at + length bytes in
-    let e : length (take at before ++ bytes) ≡ n = rw (length-append, length-take-le at before (omega arith)) in
-    record { end = refl; text = ap (take n) (sets-eq bytes before at h) ∙ take_at (take at before ++ bytes) (drop n before) n e }
-
-pub counts : (n : ℕ) (s : List ℕ) → n ≤ length s → IsPrefixLen n s
-counts n s h = (h, sym (length-take-le n s h))
-
--- the same for what a copy left
-pub appended_read : {before : List ℕ} {at : ℕ} {bytes after : List ℕ} → at + length bytes ≤ length before → after ≡ sets before at (part bytes 0 (length bytes))
-    → IsPrefixLen (at + length bytes) after × Appended before at bytes (at + length bytes) after
-appended_read {before} {at} {bytes} {after} h e =
-    let e' : after ≡ sets before at bytes = e ∙ ap (sets before at) (part_whole bytes (length bytes) refl) in
-    rw e' (counts (at + length bytes) (sets before at bytes) (rw length-sets h), appended before at bytes h)
 
 -- two pieces from the start
 pub two : {s₀ s₁ s₂ a b : List ℕ} {n r : ℕ} → Appended s₀ 0 a n s₁ → Appended s₁ n b r s₂ → take r s₂ ≡ a ++ b
