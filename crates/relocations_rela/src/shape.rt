@@ -12,7 +12,8 @@ use relocations_decisions::{bytes_touched, is_refused, is_store, needs_pair};
 use relocations_types::Decision;
 
 // What check 9 has to know about the relocations before: the offset of the one before; and of the previous non-marker
-// the offset, the end, and the width as a stack. What is not there counts as 0.
+// the offset, the end, and the width as a stack. What is not there counts as 0: with Options in it, the trail would have padding,
+// which is copied with it at each relocation.
 #[derive(Clone, Copy)]
 pub struct Trail {
     pub offset: u64,
@@ -40,18 +41,14 @@ pub fn advance(trail: Trail, decision: Decision, width: u64, here: Relocation) -
 {
     let offset = here.offset.0;
     if is_store(decision) {
-        return Trail {
+        Trail {
             offset,
             start: offset,
             end: offset + bytes_touched(decision) as u64,
             width,
-        };
-    }
-    Trail {
-        offset,
-        start: trail.start,
-        end: trail.end,
-        width: trail.width,
+        }
+    } else {
+        Trail { offset, ..trail }
     }
 }
 
@@ -70,8 +67,7 @@ fn is_addend_allowed(decision: Decision, at: SectionOffset, size: u64, addend: u
     match decision {
         Decision::Align => is_padding(at, size, addend),
         Decision::Store(_) => !needs_pair(decision) | (addend == 0),
-        Decision::Marker => true,
-        Decision::Refused => true,
+        Decision::Marker | Decision::Refused => true,
     }
 }
 

@@ -121,9 +121,10 @@ fn short_jump(rvc: bool, field: Field, form: Form) -> Decision
     ensures { result ≡ cond (not rvc) Decision.Refused («the-jump» field form 2) }
 {
     if rvc {
-        return jump(field, form, 2);
+        jump(field, form, 2)
+    } else {
+        Decision::Refused
     }
-    Decision::Refused
 }
 
 // The high half that a PCREL_LO12 pairs with.

@@ -11,7 +11,7 @@ unfolding advanced
 returns-then-is_store c =
     rw (c.requires.0, c.bytes_touched.ensures, ← c.is_store.ensures, c.if-is_store.true)
 
-pub returns : goal.returns
+pub returns-else-is_store : goal.returns-else-is_store
 unfolding advanced
-returns c =
+returns-else-is_store c =
     rw (← c.is_store.ensures, c.if-is_store.false)
