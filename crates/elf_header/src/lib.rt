@@ -10,6 +10,7 @@ ghost use Rattle.elf_header.specs.Headers.{header_allowed, table_allowed};
 
 use elf_read::{MAX_SECTIONS, by, class_of, header_size, section_size};
 use numbers_arithmetic::ends_within;
+use numbers_bytes::read;
 use numbers_definitions::Class;
 
 // An object has at most 1,048,576 bytes.
@@ -21,7 +22,7 @@ fn is_size_said(object: &[u8]) -> bool
     ensures { result ≡ eqb (le_at 2 object.now (by (class_of object.now) 40 52)) (header_size (class_of object.now)) }
 {
     let class = class_of(object);
-    numbers_bytes::read16(object, by(class, 40, 52)) as usize == header_size(class)
+    usize::from(read::<u16>(object, by(class, 40, 52))) == header_size(class)
 }
 
 // Check 4.
@@ -37,13 +38,13 @@ pub fn check_header(object: &[u8]) -> bool
     if object.len() < header_size(class_of(object)) {
         return false;
     }
-    (numbers_bytes::read32(object, 0) == 0x464c457f)
+    (read::<u32>(object, 0) == 0x464c457f)
         & ((object[4] == 1) | (object[4] == 2))
         & (object[5] == 1)
         & (object[6] == 1)
-        & (numbers_bytes::read16(object, 16) == 1)
-        & (numbers_bytes::read16(object, 18) == 243)
-        & (numbers_bytes::read32(object, 20) == 1)
+        & (read::<u16>(object, 16) == 1)
+        & (read::<u16>(object, 18) == 243)
+        & (read::<u32>(object, 20) == 1)
         & is_size_said(object)
 }
 
@@ -59,7 +60,7 @@ pub fn check_table(object: &[u8]) -> bool
     let class = class_of(object);
     let size = section_size(class);
     let start = elf_read::section_table(object);
-    (numbers_bytes::read16(object, by(class, 46, 58)) as u64 == size)
+    (u64::from(read::<u16>(object, by(class, 46, 58))) == size)
         & (1 <= n)
         & ends_within(start.0, size * n as u64, object.len() as u64)
 }

@@ -13,6 +13,10 @@ pub record TableInside (s : List ℕ) : Type 0 where
   pub few : section_count s ≤ max_sections
   pub inside : section_table s + section_size (class_of s) * section_count s ≤ length s
 
+-- all section headers lie in the file, and i is the number of one
+abbrev pub SectionInside : List ℕ → ℕ → Type 0
+SectionInside s i = TableInside s × (i < section_count s)
+
 -- the bytes of a section lie in the file
 pub record Inside (s : List ℕ) (h : Section) : Type 0 where
   pub inside : h.offset.0 + h.size ≤ length s

@@ -5,9 +5,10 @@ ghost use Rattle.std.specs.Prelude.{◌≡◌, ◌&&◌, ◌+◌, ◌*◌, ◌/�
 ghost use Rattle.numbers_definitions.specs.Classes.{by};
 ghost use Rattle.elf_read.specs.Headers.{class_of, header_size, section_size, symbol_size, relocation_size, section_table, section_count, file_flags, has_rvc};
 ghost use Rattle.elf_read.specs.Sections.{read_section, section_at, allocated, loaded, is_allocated, symbol_table, targets, counting_rela, relocation_entries, relocations_in, relocations_below};
-ghost use Rattle.elf_read.specs.Requires.{HeaderInside, TableInside, Inside, EntryInside};
+ghost use Rattle.elf_read.specs.Requires.{HeaderInside, TableInside, SectionInside, Inside, EntryInside};
 ghost use Rattle.elf_read.specs.Entries.{bytes_of, symbol_entries, read_symbol, symbol_at, symbol_count, read_relocation, relocation_at, location_of};
 
+use numbers_bytes::{read, read_address};
 use numbers_definitions::{Class, FileOffset, SectionOffset};
 
 // An object has at most 128 sections.
@@ -131,7 +132,7 @@ pub fn section_table(object: &[u8]) -> FileOffset
     ensures { result.0 ≡ section_table object.now }
 {
     let class = class_of(object);
-    FileOffset(numbers_bytes::read_address(class, object, by(class, 32, 40)))
+    FileOffset(read_address(class, object, by(class, 32, 40)))
 }
 
 // How many sections an object has.
@@ -139,7 +140,7 @@ pub fn section_count(object: &[u8]) -> usize
     requires { HeaderInside object.now }
     ensures { result ≡ section_count object.now }
 {
-    numbers_bytes::read16(object, by(class_of(object), 48, 60)) as usize
+    usize::from(read::<u16>(object, by(class_of(object), 48, 60)))
 }
 
 // e_flags of an object.
@@ -147,7 +148,7 @@ fn flags_of(object: &[u8]) -> u32
     requires { HeaderInside object.now }
     ensures { result ≡ file_flags object.now }
 {
-    numbers_bytes::read32(object, by(class_of(object), 36, 48))
+    read(object, by(class_of(object), 36, 48))
 }
 
 // Whether bit 0 of e_flags is set: the object may hold instructions of 16 bits.
@@ -164,20 +165,20 @@ fn section_header(class: Class, object: &[u8], at: usize) -> Section
     ensures { result ≡ read_section class object.now at }
 {
     Section {
-        kind: numbers_bytes::read32(object, at + 4),
-        flags: numbers_bytes::read_address(class, object, at + 8),
-        offset: FileOffset(numbers_bytes::read_address(class, object, at + by(class, 16, 24))),
-        size: numbers_bytes::read_address(class, object, at + by(class, 20, 32)),
-        link: numbers_bytes::read32(object, at + by(class, 24, 40)),
-        info: numbers_bytes::read32(object, at + by(class, 28, 44)),
-        alignment: numbers_bytes::read_address(class, object, at + by(class, 32, 48)),
-        entsize: numbers_bytes::read_address(class, object, at + by(class, 36, 56)),
+        kind: read(object, at + 4),
+        flags: read_address(class, object, at + 8),
+        offset: FileOffset(read_address(class, object, at + by(class, 16, 24))),
+        size: read_address(class, object, at + by(class, 20, 32)),
+        link: read(object, at + by(class, 24, 40)),
+        info: read(object, at + by(class, 28, 44)),
+        alignment: read_address(class, object, at + by(class, 32, 48)),
+        entsize: read_address(class, object, at + by(class, 36, 56)),
     }
 }
 
 // The header of section i.
 pub fn read_section(object: &[u8], i: usize) -> Section
-    requires { TableInside object.now × (i < section_count object.now) }
+    requires { SectionInside object.now i }
     ensures { result ≡ section_at object.now i }
 {
     let class = class_of(object);
@@ -236,7 +237,7 @@ pub fn has_target(object: &[u8], h: Section) -> bool
 
 // Whether section i is a RELA that counts.
 pub fn is_counting_rela(object: &[u8], i: usize) -> bool
-    requires { TableInside object.now × (i < section_count object.now) }
+    requires { SectionInside object.now i }
     ensures { result ≡ counting_rela object.now i }
 {
     let h = read_section(object, i);
@@ -245,7 +246,7 @@ pub fn is_counting_rela(object: &[u8], i: usize) -> bool
 
 // Whether section i is a RELA that counts, and section t is its target.
 pub fn relocates(object: &[u8], i: usize, t: usize) -> bool
-    requires { TableInside object.now × (i < section_count object.now) }
+    requires { SectionInside object.now i }
     ensures { result ≡ (counting_rela object.now i && eqb (section_at object.now i).info t) }
 {
     read_section(object, i).info as usize == t && is_counting_rela(object, i)
@@ -265,7 +266,7 @@ pub fn relocation_entries(object: &[u8], h: Section) -> usize
 
 // How many relocations section i holds.
 fn relocations_in(object: &[u8], i: usize) -> usize
-    requires { TableInside object.now × (i < section_count object.now) }
+    requires { SectionInside object.now i }
     ensures { result ≡ relocations_in object.now i }
 {
     if is_counting_rela(object, i) {
@@ -352,12 +353,12 @@ fn symbol_entry(class: Class, object: &[u8], at: usize) -> Symbol
     requires { at + symbol_size class ≤ length object.now }
     ensures { result ≡ read_symbol class object.now at }
 {
-    let info = numbers_bytes::read8(object, at + by(class, 12, 4));
+    let info: u8 = read(object, at + by(class, 12, 4));
     Symbol {
-        value: SectionOffset(numbers_bytes::read_address(class, object, at + by(class, 4, 8))),
+        value: SectionOffset(read_address(class, object, at + by(class, 4, 8))),
         kind: info % 16,
         binding: info / 16,
-        section: numbers_bytes::read16(object, at + by(class, 14, 6)),
+        section: read(object, at + by(class, 14, 6)),
     }
 }
 
@@ -377,21 +378,21 @@ fn relocation_entry(class: Class, object: &[u8], at: usize) -> Relocation
 {
     match class {
         Class::Elf32 => {
-            let info = numbers_bytes::read32(object, at + 4);
+            let info: u32 = read(object, at + 4);
             Relocation {
-                offset: SectionOffset(numbers_bytes::read32(object, at) as u64),
+                offset: SectionOffset(u64::from(read::<u32>(object, at))),
                 kind: info % 256,
                 symbol: info / 256,
-                addend: numbers_arithmetic::addend(numbers_bytes::read32(object, at + 8)),
+                addend: numbers_arithmetic::addend(read(object, at + 8)),
             }
         }
         Class::Elf64 => {
-            let info = numbers_bytes::read64(object, at + 8);
+            let info: u64 = read(object, at + 8);
             Relocation {
-                offset: SectionOffset(numbers_bytes::read64(object, at)),
+                offset: SectionOffset(read(object, at)),
                 kind: (info % 0x1_0000_0000) as u32,
                 symbol: (info / 0x1_0000_0000) as u32,
-                addend: numbers_bytes::read64(object, at + 16),
+                addend: read(object, at + 16),
             }
         }
     }
@@ -414,8 +415,8 @@ pub fn read_kind(object: &[u8], h: Section, k: usize) -> u32
     let class = class_of(object);
     let at = entry_place(h, relocation_size(class), k);
     match class {
-        Class::Elf32 => numbers_bytes::read8(object, at + 4) as u32,
-        Class::Elf64 => numbers_bytes::read32(object, at + 8),
+        Class::Elf32 => u32::from(read::<u8>(object, at + 4)),
+        Class::Elf64 => read(object, at + 8),
     }
 }
 
@@ -433,7 +434,7 @@ pub fn offset_in(class: Class, object: &[u8], h: Section, k: usize) -> SectionOf
     ensures { result ≡ (relocation_at object.now h k).offset }
 {
     let at = entry_place(h, relocation_size(class), k);
-    SectionOffset(numbers_bytes::read_address(class, object, at))
+    SectionOffset(read_address(class, object, at))
 }
 
 // Where relocation number k is. Relocations are numbered through all counting RELA sections.

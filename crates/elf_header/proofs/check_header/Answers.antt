@@ -34,4 +34,4 @@ unfolding header_allowed
 returns c =
     let s = c.args.object.now in
     let long : header_size (class_of s) ≤ length s = omega (arith, sized (goal.at.returns c).After-header_size-2) in
-    rw (le-leb _ _ c.if-object-gt-MAX_OBJECT.false, le-leb _ _ long, le_at_one s 4, le_at_one s 5, le_at_one s 6, c.is_size_said.ensures, c.read32-2.ensures, c.read16-2.ensures, c.read16.ensures, c.read32.ensures)
+    rw (le-leb _ _ c.if-object-gt-MAX_OBJECT.false, le-leb _ _ long, le_at_one s 4, le_at_one s 5, le_at_one s 6, c.is_size_said.ensures, c.read-4.ensures, c.read-3.ensures, c.read-2.ensures, c.read.ensures)

@@ -17,4 +17,4 @@ pub returns : goal.returns
 unfolding table_allowed
 returns c =
     let few : section_count c.args.object.now ≤ max_sections = omega (arith, c.section_count-n.ensures) in
-    rw (c.ends_within.ensures, c.read16.ensures, c.by.ensures, c.section_size-size.ensures, c.class_of-class.ensures, c.section_table-start.ensures, c.section_count-n.ensures, le-leb _ _ few, and_true)
+    rw (c.ends_within.ensures, c.from.ensures, c.read.ensures, c.by.ensures, c.section_size-size.ensures, c.class_of-class.ensures, c.section_table-start.ensures, c.section_count-n.ensures, le-leb _ _ few, and_true)

@@ -10,4 +10,4 @@ returns-in-Elf32 c = rw c.in-Elf32.is cc
 
 pub returns-in-Elf64 : goal.returns-in-Elf64
 unfolding read_relocation
-returns-in-Elf64 c = rw c.in-Elf64.is (cc (residue_signed 64 c.read64-in-Elf64.result (omega arith)))
+returns-in-Elf64 c = rw c.in-Elf64.is (cc (residue_signed 64 c.read-in-Elf64-2.result (omega arith)))
