@@ -23,6 +23,16 @@ unfolding lowest_byte
 lowest_byte_le object addresses base top zero = omega arith
 lowest_byte_le object addresses base top (suc i) = lowered_le (has_bytes (section_at object i)) _ _ top (lowest_byte_le object addresses base top i)
 
+lowered_top : (b : Bool) (a l big top : ℕ) → l ≡ min big top → cond b (min a l) l ≡ min (cond b (min a big) big) top
+lowered_top true a l big top e = omega (arith, e)
+lowered_top false a l big top e = e
+
+-- a top that is applied at the end is one from the start
+pub lowest_byte_top : (object addresses : List ℕ) (base big top n : ℕ) → top ≤ big → lowest_byte object addresses base top n ≡ min (lowest_byte object addresses base big n) top
+unfolding lowest_byte
+lowest_byte_top object addresses base big top zero h = omega arith
+lowest_byte_top object addresses base big top (suc i) h = lowered_top (has_bytes (section_at object i)) _ _ _ top (lowest_byte_top object addresses base big top i h)
+
 raised_le : (b : Bool) (a l top : ℕ) → (b ≡ true → a ≤ top) → l ≤ top → cond b (max a l) l ≤ top
 raised_le true a l top f h = omega (arith, f refl)
 raised_le false a l top f h = h
