@@ -1,91 +1,69 @@
-// A list of calls as bytes: which bytes are a list, and where each call stands.
+// A list of calls as bytes: which bytes are a list, and what each call is.
 #![tactic(auto)]
 
-ghost use Rattle.std.specs.Prelude.{◌≡◌, true, cond, ◌+◌, ◌≤◌, length, eqb};
-ghost use Rattle.numbers_definitions.specs.Bytes.{part};
-ghost use Rattle.calls_replay.specs.Lists.{call_count, kind_at, object_length, order_length, call_end, is_call, is_list};
-ghost use Rattle.calls_replay.specs.Requires.{IsFit, FitInside};
+ghost use Rattle.std.specs.Prelude.{◌≡◌, ℕ, MatchOption, false, cond, ◌+◌, ◌≤◌, ◌<◌, length};
+ghost use Rattle.numbers_definitions.specs.Bytes.{le_at, part};
+ghost use Rattle.calls_replay.specs.Lists.{call_count, is_call, is_list};
+ghost use Rattle.calls_replay.specs.Requires.{IsFit, Read};
 
-// The kinds of calls.
-pub const FIT: u32 = 1;
+// A call of a list, whose object and order are parts of the list.
+#[derive(Clone, Copy)]
+pub enum Call<'a> {
+    Fit { object: &'a [u8], order: &'a [u8] },
+    TakeBack,
+}
 
-pub const TAKE_BACK: u32 = 2;
+// The numbers of the kinds of calls.
+const FIT: u32 = 1;
+
+const TAKE_BACK: u32 = 2;
 
 // Where the first call starts: after the count.
 pub const FIRST_AT: usize = 4;
 
-// Whether the fit at a place lies inside the bytes. Its object and its order each follow their length.
-fn is_fit_inside(calls: &[u8], at: usize) -> bool
-    requires { IsFit calls.now at }
-    ensures { result ≡ is_call calls.now at }
-{
-    let left = calls.len() - at;
-    if left < 12 {
-        return false;
-    }
-    let object = numbers_bytes::read32(calls, at + 4) as usize;
-    if left - 12 < object {
-        return false;
-    }
-    let order = numbers_bytes::read32(calls, at + 8 + object) as usize;
-    order <= left - 12 - object
-}
-
-// Whether a call stands at a place, wholly inside the bytes.
-fn is_call(calls: &[u8], at: usize) -> bool
+// The bytes that stand at a place after their length, and where they end, or nothing where the list ends before them.
+fn counted_at(calls: &[u8], at: usize) -> Option<(&[u8], usize)>
     requires { at ≤ length calls.now }
-    ensures { result ≡ is_call calls.now at }
+    ensures { MatchOption result (length calls.now < at + 4 + le_at 4 calls.now at)
+        (λ r. (r.0.now ≡ part calls.now (at + 4) (le_at 4 calls.now at)) × (r.1 ≡ at + 4 + le_at 4 calls.now at) × (r.1 ≤ length calls.now)) }
 {
     if calls.len() - at < 4 {
-        return false;
+        return None;
+    }
+    let from = at + 4;
+    let size = numbers_bytes::read32(calls, at) as usize;
+    if calls.len() - from < size {
+        return None;
+    }
+    let end = from + size;
+    Some((&calls[from..end], end))
+}
+
+// The fit at a place, and where it ends, or nothing where it does not lie inside the bytes. Its object and its order each follow their
+// length.
+fn fit_at(calls: &[u8], at: usize) -> Option<(Call<'_>, usize)>
+    requires { IsFit calls.now at }
+    ensures { MatchOption result (is_call calls.now at ≡ false) (λ r. Read calls.now at r.0 r.1) }
+{
+    let (object, next) = counted_at(calls, at + 4)?;
+    let (order, end) = counted_at(calls, next)?;
+    Some((Call::Fit { object, order }, end))
+}
+
+// The call at a place, and where it ends, or nothing where no call stands there, wholly inside the bytes.
+pub fn call_at(calls: &[u8], at: usize) -> Option<(Call<'_>, usize)>
+    requires { at ≤ length calls.now }
+    ensures { MatchOption result (is_call calls.now at ≡ false) (λ r. Read calls.now at r.0 r.1) }
+{
+    if calls.len() - at < 4 {
+        return None;
     }
     let kind = numbers_bytes::read32(calls, at);
-    if kind == FIT {
-        return is_fit_inside(calls, at);
+    match kind {
+        FIT => fit_at(calls, at),
+        TAKE_BACK => Some((Call::TakeBack, at + 4)),
+        _ => None,
     }
-    kind == TAKE_BACK
-}
-
-// Where the call at a place ends.
-pub fn call_end(calls: &[u8], at: usize) -> usize
-    requires { is_call calls.now at ≡ true }
-    ensures { result ≡ call_end calls.now at }
-{
-    if numbers_bytes::read32(calls, at) != FIT {
-        return at + 4;
-    }
-    let object = numbers_bytes::read32(calls, at + 4) as usize;
-    let order = numbers_bytes::read32(calls, at + 8 + object) as usize;
-    at + 12 + object + order
-}
-
-// Whether the call at a place is a fit.
-pub fn is_fit(calls: &[u8], at: usize) -> bool
-    requires { is_call calls.now at ≡ true }
-    ensures { result ≡ eqb (kind_at calls.now at) 1 }
-{
-    numbers_bytes::read32(calls, at) == FIT
-}
-
-// The object of the fit at a place, as a part of the list.
-pub fn object_of(calls: &[u8], at: usize) -> &[u8]
-    requires { FitInside calls.now at }
-    ensures { result.now ≡ part calls.now (at + 8) (object_length calls.now at) }
-{
-    let from = at + 8;
-    let to = from + numbers_bytes::read32(calls, at + 4) as usize;
-    &calls[from..to]
-}
-
-// The order of the fit at a place, as a part of the list.
-pub fn order_of(calls: &[u8], at: usize) -> &[u8]
-    requires { FitInside calls.now at }
-    ensures { result.now ≡ part calls.now (at + 12 + object_length calls.now at) (order_length calls.now at) }
-{
-    let object = numbers_bytes::read32(calls, at + 4) as usize;
-    let from = at + 12 + object;
-    let to = from + numbers_bytes::read32(calls, at + 8 + object) as usize;
-    &calls[from..to]
 }
 
 // How many calls the bytes list, or nothing if they are no list. Every call is checked, and no byte may be left
@@ -98,13 +76,9 @@ pub fn read_list(calls: &[u8]) -> Option<usize>
     }
     let n = numbers_bytes::read32(calls, 0) as usize;
     let mut at = FIRST_AT;
-    let mut i: usize = 0;
-    while i < n {
-        if !is_call(calls, at) {
-            return None;
-        }
-        at = call_end(calls, at);
-        i += 1;
+    for _ in 0..n {
+        let (_, end) = call_at(calls, at)?;
+        at = end;
     }
     if at != calls.len() {
         return None;

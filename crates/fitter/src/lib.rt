@@ -5,16 +5,16 @@ ghost use Rattle.std.specs.Prelude.{◌≡◌, true, ◌≤◌, length};
 ghost use Rattle.std.proofs.lemmas.List.Edits.{sets};
 ghost use Rattle.journal_history.specs.Calls.{files, calling};
 ghost use Rattle.journal_history.specs.Histories.{Start};
-ghost use Rattle.calls_replay.specs.Lists.{call_count, call_at, is_call, is_list};
+ghost use Rattle.calls_replay.specs.Lists.{call_count, is_list};
 ghost use Rattle.calls_replay.specs.Replays.{replay as «the-replay»};
-ghost use Rattle.calls_replay.specs.Requires.{left_by, codes_of};
+ghost use Rattle.calls_replay.specs.Requires.{the_call, left_by, codes_of};
 ghost use Rattle.calls_demands.specs.Ours.{our_install, our_rollback};
 ghost use Rattle.calls_demands.specs.Codes.{Returned};
 ghost use Rattle.fitter.specs.Replayed.{Demand3Of};
 
 use calls_install::{install, rollback};
 use calls_judge::code_of;
-use calls_replay::FIRST_AT;
+use calls_replay::{Call, FIRST_AT};
 
 // `install` for callers in other languages. The four buffers must not overlap.
 pub fn aktinoph_fit(object: &[u8], order: &[u8], image: &mut [u8], ledger: &mut [u8]) -> u64
@@ -31,18 +31,15 @@ pub fn aktinoph_take_back(image: &mut [u8], ledger: &mut [u8]) -> u64
     code_of(rollback(image, ledger))
 }
 
-// Makes the call that stands at a place of a list.
-fn make_call(calls: &[u8], at: usize, image: &mut [u8], ledger: &mut [u8]) -> u64
-    requires { is_call calls.now at ≡ true }
+// Makes a call of a list.
+fn make_call(call: Call<'_>, image: &mut [u8], ledger: &mut [u8]) -> u64
     ensures { Returned result (files image.new ledger.new)
-        (calling our_install our_rollback (files image.old ledger.old) (call_at calls.now at)) }
+        (calling our_install our_rollback (files image.old ledger.old) (the_call call.entry)) }
 {
-    if !calls_replay::is_fit(calls, at) {
-        return aktinoph_take_back(image, ledger);
+    match call {
+        Call::Fit { object, order } => aktinoph_fit(object, order, image, ledger),
+        Call::TakeBack => aktinoph_take_back(image, ledger),
     }
-    let object = calls_replay::object_of(calls, at);
-    let order = calls_replay::order_of(calls, at);
-    aktinoph_fit(object, order, image, ledger)
 }
 
 // Makes the n calls of a list one after the other, and puts their answers into the first places.
@@ -53,11 +50,10 @@ fn make_calls(calls: &[u8], n: usize, image: &mut [u8], ledger: &mut [u8], answe
         × (answers.new ≡ sets answers.old 0 (codes_of our_install our_rollback calls.now (files image.old ledger.old) n)) }
 {
     let mut at = FIRST_AT;
-    let mut i: usize = 0;
-    while i < n {
-        answers[i] = make_call(calls, at, image, ledger);
-        at = calls_replay::call_end(calls, at);
-        i += 1;
+    for i in 0..n {
+        let (call, end) = calls_replay::call_at(calls, at).unwrap();
+        answers[i] = make_call(call, image, ledger);
+        at = end;
     }
 }
 
