@@ -9,6 +9,7 @@ ghost use Rattle.instructions_fields.specs.Fields.{layout, data_layout};
 use instructions_fields::{Field, Width};
 
 // imm[31:12]
+#[tactic(auto, unfolding(instructions_fields::specs::Layouts::read))]
 pub fn read_u(word: u64) -> u64
     ensures { result ≡ read format_u word }
 {
@@ -16,6 +17,7 @@ pub fn read_u(word: u64) -> u64
 }
 
 // imm[11:0]
+#[tactic(auto, unfolding(instructions_fields::specs::Layouts::read))]
 pub fn read_i(word: u64) -> u64
     ensures { result ≡ read format_i word }
 {
@@ -23,6 +25,7 @@ pub fn read_i(word: u64) -> u64
 }
 
 // imm[4:0], imm[11:5]
+#[tactic(auto, unfolding(instructions_fields::specs::Layouts::read))]
 pub fn read_s(word: u64) -> u64
     ensures { result ≡ read format_s word }
 {
@@ -30,6 +33,7 @@ pub fn read_s(word: u64) -> u64
 }
 
 // imm[11], imm[4:1], imm[10:5], imm[12]
+#[tactic(auto, unfolding(instructions_fields::specs::Layouts::read))]
 pub fn read_b(word: u64) -> u64
     ensures { result ≡ read format_b word }
 {
@@ -40,6 +44,7 @@ pub fn read_b(word: u64) -> u64
 }
 
 // imm[19:12], imm[11], imm[10:1], imm[20]
+#[tactic(auto, unfolding(instructions_fields::specs::Layouts::read))]
 pub fn read_j(word: u64) -> u64
     ensures { result ≡ read format_j word }
 {
@@ -50,6 +55,7 @@ pub fn read_j(word: u64) -> u64
 }
 
 // imm[5], imm[2:1], imm[7:6], imm[4:3], imm[8]
+#[tactic(auto, unfolding(instructions_fields::specs::Layouts::read))]
 pub fn read_cb(word: u64) -> u64
     ensures { result ≡ read format_cb word }
 {
@@ -61,6 +67,7 @@ pub fn read_cb(word: u64) -> u64
 }
 
 // imm[5], imm[3:1], imm[7], imm[6], imm[10], imm[9:8], imm[4], imm[11]
+#[tactic(auto, unfolding(instructions_fields::specs::Layouts::read))]
 pub fn read_cj(word: u64) -> u64
     ensures { result ≡ read format_cj word }
 {
@@ -75,6 +82,7 @@ pub fn read_cj(word: u64) -> u64
 }
 
 // A data field: all of its bytes, or the low six bits of one.
+#[tactic(auto, unfolding(instructions_fields::specs::Layouts::read))]
 pub fn read_data(width: Width, word: u64) -> u64
     ensures { result ≡ read (data_layout width) word }
 {

@@ -10,6 +10,7 @@ use instructions_fields::{Field, Width};
 use instructions_table::cj_field;
 
 // imm[31:12]
+#[tactic(auto, unfolding(instructions_fields::specs::Layouts::put))]
 pub fn put_u(word: u64, value: u64) -> u64
     ensures { result ≡ put format_u word value }
 {
@@ -17,6 +18,7 @@ pub fn put_u(word: u64, value: u64) -> u64
 }
 
 // imm[11:0]
+#[tactic(auto, unfolding(instructions_fields::specs::Layouts::put))]
 pub fn put_i(word: u64, value: u64) -> u64
     ensures { result ≡ put format_i word value }
 {
@@ -24,6 +26,7 @@ pub fn put_i(word: u64, value: u64) -> u64
 }
 
 // imm[4:0], imm[11:5]
+#[tactic(auto, unfolding(instructions_fields::specs::Layouts::put))]
 pub fn put_s(word: u64, value: u64) -> u64
     ensures { result ≡ put format_s word value }
 {
@@ -34,6 +37,7 @@ pub fn put_s(word: u64, value: u64) -> u64
 }
 
 // imm[11], imm[4:1], imm[10:5], imm[12]
+#[tactic(auto, unfolding(instructions_fields::specs::Layouts::put))]
 pub fn put_b(word: u64, value: u64) -> u64
     ensures { result ≡ put format_b word value }
 {
@@ -46,6 +50,7 @@ pub fn put_b(word: u64, value: u64) -> u64
 }
 
 // imm[19:12], imm[11], imm[10:1], imm[20]
+#[tactic(auto, unfolding(instructions_fields::specs::Layouts::put))]
 pub fn put_j(word: u64, value: u64) -> u64
     ensures { result ≡ put format_j word value }
 {
@@ -57,6 +62,7 @@ pub fn put_j(word: u64, value: u64) -> u64
 }
 
 // imm[5], imm[2:1], imm[7:6], imm[4:3], imm[8]
+#[tactic(auto, unfolding(instructions_fields::specs::Layouts::put))]
 pub fn put_cb(word: u64, value: u64) -> u64
     ensures { result ≡ put format_cb word value }
 {
@@ -79,6 +85,7 @@ pub fn put_cj(word: u64, value: u64) -> u64
 }
 
 // A data field: all of its bytes, or the low six bits of one.
+#[tactic(auto, unfolding(instructions_fields::specs::Layouts::put))]
 pub fn put_data(width: Width, word: u64, value: u64) -> u64
     ensures { result ≡ put (data_layout width) word value }
 {

@@ -1,6 +1,5 @@
 // Instruction forms: which words a relocation asks for.
 ghost use Rattle.std.specs.Prelude.{◌≡◌};
-ghost use Rattle.numbers_definitions.specs.Classes.{is_elf64};
 ghost use Rattle.instructions_riscv.specs.Forms.{has_form, is_jalr};
 
 use numbers_definitions::Class;
@@ -23,6 +22,7 @@ pub enum Form {
 
 // Whether a word has the form in a file of the class. `next` is the word after it, which only CallPair looks at. ADDIW takes
 // a low half too, and RV64 has no C.JAL.
+#[tactic(auto, unfolding(crate::specs::Forms::has_form))]
 pub fn has_form(class: Class, form: Form, word: u64, next: u64) -> bool
     ensures { result ≡ has_form class form word next }
 {
@@ -40,23 +40,16 @@ pub fn has_form(class: Class, form: Form, word: u64, next: u64) -> bool
         Form::LowI => {
             (opcode == 0x03)
                 | (opcode == 0x07)
-                | (((opcode == 0x13) | (opcode == 0x67) | (is_elf64(class) & (opcode == 0x1b)))
+                | (((opcode == 0x13)
+                    | (opcode == 0x67)
+                    | ((class == Class::Elf64) & (opcode == 0x1b)))
                     & (funct3 == 0))
         }
         Form::LowS => (opcode == 0x23) | (opcode == 0x27),
         Form::CallPair => (opcode == 0x17) & (rd != 0) & jalr_of(next, rd),
         Form::CBranch => (quadrant == 1) & ((cfunct3 == 6) | (cfunct3 == 7)),
-        Form::CJump => (quadrant == 1) & ((cfunct3 == 5) | (!is_elf64(class) & (cfunct3 == 1))),
-    }
-}
-
-// Whether a file is of class 2.
-fn is_elf64(class: Class) -> bool
-    ensures { result ≡ is_elf64 class }
-{
-    match class {
-        Class::Elf32 => false,
-        Class::Elf64 => true,
+        Form::CJump => (quadrant == 1)
+            & ((cfunct3 == 5) | ((class == Class::Elf32) & (cfunct3 == 1))),
     }
 }
 

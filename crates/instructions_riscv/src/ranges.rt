@@ -67,6 +67,7 @@ pub fn in_reach(class: Class, range: Range, d: u64) -> bool
 }
 
 // Whether a distance leads from an instruction's boundary to another: `rvc` says that instructions of 16 bits are allowed.
+#[tactic(auto, unfolding(crate::specs::Ranges::keeps_alignment))]
 pub fn keeps_alignment(rvc: bool, d: u64) -> bool
     ensures { result ≡ keeps_alignment rvc (pos d) }
 {
@@ -75,6 +76,7 @@ pub fn keeps_alignment(rvc: bool, d: u64) -> bool
 
 // Whether two halves make up an address or a distance. In class 1 they always do. In class 2 it is from -2,147,485,696 to
 // 2,147,481,599, which is one comparison after 2,147,485,696 is added modulo 2^64.
+#[tactic(auto, using(crate::proofs::Laws::Ranges::halves_compared))]
 pub fn in_halves_reach(class: Class, v: u64) -> bool
     ensures { result ≡ halves_reach class v }
 {

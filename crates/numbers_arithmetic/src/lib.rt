@@ -9,6 +9,7 @@ ghost use Rattle.numbers_definitions.specs.Powers.{one_bit, ceil_power};
 use numbers_definitions::Class;
 
 // v + x and v - x, wrapping at 64 bits.
+#[tactic(auto, unfolding(numbers_definitions::specs::Whole::plus))]
 pub fn add64(v: u64, x: u64) -> u64
     ensures { result ≡ plus 64 v x }
 {
@@ -55,10 +56,10 @@ pub fn difference(class: Class, a: u64, b: u64) -> u64
 pub fn ends_within(start: u64, size: u64, limit: u64) -> bool
     ensures { result ≡ nat_le (start + size) limit }
 {
-    if limit < start {
-        return false;
+    match start.checked_add(size) {
+        Some(end) => end <= limit,
+        None => false,
     }
-    size <= limit - start
 }
 
 // Whether start + size is at most the end of memory. Nothing wraps.
@@ -67,12 +68,7 @@ pub fn ends_in_memory(class: Class, start: u64, size: u64) -> bool
 {
     match class {
         Class::Elf32 => ends_within(start, size, 0x1_0000_0000),
-        Class::Elf64 => {
-            if size == 0 {
-                return true;
-            }
-            start <= 0xffff_ffff_ffff_ffff - (size - 1)
-        }
+        Class::Elf64 => size == 0 || start.checked_add(size - 1).is_some(),
     }
 }
 
@@ -84,6 +80,7 @@ pub fn addend(word: u32) -> u64
 }
 
 // Whether exactly one bit of a number is set.
+#[tactic(auto, using(numbers_definitions::proofs::Laws::Powers::one_bit_is))]
 pub fn one_bit(x: u64) -> bool
     ensures { result ≡ one_bit 64 x }
 {

@@ -2,8 +2,7 @@
 // The code that reads and writes bytes is in `numbers_bytes`, the code that computes is in `numbers_arithmetic`.
 #![tactic(auto)]
 
-// Three types that cannot be mixed: a place in the object, a place in a section (document 01: a row offset), and a
-// run-time address.
+// Three types that cannot be mixed: a place in the object, a place in a section, and a run-time address.
 #[derive(Clone, Copy)]
 pub struct FileOffset(pub u64);
 
@@ -14,7 +13,7 @@ pub struct SectionOffset(pub u64);
 pub struct Address(pub u64);
 
 // How wide addresses are. The names are those of ELF's two classes.
-#[derive(Clone, Copy)]
+#[derive(Clone, Copy, PartialEq, Eq)]
 pub enum Class {
     Elf32,
     Elf64,

@@ -16,41 +16,6 @@ pub overflow_add-result : goal.overflow_add-result
 unfolding put
 overflow_add-result c = omega arith
 
-pub returns-in-U : goal.returns-in-U
-returns-in-U c =
-    let a = c.args in
-    c.put_u.ensures ∙ sym (ap (λ f. put (layout f) a.word a.value) c.in-U.is)
-
-pub returns-in-I : goal.returns-in-I
-returns-in-I c =
-    let a = c.args in
-    c.put_i.ensures ∙ sym (ap (λ f. put (layout f) a.word a.value) c.in-I.is)
-
-pub returns-in-S : goal.returns-in-S
-returns-in-S c =
-    let a = c.args in
-    c.put_s.ensures ∙ sym (ap (λ f. put (layout f) a.word a.value) c.in-S.is)
-
-pub returns-in-B : goal.returns-in-B
-returns-in-B c =
-    let a = c.args in
-    c.put_b.ensures ∙ sym (ap (λ f. put (layout f) a.word a.value) c.in-B.is)
-
-pub returns-in-J : goal.returns-in-J
-returns-in-J c =
-    let a = c.args in
-    c.put_j.ensures ∙ sym (ap (λ f. put (layout f) a.word a.value) c.in-J.is)
-
-pub returns-in-Cb : goal.returns-in-Cb
-returns-in-Cb c =
-    let a = c.args in
-    c.put_cb.ensures ∙ sym (ap (λ f. put (layout f) a.word a.value) c.in-Cb.is)
-
-pub returns-in-Cj : goal.returns-in-Cj
-returns-in-Cj c =
-    let a = c.args in
-    c.put_cj.ensures ∙ sym (ap (λ f. put (layout f) a.word a.value) c.in-Cj.is)
-
 pub returns-in-Call : goal.returns-in-Call
 unfolding total
 returns-in-Call c =
@@ -60,8 +25,3 @@ returns-in-Call c =
     rw (first, second) (ap (λ n. put format_u a.word a.value + n) (mul_comm (put format_i (a.word / 0x1_0000_0000) a.value) 0x1_0000_0000)
     ∙ sym (put_append format_u format_i a.word a.value)
     ∙ sym (ap (λ f. put (layout f) a.word a.value) c.in-Call.is))
-
-pub returns-in-Data : goal.returns-in-Data
-returns-in-Data c =
-    let a = c.args in
-    c.put_data.ensures ∙ sym (ap (λ f. put (layout f) a.word a.value) c.in-Data.is)
