@@ -31,7 +31,7 @@ fn counted_at(calls: &[u8], at: usize) -> Option<(&[u8], usize)>
         return None;
     }
     let from = at + 4;
-    let size = numbers_bytes::read32(calls, at) as usize;
+    let size = numbers_bytes::read::<u32>(calls, at) as usize;
     if calls.len() - from < size {
         return None;
     }
@@ -58,7 +58,7 @@ pub fn call_at(calls: &[u8], at: usize) -> Option<(Call<'_>, usize)>
     if calls.len() - at < 4 {
         return None;
     }
-    let kind = numbers_bytes::read32(calls, at);
+    let kind = numbers_bytes::read::<u32>(calls, at);
     match kind {
         FIT => fit_at(calls, at),
         TAKE_BACK => Some((Call::TakeBack, at + 4)),
@@ -74,7 +74,7 @@ pub fn read_list(calls: &[u8]) -> Option<usize>
     if calls.len() < FIRST_AT {
         return None;
     }
-    let n = numbers_bytes::read32(calls, 0) as usize;
+    let n = numbers_bytes::read::<u32>(calls, 0) as usize;
     let mut at = FIRST_AT;
     for _ in 0..n {
         let (_, end) = call_at(calls, at)?;

@@ -28,7 +28,7 @@ pub fn count(journal: &[u8]) -> u32
     requires { old_at ≤ length journal.now }
     ensures { result ≡ count journal.now }
 {
-    numbers_bytes::read32(journal, COUNT_AT)
+    numbers_bytes::read::<u32>(journal, COUNT_AT)
 }
 
 // k, the number of old bytes.
@@ -36,7 +36,7 @@ pub fn held(journal: &[u8]) -> u32
     requires { old_at ≤ length journal.now }
     ensures { result ≡ held journal.now }
 {
-    numbers_bytes::read32(journal, HELD_AT)
+    numbers_bytes::read::<u32>(journal, HELD_AT)
 }
 
 // Where entry i stands.
@@ -54,8 +54,8 @@ pub fn read_entry(journal: &[u8], i: usize) -> Span
 {
     let at = entry_at(i);
     Span {
-        start: numbers_bytes::read32(journal, at),
-        size: numbers_bytes::read32(journal, at + NUMBER_SIZE),
+        start: numbers_bytes::read::<u32>(journal, at),
+        size: numbers_bytes::read::<u32>(journal, at + NUMBER_SIZE),
     }
 }
 

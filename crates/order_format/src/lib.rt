@@ -78,7 +78,7 @@ pub fn read_entry(class: Class, order: &[u8], at: usize, i: usize) -> Entry
 {
     let place = entry_place(class, at, i);
     Entry {
-        index: numbers_bytes::read32(order, place),
+        index: numbers_bytes::read::<u32>(order, place),
         value: Address(numbers_bytes::read_address(class, order, place + 4)),
     }
 }
@@ -104,7 +104,7 @@ fn read_list(class: Class, order: &[u8], at: usize, most: usize) -> Option<usize
     requires { (4 ≤ at) × (at ≤ length order.now) × (most ≤ max_externals) }
     ensures { MatchOption result ((n : ℕ) → Listed class order.now at most n → ⊥) (λ n. Listed class order.now at most n) }
 {
-    let n = numbers_bytes::read32(order, at - 4) as usize;
+    let n = numbers_bytes::read::<u32>(order, at - 4) as usize;
     if most < n {
         return None;
     }
@@ -124,7 +124,7 @@ pub fn read_order(class: Class, order: &[u8]) -> Option<OrderHeader>
     if order.len() < empty_size(class) {
         return None;
     }
-    if numbers_bytes::read32(order, 0) != 1 {
+    if numbers_bytes::read::<u32>(order, 0) != 1 {
         return None;
     }
     let placements = read_list(class, order, placements_start(class), MAX_PLACEMENTS)?;

@@ -14,7 +14,7 @@ pub returns-in-2 : goal.returns-in-2
 returns-in-2 c =
     let s = c.args.calls.now in
     let at = c.args.at in
-    let kind : kind_at s at ≡ 2 = sym c.read32-kind.ensures ∙ c.in-2.is in
+    let kind : kind_at s at ≡ 2 = sym c.read-kind.ensures ∙ c.in-2.is in
     let other : kind_at s at ≡ FIT → ⊥ = λ e. omega (arith, kind) in
     record {
       stands = kind_decides s at 2 kind (λ e. omega arith) (omega (arith, c.requires));
@@ -23,4 +23,4 @@ returns-in-2 c =
     }
 
 pub returns-in_default : goal.returns-in_default
-returns-in_default c = kind_decides _ _ c.read32-kind.result (sym c.read32-kind.ensures) (λ e. omega arith) (omega (arith, c.requires)) ∙ ne_eqb _ _ (λ e. omega arith)
+returns-in_default c = kind_decides _ _ c.read-kind.result (sym c.read-kind.ensures) (λ e. omega arith) (omega (arith, c.requires)) ∙ ne_eqb _ _ (λ e. omega arith)

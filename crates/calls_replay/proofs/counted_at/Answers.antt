@@ -9,5 +9,5 @@ pub returns : goal.returns
 unfolding part
 returns c =
     let a = c.args in
-    let size : a.at + 4 + c.read32-size.result - (a.at + 4) ≡ c.read32-size.result = omega arith in
-    (ap (part a.calls.now (a.at + 4)) (size ∙ c.read32-size.ensures), omega (arith, c.read32-size.ensures), omega arith)
+    let size : a.at + 4 + c.read-size.result - (a.at + 4) ≡ c.read-size.result = omega arith in
+    (ap (part a.calls.now (a.at + 4)) (size ∙ c.read-size.ensures), omega (arith, c.read-size.ensures), omega arith)

@@ -31,7 +31,7 @@ returns-in_err-end c =
     let s = c.args.calls.now in
     let none : is_call s c.loop.at ≡ false = c.in_err-end.ensures in
     c.from_residual.ensures
-    ∙ sym (malformed s (not_list_call s c.loop.counter (omega (arith, c.loop-test.true, c.read32-n.ensures)) (ap (is_call s) (sym c.loop.invariant.0) ∙ none)))
+    ∙ sym (malformed s (not_list_call s c.loop.counter (omega (arith, c.loop-test.true, c.read-n.ensures)) (ap (is_call s) (sym c.loop.invariant.0) ∙ none)))
 
 pub loop-preserved : goal.loop-preserved
 loop-preserved c =
@@ -45,12 +45,12 @@ loop-preserved c =
 -- after the loop every call was looked at
 all_calls : (c : After-loop) → let s = c.args.calls.now in
     (j : ℕ) → j < call_count s → is_call s (call_start s j) ≡ true
-all_calls c j h = c.loop.invariant.2 j (omega (arith, c.loop-test.false, c.read32-n.ensures))
+all_calls c j h = c.loop.invariant.2 j (omega (arith, c.loop-test.false, c.read-n.ensures))
 
 end_at : (c : After-loop) → let s = c.args.calls.now in c.loop.at ≡ call_start s (call_count s)
 end_at c =
     let s = c.args.calls.now in
-    let last : c.loop.counter ≡ call_count s = omega (arith, c.loop.invariant.0, c.loop-test.false, c.read32-n.ensures) in
+    let last : c.loop.counter ≡ call_count s = omega (arith, c.loop.invariant.0, c.loop-test.false, c.read-n.ensures) in
     c.loop.invariant.0 ∙ ap (call_start s) last
 
 pub returns-then-at-calls : goal.returns-then-at-calls
@@ -61,4 +61,4 @@ returns-then-at-calls c =
 pub returns : goal.returns
 returns c =
     let s = c.args.calls.now in
-    listed s _ c.read32-n.ensures (list_is s (all_calls (goal.at.returns c).After-loop) (sym (end_at (goal.at.returns c).After-loop) ∙ c.if-at-calls.false))
+    listed s _ c.read-n.ensures (list_is s (all_calls (goal.at.returns c).After-loop) (sym (end_at (goal.at.returns c).After-loop) ∙ c.if-at-calls.false))

@@ -11,8 +11,8 @@ use Rattle.order_format.proofs.read_order.Goals.{After-externals_start-start, Af
 pub returns-then-order-empty_size : goal.returns-then-order-empty_size
 returns-then-order-empty_size c = unsound_reading _ _ (λ k. omega arith)
 
-pub returns-then-read32-ne1 : goal.returns-then-read32-ne1
-returns-then-read32-ne1 c = unsound_reading _ _ (λ k. omega arith)
+pub returns-then-read-ne1 : goal.returns-then-read-ne1
+returns-then-read-ne1 c = unsound_reading _ _ (λ k. omega arith)
 
 pub returns-in_err-placements : goal.returns-in_err-placements
 returns-in_err-placements c =
