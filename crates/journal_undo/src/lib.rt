@@ -34,8 +34,8 @@ fn write_entry(journal: &mut [u8], i: usize, span: Span)
     ensures { journal.new ≡ sets journal.old (entry_at i) (entry_bytes span) }
 {
     let at = entry_at(i);
-    numbers_bytes::write32(journal, at, span.start);
-    numbers_bytes::write32(journal, at + NUMBER_SIZE, span.size);
+    numbers_bytes::write(journal, at, span.start);
+    numbers_bytes::write(journal, at + NUMBER_SIZE, span.size);
 }
 
 // Records a span of the image: its old bytes, then its entry, then k, then n.
@@ -53,8 +53,8 @@ pub fn save(image: &[u8], journal: &mut [u8], span: Span)
         span.size as usize,
     );
     write_entry(journal, n as usize, span);
-    numbers_bytes::write32(journal, HELD_AT, k + span.size);
-    numbers_bytes::write32(journal, COUNT_AT, n + 1);
+    numbers_bytes::write(journal, HELD_AT, k + span.size);
+    numbers_bytes::write(journal, COUNT_AT, n + 1);
 }
 
 // Undoes the newest install. Writes its old bytes back into the image, then n, then k, then zeros over its entry and
@@ -74,8 +74,8 @@ fn undo(image: &mut [u8], journal: &mut [u8])
         OLD_AT + k as usize,
         span.size as usize,
     );
-    numbers_bytes::write32(journal, COUNT_AT, i);
-    numbers_bytes::write32(journal, HELD_AT, k);
+    numbers_bytes::write(journal, COUNT_AT, i);
+    numbers_bytes::write(journal, HELD_AT, k);
     write_entry(journal, i as usize, Span::default());
     clear(journal, OLD_AT + k as usize, span.size as usize);
 }

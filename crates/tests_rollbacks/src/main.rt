@@ -42,7 +42,7 @@ fn run(
 fn number(input: &mut impl Read) -> io::Result<u32> {
     let mut b = [0u8; 4];
     tests_harness::read_full(input, &mut b)?;
-    Ok(numbers_bytes::read32(&b, 0))
+    Ok(numbers_bytes::read::<u32>(&b, 0))
 }
 
 // One case, if the spaces are long enough for it.

@@ -42,4 +42,4 @@ pub returns : goal.returns
 returns c =
     let zero : c.default.result ≡ blank = λ i. record { start = c.default.ensures.0 i; size = c.default.ensures.1 i } in
     newest_undone (image (goal.at.returns c).After-held) (journal (goal.at.returns c).After-held) (n (goal.at.returns c).After-held) (span (goal.at.returns c).After-held) (k (goal.at.returns c).After-held) c.count-i.ensures c.read_entry-span.ensures c.held.ensures
-    _ _ _ _ _ c.copy.ensures c.write32.ensures c.write32-2.ensures (rw zero at c.write_entry.ensures) c.clear.ensures
+    _ _ _ _ _ c.copy.ensures c.write.ensures c.write-2.ensures (rw zero at c.write_entry.ensures) c.clear.ensures

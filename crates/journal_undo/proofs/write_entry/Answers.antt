@@ -14,7 +14,7 @@ returns c =
     let at = c.entry_at-at.result in
     let span = c.args.span in
     let j = c.args.journal.now in
-    c.write32-2.ensures
-    ∙ ap (λ (l : List ℕ). sets l (at + number_size) (bytes number_size span.size)) c.write32.ensures
+    c.write-2.ensures
+    ∙ ap (λ (l : List ℕ). sets l (at + number_size) (bytes number_size span.size)) c.write.ensures
     ∙ sym (sets_append j at (bytes number_size span.start) (bytes number_size span.size) (at + number_size) (rw length_bytes refl))
     ∙ ap (λ (x : ℕ). sets j x (entry_bytes span)) c.entry_at-at.ensures
