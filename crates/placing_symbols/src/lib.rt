@@ -11,8 +11,8 @@ ghost use Rattle.placing_symbols.specs.Arrays.{listed, ValueArrays, Blank, Value
 ghost use Rattle.placing_symbols.specs.Requires.{SymbolsOf};
 
 use elf_read::{
-    MAX_SECTIONS, SHN_ABS, SHN_COMMON, SHN_LORESERVE, SHN_UNDEF, STB_WEAK, STT_GNU_IFUNC, STT_TLS,
-    Section, Symbol, class_of,
+    SHN_ABS, SHN_COMMON, SHN_LORESERVE, SHN_UNDEF, STB_WEAK, STT_GNU_IFUNC, STT_TLS, Section,
+    Symbol, class_of,
 };
 use numbers_definitions::Address;
 use order_format::OrderHeader;
@@ -84,7 +84,7 @@ fn entry_value(object: &[u8], given: Option<Address>, start: u64, symbol: Symbol
         return undefined_value(symbol, given);
     }
     if section < SHN_LORESERVE {
-        if !elf_read::is_allocated_section(object, section as u32) {
+        if !elf_read::is_allocated_section(object, u32::from(section)) {
             return Err(Reason::NotAllocated);
         }
         let sum = numbers_arithmetic::sum(class_of(object), start, symbol.value.0);
@@ -148,12 +148,8 @@ pub fn symbol_values(
     let mut next = first.next;
     for k in 1..count {
         let symbol = elf_read::read_symbol(object, table, k);
-        let section = symbol.section as usize;
-        let start = if section < MAX_SECTIONS {
-            addresses[section]
-        } else {
-            0
-        };
+        let section = usize::from(symbol.section);
+        let start = addresses.get(section).copied().unwrap_or(0);
         let taken = take_external(class, order, counts, next, k as u32);
         let given = taken.value;
         let value = entry_value(object, given, start, symbol);

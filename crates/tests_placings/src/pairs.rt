@@ -1,7 +1,8 @@
 // p: the first of checks 4, 2, 3 and 5 to 8 that an object and an order break. If they break none, the addresses and the
 // values of the symbols.
 ghost use Rattle.std.specs.Prelude.{◌≡◌, true, ◌≤◌};
-ghost use Rattle.elf_read.specs.Headers.{class_of};
+ghost use Rattle.elf_read.specs.Headers.{class_of, max_sections};
+ghost use Rattle.elf_check.specs.Rules.{max_symbols};
 ghost use Rattle.elf_header.specs.Headers.{header_allowed};
 ghost use Rattle.elf_check.specs.Requires.{SoundObject};
 ghost use Rattle.order_format.specs.Orders.{reading};
@@ -10,7 +11,6 @@ ghost use Rattle.placing_symbols.specs.Arrays.{ValueArrays};
 
 use elf_check::MAX_SYMBOLS;
 use elf_read::{MAX_SECTIONS, class_of};
-use numbers_definitions::Address;
 use order_format::OrderHeader;
 use order_lookup::Addresses;
 use placing_symbols::{Reason, SymbolValue, reason_number};
@@ -130,50 +130,38 @@ fn passed(
     values(out, &numbers, &states, symbols.count)
 }
 
-// The address of each of n sections, 0 where there is none. There are at most MAX_SECTIONS, so the `return` is never taken.
-fn addresses(out: &mut impl Write, array: Addresses, n: usize) -> io::Result<()> {
-    if MAX_SECTIONS < n {
-        return Ok(());
-    }
-    for i in 0..n {
-        then(out, Address(array[i]))?;
+// The address of each of n sections, 0 where there is none.
+fn addresses(out: &mut impl Write, array: Addresses, n: usize) -> io::Result<()>
+    requires { n ≤ max_sections }
+{
+    for address in &array[..n] {
+        tests_harness::then(out, *address)?;
     }
     Ok(())
 }
 
-// The value of each of n symbols, and of three numbers past the table. There are at most MAX_SYMBOLS symbols, so the
-// `return` is never taken.
+// The value of each of n symbols, and of three numbers past the table.
 fn values(
     out: &mut impl Write,
     numbers: &[u64],
     states: &[Result<(), Reason>],
     n: usize,
 ) -> io::Result<()>
-    requires { ValueArrays numbers.now states.now }
+    requires { ValueArrays numbers.now states.now × (n ≤ max_symbols) }
 {
-    if MAX_SYMBOLS < n {
-        return Ok(());
-    }
-    let end = n as u32 + 3;
-    for k in 0..end {
+    for k in 0..n as u32 + 3 {
         print(out, placing_symbols::value_at(numbers, states, k))?;
     }
     Ok(())
 }
 
+// The value, or a minus and the number of the reason.
 fn print(out: &mut impl Write, value: SymbolValue) -> io::Result<()> {
     match value {
-        Ok(s) => then(out, s),
-        Err(reason) => unresolved(out, reason),
+        Ok(s) => tests_harness::then(out, s.0),
+        Err(reason) => {
+            let number = reason_number(reason);
+            write!(out, " -{number}")
+        }
     }
-}
-
-// A minus, and the number of the reason.
-fn unresolved(out: &mut impl Write, reason: Reason) -> io::Result<()> {
-    let number = reason_number(reason);
-    write!(out, " -{number}")
-}
-
-fn then(out: &mut impl Write, address: Address) -> io::Result<()> {
-    tests_harness::then(out, address.0)
 }

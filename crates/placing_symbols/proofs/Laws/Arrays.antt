@@ -16,7 +16,7 @@ use Rattle.numbers_definitions.proofs.Laws.Lists.{zeros_length, zeros_at}
 use Rattle.elf_read.specs.Entries.{symbol_count}
 use Rattle.placing_symbols.specs.declared.Reason.{Reason}
 use Rattle.placing_symbols.specs.declared.Reason.TheVariants.{PastTable}
-use Rattle.placing_symbols.specs.Reasons.{State, SymbolValue}
+use Rattle.placing_symbols.specs.Reasons.{State}
 use Rattle.placing_symbols.specs.Values.{symbol_value}
 use Rattle.placing_symbols.specs.Arrays.{no_values, no_states, decoded, state_at, listed, Long, Blank, Valued}
 use Rattle.placing_symbols.proofs.Laws.Values.{value_past}

@@ -6,6 +6,7 @@ use Rattle.numbers_definitions.specs.Classes.{bits}
 use Rattle.numbers_definitions.specs.Places.{address}
 use Rattle.numbers_definitions.specs.Whole.{plus}
 use Rattle.elf_read.specs.Headers.{address_width}
+use Rattle.elf_read.specs.Sections.{is_allocated}
 use Rattle.elf_read.proofs.Laws.Headers.{header_there}
 use Rattle.placing_symbols.specs.declared.Reason.TheVariants.{WrongType}
 use Rattle.placing_symbols.specs.Reasons.{because}
@@ -23,7 +24,7 @@ returns-then-section-eq-SHN_UNDEF c =
 pub returns-then-not-is_allocated_section : goal.returns-then-not-is_allocated_section
 returns-then-not-is_allocated_section c =
     let a = c.args in
-    sym (entry_unplaced a.object.now a.given a.start a.symbol (omega arith) (omega arith) (sym c.is_allocated_section.ensures ∙ c.if-not-is_allocated_section.true))
+    sym (entry_unplaced a.object.now a.given a.start a.symbol (omega arith) (omega arith) (ap (is_allocated a.object.now) (sym c.from.ensures) ∙ sym c.is_allocated_section.ensures ∙ c.if-not-is_allocated_section.true))
 
 pub returns-then-section-lt-SHN_LORESERVE : goal.returns-then-section-lt-SHN_LORESERVE
 returns-then-section-lt-SHN_LORESERVE c =
@@ -32,7 +33,7 @@ returns-then-section-lt-SHN_LORESERVE c =
     c.sum-sum.ensures ∙ ap (λ k. plus (bits k) a.start a.symbol.value.0) c.class_of.ensures in
     c.value_by_type.ensures
     ∙ ap (λ n. because WrongType (is_wrong_type a.symbol) (Ok (address n))) is
-    ∙ sym (entry_placed a.object.now a.given a.start a.symbol (omega arith) (omega arith) (sym c.is_allocated_section.ensures ∙ c.if-not-is_allocated_section.false))
+    ∙ sym (entry_placed a.object.now a.given a.start a.symbol (omega arith) (omega arith) (ap (is_allocated a.object.now) (sym c.from.ensures) ∙ sym c.is_allocated_section.ensures ∙ c.if-not-is_allocated_section.false))
 
 pub returns-then-section : goal.returns-then-section
 returns-then-section c =

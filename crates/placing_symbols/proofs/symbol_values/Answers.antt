@@ -1,22 +1,21 @@
 -- `placing_symbols::symbol_values` meets its contract.
 use Rattle.std.specs.Prelude.{Some}
+use Rattle.std.specs.Option.{unwrap_or}
 use mathlib.Core.Path.{◌≡◌, refl, sym, ap, ◌∙◌}
 use Prim.Native.Nat.{◌≤◌, ◌<◌}
 use native.Mathlib.Omega.{arith}
-use lib.ListN.{length, get_or, length-set, get_or-eq_default}
+use lib.ListN.{length, get_or}
 use Rattle.elf_read.specs.Sections.{section_at, symbol_table}
 use Rattle.elf_read.specs.Entries.{symbol_at, symbol_count}
 use Rattle.elf_check.specs.Rules.{max_symbols}
 use Rattle.elf_check.proofs.Laws.Bounds.{symbol_inside, symbols_few}
-use Rattle.elf_read.proofs.Laws.Headers.{header_there}
 use Rattle.order_format.specs.Orders.{reading}
 use Rattle.order_lookup.specs.Values.{external_value}
 use Rattle.placing_symbols.specs.Values.{of_entry, symbol_value}
 use Rattle.placing_symbols.proofs.Laws.Values.{value_read}
 use Rattle.placing_symbols.proofs.Laws.Arrays.{below_one, below_resolved, below_unresolved, below_all}
-use borrow.Author.Rules.{rules}
 use Rattle.placing_symbols.proofs.symbol_values.Goals as goal
-use Rattle.placing_symbols.proofs.symbol_values.Goals.{then-section-lt-MAX_SECTIONS, else-section-lt-MAX_SECTIONS, in-Ok, in-Err, After-class_of-class, In-loop-k, Joined-section-lt-MAX_SECTIONS}
+use Rattle.placing_symbols.proofs.symbol_values.Goals.{in-Ok, in-Err, After-class_of-class, In-loop-k, After-unwrap_or-start}
 
 -- the order was read by the class that the code has
 reads : (c : After-class_of-class) → reading c.class_of-class.result c.args.order.now ≡ Some c.args.counts
@@ -39,12 +38,12 @@ read_symbol-symbol-requires c =
     rw (c.requires.2.table (omega arith)) (symbol_inside c.args.object.now c.requires.0 c.loop-k.k (in_table (goal.at.read_symbol-symbol-requires c).In-loop-k).0)
 
 -- the address that is given to `entry_value`
-start_is : (c : Joined-section-lt-MAX_SECTIONS) → c.if-section-lt-MAX_SECTIONS.start ≡ get_or c.args.addresses c.read_symbol-symbol.result.section 0
+start_is : (c : After-unwrap_or-start) → c.unwrap_or-start.result ≡ get_or c.args.addresses c.read_symbol-symbol.result.section 0
 start_is c =
-    elim c.if-section-lt-MAX_SECTIONS.branch [
-      | then-section-lt-MAX_SECTIONS w ↦ w.start-is
-      | else-section-lt-MAX_SECTIONS w ↦ w.start-is ∙ sym (get_or-eq_default c.args.addresses 0 (omega arith))
-    ]
+    c.unwrap_or-start.ensures
+    ∙ ap (λ v. unwrap_or v 0) c.copied.ensures
+    ∙ c.get.ensures.lookup.4 (omega arith) 0
+    ∙ ap (λ k. get_or c.args.addresses k 0) c.from-section.ensures
 
 pub loop-k-preserved : goal.loop-k-preserved
 loop-k-preserved c =
@@ -54,8 +53,8 @@ loop-k-preserved c =
     c.read_symbol-symbol.ensures ∙ ap (λ h. symbol_at s h k) (c.requires.2.table (omega arith)) in
     let is : c.entry_value-value.result ≡ symbol_value s c.args.order.now c.args.addresses k =
     c.entry_value-value.ensures
-    ∙ ap (λ g. of_entry s g c.if-section-lt-MAX_SECTIONS.start c.read_symbol-symbol.result) (c.take_external-taken.ensures.0 ∙ ap (λ n. external_value n c.args.order.now k) c.class_of-class.ensures)
-    ∙ value_read s c.args.order.now c.args.addresses k (omega arith) (in_table (goal.at.loop-k-preserved c).In-loop-k).0 _ symbol _ (start_is (goal.at.loop-k-preserved c).Joined-section-lt-MAX_SECTIONS) in
+    ∙ ap (λ g. of_entry s g c.unwrap_or-start.result c.read_symbol-symbol.result) (c.take_external-taken.ensures.0 ∙ ap (λ n. external_value n c.args.order.now k) c.class_of-class.ensures)
+    ∙ value_read s c.args.order.now c.args.addresses k (omega arith) (in_table (goal.at.loop-k-preserved c).In-loop-k).0 _ symbol _ (start_is (goal.at.loop-k-preserved c).After-unwrap_or-start) in
     let room = (in_table (goal.at.loop-k-preserved c).In-loop-k).2 in (
       elim c.match-value.branch [
         | in-Ok w ↦ rw (w.values-is, w.states-is) (below_resolved _ _ _ _ _ _ c.loop-k.invariant.0 room _ (sym w.in-Ok.is ∙ is))
