@@ -371,13 +371,16 @@ pub fn read_symbol(object: &[u8], table: Section, k: usize) -> Symbol
     symbol_entry(class, object, entry_place(table, symbol_size(class), k))
 }
 
-// The relocation at a place. The type is the low 8 bits of the info word in class 1, and the low 32 bits in class 2.
-fn relocation_entry(class: Class, object: &[u8], at: usize) -> Relocation
-    requires { at + relocation_size class ≤ length object.now }
-    ensures { result ≡ read_relocation class object.now at }
+// Entry k of a RELA section. The type is the low 8 bits of the info word in class 1, and the low 32 bits in class 2. Each class has its
+// own call of `entry_place`, so that k is multiplied by a constant.
+pub fn read_relocation(object: &[u8], h: Section, k: usize) -> Relocation
+    requires { EntryInside object.now h (relocation_entries (class_of object.now) h) k }
+    ensures { result ≡ relocation_at object.now h k }
 {
+    let class = class_of(object);
     match class {
         Class::Elf32 => {
+            let at = entry_place(h, 12, k);
             let info: u32 = read(object, at + 4);
             Relocation {
                 offset: SectionOffset(u64::from(read::<u32>(object, at))),
@@ -387,6 +390,7 @@ fn relocation_entry(class: Class, object: &[u8], at: usize) -> Relocation
             }
         }
         Class::Elf64 => {
+            let at = entry_place(h, 24, k);
             let info: u64 = read(object, at + 8);
             Relocation {
                 offset: SectionOffset(read(object, at)),
@@ -398,25 +402,15 @@ fn relocation_entry(class: Class, object: &[u8], at: usize) -> Relocation
     }
 }
 
-// Entry k of a RELA section.
-pub fn read_relocation(object: &[u8], h: Section, k: usize) -> Relocation
-    requires { EntryInside object.now h (relocation_entries (class_of object.now) h) k }
-    ensures { result ≡ relocation_at object.now h k }
-{
-    let class = class_of(object);
-    relocation_entry(class, object, entry_place(h, relocation_size(class), k))
-}
-
-// The type of entry k of a RELA section.
+// The type of entry k of a RELA section, without its other fields.
 pub fn read_kind(object: &[u8], h: Section, k: usize) -> u32
     requires { EntryInside object.now h (relocation_entries (class_of object.now) h) k }
     ensures { result ≡ (relocation_at object.now h k).kind }
 {
     let class = class_of(object);
-    let at = entry_place(h, relocation_size(class), k);
     match class {
-        Class::Elf32 => u32::from(read::<u8>(object, at + 4)),
-        Class::Elf64 => read(object, at + 8),
+        Class::Elf32 => u32::from(read::<u8>(object, entry_place(h, 12, k) + 4)),
+        Class::Elf64 => read(object, entry_place(h, 24, k) + 8),
     }
 }
 
@@ -433,8 +427,10 @@ pub fn offset_in(class: Class, object: &[u8], h: Section, k: usize) -> SectionOf
     requires { EntryInside object.now h (relocation_entries (class_of object.now) h) k × (class ≡ class_of object.now) }
     ensures { result ≡ (relocation_at object.now h k).offset }
 {
-    let at = entry_place(h, relocation_size(class), k);
-    SectionOffset(read_address(class, object, at))
+    match class {
+        Class::Elf32 => SectionOffset(u64::from(read::<u32>(object, entry_place(h, 12, k)))),
+        Class::Elf64 => SectionOffset(read(object, entry_place(h, 24, k))),
+    }
 }
 
 // Where relocation number k is. Relocations are numbered through all counting RELA sections.

@@ -8,9 +8,9 @@ use Rattle.elf_read.proofs.read_kind.Goals as goal
 pub returns-in-Elf32 : goal.returns-in-Elf32
 unfolding relocation_at read_relocation
 returns-in-Elf32 c =
-    rw (← c.class_of-class.ensures, ← c.relocation_size.ensures.0, ← c.entry_place-at.ensures.0, c.in-Elf32.is) (c.from.ensures ∙ low_bytes 1 3 _ _ _ (omega arith) c.read.ensures)
+    rw (← c.class_of-class.ensures, c.in-Elf32.is, ← c.entry_place.ensures.0) (c.from.ensures ∙ low_bytes 1 3 _ _ _ (omega arith) c.read.ensures)
 
 pub returns-in-Elf64 : goal.returns-in-Elf64
 unfolding relocation_at read_relocation
 returns-in-Elf64 c =
-    rw (← c.class_of-class.ensures, ← c.relocation_size.ensures.0, ← c.entry_place-at.ensures.0, c.in-Elf64.is) (low_bytes 4 4 _ _ _ (omega arith) c.read-in-Elf64.ensures)
+    rw (← c.class_of-class.ensures, c.in-Elf64.is, ← c.entry_place-in-Elf64.ensures.0) (low_bytes 4 4 _ _ _ (omega arith) c.read-in-Elf64.ensures)
