@@ -35,8 +35,8 @@ fn gather(object: &[u8], site: Site, highs: &mut [u32]) -> Gathered
     Gathered { count: m, falls }
 }
 
-// The offset of relocation k, or 0 if there is none: a sort or a search may ask for the key of any number.
-pub fn key_of(object: &[u8], site: Site, k: u32) -> u64
+// The offset of relocation k, or 0 if there is none: a sort may ask for the key of any number.
+fn key_of(object: &[u8], site: Site, k: u32) -> u64
     requires { SoundSite object.now site }
     ensures { result ≡ key_of object.now site k }
 {

@@ -6,21 +6,29 @@ use mathlib.Core.List.{List}
 use Prim.Native.Nat.{ℕ, ◌+◌, ◌≤◌, ◌<◌}
 use native.Mathlib.Omega.{arith}
 use native.Mathlib.Decide.{dec_lt}
-use lib.Dec.{ltb, eqb}
-use lib.ListN.{length, get_or, take}
-use borrow.Author.Tests.{lt-ltb, ltb-true, ltb-false, eq-eqb, eqb-true}
-use Rattle.std.specs.List.Sorted.{IsNonDecreasingBy, IsPartitionedBy, IsPartitionPoint}
-use Rattle.std.proofs.lemmas.List.{get_or-take, get_or_default, length-take-le}
-use Rattle.std.proofs.lemmas.List.Sorted.{IsPartitionedBy-ltb}
+use lib.Dec.{eqb}
+use lib.ListN.{get_or}
+use borrow.Author.Tests.{eq-eqb, eqb-true}
 use Rattle.numbers_definitions.specs.declared.SectionOffset.{SectionOffset}
 use Rattle.numbers_definitions.proofs.Laws.Tests.{and_left, and_right, both, never}
 use Rattle.relocations_rela.specs.declared.sites.Site.{Site}
 use Rattle.relocations_rela.specs.Sites.{count, offset}
+use Rattle.relocations_rela.specs.Requires.{SoundSite}
 use Rattle.relocations_values.specs.Pairs.{is_pair, pair_of}
 use Rattle.relocations_values.specs.Highs.{is_high, Listed}
-use Rattle.relocations_values.specs.Sorting.{keys, NotBelow}
-use Rattle.relocations_values.specs.Gathered.{key_of}
+use Rattle.relocations_values.specs.Sorting.{keys, Stands, Ordered, NotBelow}
 use Rattle.relocations_values.proofs.Laws.Pairs.{pair_alone, pair_missing, pair_twice}
+
+-- ---- halving, over any keys
+
+module _ (f : ℕ → ℕ) (m value : ℕ) (ordered : Ordered f m) where
+  pub halves_below : (middle : ℕ) → middle < m → f middle < value → (i : ℕ) → i < middle + 1 → f i < value
+  halves_below middle h l i b = omega (arith, ordered i middle (omega arith) h)
+
+  pub halves_from : (middle : ℕ) → value ≤ f middle → (i : ℕ) → middle ≤ i → i < m → value ≤ f i
+  halves_from middle l i a b = omega (arith, ordered middle i a b)
+
+-- ---- the search
 
 -- what was met of the high halves at an offset before place i, from place r on
 module _ (object : List ℕ) (x : Site) (l : List ℕ) (m : ℕ) (value : SectionOffset) (r : ℕ) where
@@ -29,31 +37,8 @@ module _ (object : List ℕ) (x : Site) (l : List ℕ) (m : ℕ) (value : Sectio
   Met (Some k) i = (i ≡ r + 1) × (r < m) × (keys object x l r ≡ value.0) × (k ≡ get_or l r 0)
 
 module _ (object : List ℕ) (x : Site) (l : List ℕ) (m : ℕ) (list : Listed object x l m) where
-  -- ---- a place that std's search of the list gives
-
-  part_length : length (take m l) ≡ m
-  part_length = length-take-le m l list.fits
-
-  key_at : (i d : ℕ) → i < m → key_of object x (get_or (take m l) i d) ≡ keys object x l i
-  key_at i d h =
-      let there : i < length l = omega (arith, list.fits) in
-      ap (key_of object x) (get_or-take m l i d h ∙ get_or_default l i d 0 there) ∙ rw (lt-ltb _ _ (list.each i h).0)
-
-  rises : IsNonDecreasingBy (key_of object x) (take m l)
-  rises i j d a b =
-      omega (arith, key_at i d (omega (arith, part_length)), key_at j d (omega (arith, part_length)), list.ordered i j a (omega (arith, part_length)))
-
-  pub parts : (value : ℕ) → IsPartitionedBy (λ k. ltb (key_of object x k) value) (take m l)
-  parts value = IsPartitionedBy-ltb (key_of object x) (take m l) value rises
-
-  pub parted_at : (value r : ℕ) → r ≤ length (take m l) → IsPartitionPoint (λ k. ltb (key_of object x k) value ≡ true) (λ k. ltb (key_of object x k) value ≡ false) (take m l) r
-      → NotBelow (keys object x l) m value r
-  parted_at value r b p =
-      record {
-        fits = omega (arith, part_length);
-        below = λ i h. omega (arith, key_at i 0 (omega (arith, part_length)), ltb-true _ _ (p.0 i 0 (omega arith) h));
-        from = λ i h k. omega (arith, key_at i 0 k, ltb-false _ _ (p.1 i 0 h (omega (arith, part_length))));
-      }
+  pub listed_stands : SoundSite object x → (i : ℕ) → i < m → Stands object x l i
+  listed_stands s i h = record { site = s; place = omega (arith, list.fits); number = (list.each i h).0 }
 
   module _ (value : SectionOffset) where
     -- a high half at the offset is a pair

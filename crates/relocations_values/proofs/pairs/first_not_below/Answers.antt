@@ -1,14 +1,31 @@
 -- `relocations_values::pairs::first_not_below` meets its contract.
-use lib.Dec.{ltb}
-use borrow.Author.Rules.{rules}
-use Rattle.std.proofs.lemmas.List.Sorted.{IsPartitionPoint-from_clause}
-use Rattle.relocations_values.specs.Gathered.{key_of}
-use Rattle.relocations_values.proofs.Laws.Lookup.{parts, parted_at}
+use Prim.Native.Nat.{ℕ, ◌+◌, ◌-◌, ◌/◌, ◌≤◌, ◌<◌}
+use native.Mathlib.Omega.{arith}
+use Rattle.relocations_values.specs.Sorting.{keys}
+use Rattle.relocations_values.proofs.Laws.Lookup.{listed_stands, halves_below, halves_from}
 use Rattle.relocations_values.proofs.pairs.first_not_below.Goals as goal
+
+pub loop-more-init : goal.loop-more-init
+loop-more-init c = (omega arith, omega arith, (λ i h. absurd (omega arith)), (λ i h l. absurd (omega arith)))
+
+pub offset_at-here-requires : goal.offset_at-here-requires
+offset_at-here-requires c =
+    listed_stands _ _ _ _ c.requires.1 c.requires.0 _ (omega arith)
+
+pub loop-more-preserved-then-here-offset : goal.loop-more-preserved-then-here-offset
+loop-more-preserved-then-here-offset c =
+    let at : ℕ = c.loop-more.low + c.loop-more.more / 2 - 1 in
+    let below : (i : ℕ) → i < at + 1 → keys c.args.object.now c.args.site c.args.highs.now i < c.args.offset.0 =
+    halves_below _ _ _ c.requires.1.ordered _ (omega arith) (omega arith) in
+    (omega arith, omega arith, (λ i h. below i (omega arith)), λ i h k. c.loop-more.invariant.3 i (omega arith) k)
+
+pub loop-more-preserved : goal.loop-more-preserved
+loop-more-preserved c =
+    let at : ℕ = c.loop-more.low + c.loop-more.more / 2 - 1 in
+    let from : (i : ℕ) → at ≤ i → i < c.args.m → c.args.offset.0 ≤ keys c.args.object.now c.args.site c.args.highs.now i =
+    halves_from _ _ _ c.requires.1.ordered _ (omega arith) in
+    (omega arith, omega arith, c.loop-more.invariant.2, λ i h k. from i (omega arith) k)
 
 pub returns : goal.returns
 returns c =
-    let a = c.args in
-    parted_at a.object.now a.site a.highs.now a.m c.requires.1 a.offset.0 _ c.partition_point.ensures.bound
-    (IsPartitionPoint-from_clause (λ k. ltb (key_of a.object.now a.site k) a.offset.0) _ _ c.partition_point.ensures.partitioned
-    (parts a.object.now a.site a.highs.now a.m c.requires.1 a.offset.0) (λ a r g h. search rules))
+    record { fits = omega arith; below = c.loop-more.invariant.2; from = λ i h. c.loop-more.invariant.3 i (omega arith) }
