@@ -1,6 +1,6 @@
 -- What functions require of their callers.
 use Rattle.placing_symbols.specs.Reasons.{State, SymbolValue}
-use Rattle.std.specs.Prelude.{◌≡◌, true, List, ℕ, ◌-◌, ◌^◌, ◌≤◌, ◌<◌, length}
+use Rattle.std.specs.Prelude.{◌≡◌, true, List, ℕ, ◌^◌, ◌≤◌, ◌<◌, length, Option, Some}
 use Rattle.elf_read.specs.declared.Relocation.{Relocation}
 use Rattle.elf_read.specs.Entries.{symbol_count}
 use Rattle.elf_check.specs.Requires.{SoundObject}
@@ -30,11 +30,11 @@ pub record Storing (object : List ℕ) (x : Site) (j : ℕ) (rule : Rule) (here 
 abbrev pub Tabled : (ℕ → SymbolValue) → List ℕ → Type 0
 Tabled v object = (k : ℕ) → is_resolved (v k) ≡ true → 0 < k → k < symbol_count object
 
--- the list of high halves: room for all of them, and if it was made they are listed; `made` is then one more than their number
-pub record Listing (object : List ℕ) (x : Site) (l : List ℕ) (made : ℕ) : Type 0 where
+-- the list of high halves: room for all of them, and if they are listed, so many
+pub record Listing (object : List ℕ) (x : Site) (l : List ℕ) (known : Option ℕ) : Type 0 where
   pub room : count object x ≤ length l
   pub short : length l < 2 ^ 32
-  pub highs : 0 < made → Listed object x l (made - 1)
+  pub highs : (m : ℕ) → known ≡ Some m → Listed object x l m
 
 -- what does not change over a site: a sound object with its symbols, and the arrays of their values
 pub record Lookups (object : List ℕ) (symbols : Symbols) (values : List ℕ) (states : List State) : Type 0 where

@@ -10,8 +10,9 @@ ghost use Rattle.relocations_decisions.specs.Decisions.{is_store, takes_pair, to
 ghost use Rattle.relocations_rela.specs.Sites.{count, found};
 ghost use Rattle.relocations_rela.specs.Requires.{SoundSite, There};
 ghost use Rattle.relocations_rela.specs.Trails.{shares_by, shape_by};
+ghost use Rattle.relocations_values.specs.Highs.{Listed};
 ghost use Rattle.relocations_rules.specs.Rules.{is_resolved, is_one, boundary_well};
-ghost use Rattle.relocations_check_one.specs.Outcomes.{store_number, distance_by, distance_of_by, Partnered, Comes, Onward};
+ghost use Rattle.relocations_check_one.specs.Outcomes.{distance_by, distance_if, align_finding, marker_finding, Answers, Partnered, Leaves, Comes, Onward};
 ghost use Rattle.relocations_check_one.specs.Requires.{Storing, Listing, Lookups, Read};
 
 use elf_read::{Relocation, class_of};
@@ -23,39 +24,19 @@ use relocations_decisions::{stack_bits, takes_pair};
 use relocations_patch::{apply_rule, symbol_sum};
 use relocations_rela::shape::{Trail, advance, is_shape_well, shares_place};
 use relocations_rela::sites::Site;
+use relocations_rules::Finding;
 use relocations_types::{Decision, Rule};
 use relocations_values::highs::list_highs;
 use relocations_values::pairs::pair_at;
 use relocations_values::place_of;
 
-// What is found out about a relocation that keeps check 9: the number of the first of checks 10 to 14 that it breaks, or 0; the
-// bytes that it leaves, as one number; and what is known of the site's high halves.
-#[derive(Clone, Copy)]
-struct Outcome {
-    number: u64,
-    word: u64,
-    made: u64,
-}
-
-// What is found out about the high half that a relocation takes: 10 if its label is not in the target, 12 if not exactly one high
-// half is there, otherwise 0; T - P of the high half; and what is then known of the site's high halves.
-#[derive(Clone, Copy)]
-struct Partner {
-    number: u64,
-    distance: u64,
-    made: u64,
-}
-
-// What is found out about a relocation: the number of the first of checks 9 to 14 that it breaks, or 0; the bytes that it leaves, as
-// one number, and how many they are; what the previous non-marker of the next relocation left; what is known of the site's high
-// halves; and the trail of the next relocation. Only numbers of one size, so that no padding is copied.
+// What a relocation that breaks no rule leaves: the bytes, as one number, and how many they are; what the previous non-marker of the
+// next relocation left; and the trail of the next relocation. Only numbers of one size, so that no padding is copied.
 #[derive(Clone, Copy)]
 pub struct Step {
-    pub number: u64,
     pub word: u64,
     pub size: u64,
     pub last: u64,
-    pub made: u64,
     pub trail: Trail,
 }
 
@@ -66,25 +47,6 @@ fn is_on_boundary(start: Address, at: SectionOffset, addend: u64) -> bool
 {
     let p = add64(start.0, at.0);
     add64(p, addend) % numbers_arithmetic::ceil_power(addend as u32 + 2) == 0
-}
-
-// The number of the first of checks 10 to 13 that is broken, or 0.
-fn first_broken(symbol: bool, form: bool, pair: bool, reach: bool) -> u64
-    ensures { result ≡ store_number symbol form pair reach }
-{
-    if !symbol {
-        return 10;
-    }
-    if !form {
-        return 11;
-    }
-    if !pair {
-        return 12;
-    }
-    if !reach {
-        return 13;
-    }
-    0
 }
 
 // The bytes that a relocation finds: what the previous non-marker left, if they share their place, otherwise the object's.
@@ -122,45 +84,40 @@ fn distance_at(
     difference(class, x, p.0)
 }
 
-// Lists the high halves of a site, unless they are listed already. The result is one more than their number.
-fn listed_highs(object: &[u8], site: Site, highs: &mut [u32], made: u64) -> u64
-    requires { SoundSite object.now site × Listing object.now site highs.old made }
-    ensures { (0 < result) × Listing object.now site highs.new result × (length highs.new ≡ length highs.old) }
+// How many high halves a site has. They are listed, unless they are listed already.
+fn listed_highs(object: &[u8], site: Site, highs: &mut [u32], known: &mut Option<usize>) -> usize
+    requires { SoundSite object.now site × Listing object.now site highs.old known.old }
+    ensures { Listed object.now site highs.new result × Listing object.now site highs.new known.new × (length highs.new ≡ length highs.old) }
 {
-    if 0 < made {
-        return made;
+    match *known {
+        Some(m) => m,
+        None => {
+            let m = list_highs(object, site, highs);
+            *known = Some(m);
+            m
+        }
     }
-    list_highs(object, site, highs) as u64 + 1
 }
 
-// The high half that a pair names.
+// T - P of the high half that a pair names, if it names one.
 fn high_half(
     object: &[u8],
     site: Site,
     values: &[u64],
     states: &[Result<(), Reason>],
     pair: Option<usize>,
-    made: u64,
-) -> Partner
+) -> Option<u64>
     requires { SoundSite object.now site × ValueArrays values.now states.now × ((k : ℕ) → pair ≡ Some k → k < count object.now site) }
-    ensures { (not (eqb result.number 10) ≡ true) × (not (eqb result.number 12) ≡ is_one pair)
-        × (result.distance ≡ distance_of_by (listed values.now states.now) object.now site pair) × (result.made ≡ made) }
+    ensures { result ≡ distance_if (listed values.now states.now) object.now site pair }
 {
     match pair {
-        Some(k) => Partner {
-            number: 0,
-            distance: distance_at(object, site, values, states, k),
-            made,
-        },
-        None => Partner {
-            number: 12,
-            distance: 0,
-            made,
-        },
+        Some(k) => Some(distance_at(object, site, values, states, k)),
+        None => None,
     }
 }
 
-// The high half that a PCREL_LO12 takes, whose symbol resolves.
+// T - P of the high half that a PCREL_LO12 takes, whose symbol resolves; none if not exactly one high half is there. Refused is a
+// symbol that is not in the target.
 fn labelled(
     object: &[u8],
     symbols: Symbols,
@@ -168,38 +125,31 @@ fn labelled(
     values: &[u64],
     states: &[Result<(), Reason>],
     highs: &mut [u32],
+    known: &mut Option<usize>,
     rule: Rule,
     here: Relocation,
-    made: u64,
     j: usize,
-) -> Partner
-    requires { Lookups object.now symbols values.now states.now × Storing object.now site j rule here × Listing object.now site highs.old made
+) -> Result<Option<u64>, Finding>
+    requires { Lookups object.now symbols values.now states.now × Storing object.now site j rule here × Listing object.now site highs.old known.old
         × (is_resolved (listed values.now states.now here.symbol) ≡ true) × (takes_pair rule.calculation ≡ true) }
-    ensures { Partnered (listed values.now states.now) object.now site j rule.calculation result.number result.distance
-        × Listing object.now site highs.new result.made × (length highs.new ≡ length highs.old) }
+    ensures { Partnered (listed values.now states.now) object.now site j rule.calculation result
+        × Listing object.now site highs.new known.new × (length highs.new ≡ length highs.old) }
 {
+    let outside = Finding::BadSymbol(Reason::OutsideTarget);
     let k = here.symbol as usize;
     if k == 0 {
-        return Partner {
-            number: 10,
-            distance: 0,
-            made,
-        };
+        return Err(outside);
     }
     let symbol = elf_read::read_symbol(object, symbols.table, k);
     if symbol.section as u32 != site.index {
-        return Partner {
-            number: 10,
-            distance: 0,
-            made,
-        };
+        return Err(outside);
     }
-    let known = listed_highs(object, site, highs, made);
-    let pair = pair_at(object, site, highs, (known - 1) as usize, symbol.value);
-    high_half(object, site, values, states, pair, known)
+    let m = listed_highs(object, site, highs, known);
+    let pair = pair_at(object, site, highs, m, symbol.value);
+    Ok(high_half(object, site, values, states, pair))
 }
 
-// The high half that a relocation takes, whose symbol resolves.
+// T - P of the high half that a relocation takes, whose symbol resolves; none if it takes one and not exactly one is there.
 fn take_partner(
     object: &[u8],
     symbols: Symbols,
@@ -207,30 +157,26 @@ fn take_partner(
     values: &[u64],
     states: &[Result<(), Reason>],
     highs: &mut [u32],
+    known: &mut Option<usize>,
     rule: Rule,
     here: Relocation,
-    made: u64,
     j: usize,
-) -> Partner
-    requires { Lookups object.now symbols values.now states.now × Storing object.now site j rule here × Listing object.now site highs.old made
+) -> Result<Option<u64>, Finding>
+    requires { Lookups object.now symbols values.now states.now × Storing object.now site j rule here × Listing object.now site highs.old known.old
         × (is_resolved (listed values.now states.now here.symbol) ≡ true) }
-    ensures { Partnered (listed values.now states.now) object.now site j rule.calculation result.number result.distance
-        × Listing object.now site highs.new result.made × (length highs.new ≡ length highs.old) }
+    ensures { Partnered (listed values.now states.now) object.now site j rule.calculation result
+        × Listing object.now site highs.new known.new × (length highs.new ≡ length highs.old) }
 {
     let calculation = rule.calculation;
     if takes_pair(calculation) {
         return labelled(
-            object, symbols, site, values, states, highs, rule, here, made, j,
+            object, symbols, site, values, states, highs, known, rule, here, j,
         );
     }
-    Partner {
-        number: 0,
-        distance: 0,
-        made,
-    }
+    Ok(Some(0))
 }
 
-// A relocation that stores and keeps check 9, where S is s.
+// The bytes that a relocation leaves that stores and keeps check 9, where S is s.
 fn check_resolved(
     object: &[u8],
     symbols: Symbols,
@@ -238,24 +184,23 @@ fn check_resolved(
     values: &[u64],
     states: &[Result<(), Reason>],
     highs: &mut [u32],
+    known: &mut Option<usize>,
     rule: Rule,
     here: Relocation,
     s: Address,
     shares: bool,
     last: u64,
-    made: u64,
     j: usize,
-) -> Outcome
-    requires { Lookups object.now symbols values.now states.now × Storing object.now site j rule here × Listing object.now site highs.old made
+) -> Result<u64, Finding>
+    requires { Lookups object.now symbols values.now states.now × Storing object.now site j rule here × Listing object.now site highs.old known.old
         × (Ok s ≡ listed values.now states.now here.symbol) }
-    ensures { Comes (listed values.now states.now) object.now site j
-        (cond shares last (le_at rule.size (found object.now site) here.offset.0)) result.number result.word
-        × Listing object.now site highs.new result.made × (length highs.new ≡ length highs.old) }
+    ensures { Leaves (listed values.now states.now) object.now site j (cond shares last (le_at rule.size (found object.now site) here.offset.0)) result
+        × Listing object.now site highs.new known.new × (length highs.new ≡ length highs.old) }
 {
     let value = Ok(s);
     let high = take_partner(
-        object, symbols, site, values, states, highs, rule, here, made, j,
-    );
+        object, symbols, site, values, states, highs, known, rule, here, j,
+    )?;
     let found = found_bytes(object, site, rule, here, j);
     let class = class_of(object);
     let applied = apply_rule(
@@ -266,29 +211,21 @@ fn check_resolved(
         present(shares, last, found),
         symbol_sum(value, here.addend),
         place_of(site, here),
-        high.distance,
+        high.unwrap_or(0),
     );
-    Outcome {
-        number: first_broken(
-            high.number != 10,
-            applied.stands,
-            high.number != 12,
-            applied.reaches,
-        ),
-        word: applied.word,
-        made: high.made,
+    if !applied.stands {
+        return Err(Finding::BadForm);
     }
+    if high.is_none() {
+        return Err(Finding::NoPair);
+    }
+    if !applied.reaches {
+        return Err(Finding::OutOfReach);
+    }
+    Ok(applied.word)
 }
 
-// A relocation that breaks a rule after check 9, and leaves nothing.
-fn refused(number: u64, made: u64) -> Outcome
-    ensures { (result.number ≡ number) × (result.word ≡ 0) × (result.made ≡ made) }
-{
-    let word: u64 = 0;
-    Outcome { number, word, made }
-}
-
-// A relocation that stores and keeps check 9.
+// The bytes that a relocation leaves that stores and keeps check 9.
 fn check_store(
     object: &[u8],
     symbols: Symbols,
@@ -296,52 +233,35 @@ fn check_store(
     values: &[u64],
     states: &[Result<(), Reason>],
     highs: &mut [u32],
+    known: &mut Option<usize>,
     rule: Rule,
     here: Relocation,
     shares: bool,
     last: u64,
-    made: u64,
     j: usize,
-) -> Outcome
-    requires { Lookups object.now symbols values.now states.now × Storing object.now site j rule here × Listing object.now site highs.old made }
-    ensures { Comes (listed values.now states.now) object.now site j
-        (cond shares last (le_at rule.size (found object.now site) here.offset.0)) result.number result.word
-        × Listing object.now site highs.new result.made × (length highs.new ≡ length highs.old) }
+) -> Result<u64, Finding>
+    requires { Lookups object.now symbols values.now states.now × Storing object.now site j rule here × Listing object.now site highs.old known.old }
+    ensures { Leaves (listed values.now states.now) object.now site j (cond shares last (le_at rule.size (found object.now site) here.offset.0)) result
+        × Listing object.now site highs.new known.new × (length highs.new ≡ length highs.old) }
 {
     let value = value_at(values, states, here.symbol);
     match value {
         Ok(s) => check_resolved(
-            object, symbols, site, values, states, highs, rule, here, s, shares, last, made, j,
+            object, symbols, site, values, states, highs, known, rule, here, s, shares, last, j,
         ),
-        Err(_) => refused(10, made),
-    }
-}
-
-// A relocation that breaks a rule.
-fn broken(number: u64, trail: Trail, made: u64) -> Step
-    ensures { (result.number ≡ number) × (result.made ≡ made) }
-{
-    Step {
-        number,
-        word: 0,
-        size: 0,
-        last: 0,
-        made,
-        trail,
+        Err(reason) => Err(Finding::BadSymbol(reason)),
     }
 }
 
 // A marker that keeps its rules.
-fn passed(trail: Trail, decision: Decision, here: Relocation, last: u64, made: u64) -> Step
+fn passed(trail: Trail, decision: Decision, here: Relocation, last: u64) -> Step
     requires { is_store decision ≡ false }
-    ensures { (result.number ≡ 0) × (result.word ≡ 0) × (result.made ≡ made) × Onward trail decision here last result.word result.size result.last result.trail }
+    ensures { (result.word ≡ 0) × Onward trail decision here last result.word result.size result.last result.trail }
 {
     Step {
-        number: 0,
         word: 0,
         size: 0,
         last,
-        made,
         trail: advance(trail, decision, 0, here),
     }
 }
@@ -354,65 +274,60 @@ fn step_store(
     values: &[u64],
     states: &[Result<(), Reason>],
     highs: &mut [u32],
+    known: &mut Option<usize>,
     trail: Trail,
     rule: Rule,
     here: Relocation,
     last: u64,
-    made: u64,
     j: usize,
-) -> Step
-    requires { Lookups object.now symbols values.now states.now × Read object.now site j trail (Decision.Store rule) here × Listing object.now site highs.old made }
+) -> Result<Step, Finding>
+    requires { Lookups object.now symbols values.now states.now × Read object.now site j trail (Decision.Store rule) here × Listing object.now site highs.old known.old }
     ensures { Comes (listed values.now states.now) object.now site j
-        (cond (shares_by trail (Decision.Store rule) here.offset.0) last (le_at rule.size (found object.now site) here.offset.0)) result.number result.word
-        × (result.number ≡ 0 → Onward trail (Decision.Store rule) here last result.word result.size result.last result.trail)
-        × Listing object.now site highs.new result.made × (length highs.new ≡ length highs.old) }
+        (cond (shares_by trail (Decision.Store rule) here.offset.0) last (le_at rule.size (found object.now site) here.offset.0)) trail (Decision.Store rule) here last result
+        × Listing object.now site highs.new known.new × (length highs.new ≡ length highs.old) }
 {
     let decision = Decision::Store(rule);
     let width = stack_bits(rule) as u64;
     let shares = shares_place(trail, width, here.offset);
     if !is_shape_well(trail, decision, shares, here, site.target.size) {
-        return broken(9, trail, made);
+        return Err(Finding::BadShape);
     }
-    let outcome = check_store(
-        object, symbols, site, values, states, highs, rule, here, shares, last, made, j,
-    );
-    Step {
-        number: outcome.number,
-        word: outcome.word,
+    let word = check_store(
+        object, symbols, site, values, states, highs, known, rule, here, shares, last, j,
+    )?;
+    Ok(Step {
+        word,
         size: rule.size as u64,
-        last: outcome.word,
-        made: outcome.made,
+        last: word,
         trail: advance(trail, decision, width, here),
-    }
+    })
 }
 
 // An ALIGN.
-fn step_align(site: Site, trail: Trail, here: Relocation, last: u64, made: u64) -> Step
-    ensures { (result.number ≡ cond (shape_by trail Decision.Align here site.target.size) (cond (boundary_well Decision.Align (site.address.0 + here.offset.0) (signed 64 here.addend)) 0 14) 9)
-        × (result.number ≡ 0 → (result.word ≡ 0) × Onward trail Decision.Align here last result.word result.size result.last result.trail) × (result.made ≡ made) }
+fn step_align(site: Site, trail: Trail, here: Relocation, last: u64) -> Result<Step, Finding>
+    ensures { Answers (align_finding trail site here) (λ step. (step.word ≡ 0) × Onward trail Decision.Align here last step.word step.size step.last step.trail) result }
 {
     if !is_shape_well(trail, Decision::Align, false, here, site.target.size) {
-        return broken(9, trail, made);
+        return Err(Finding::BadShape);
     }
     if !is_on_boundary(site.address, here.offset, here.addend) {
-        return broken(14, trail, made);
+        return Err(Finding::OffBoundary);
     }
-    passed(trail, Decision::Align, here, last, made)
+    Ok(passed(trail, Decision::Align, here, last))
 }
 
 // Any other marker.
-fn step_marker(site: Site, trail: Trail, here: Relocation, last: u64, made: u64) -> Step
-    ensures { (result.number ≡ cond (shape_by trail Decision.Marker here site.target.size) 0 9)
-        × (result.number ≡ 0 → (result.word ≡ 0) × Onward trail Decision.Marker here last result.word result.size result.last result.trail) × (result.made ≡ made) }
+fn step_marker(site: Site, trail: Trail, here: Relocation, last: u64) -> Result<Step, Finding>
+    ensures { Answers (marker_finding trail site here) (λ step. (step.word ≡ 0) × Onward trail Decision.Marker here last step.word step.size step.last step.trail) result }
 {
     if !is_shape_well(trail, Decision::Marker, false, here, site.target.size) {
-        return broken(9, trail, made);
+        return Err(Finding::BadShape);
     }
-    passed(trail, Decision::Marker, here, last, made)
+    Ok(passed(trail, Decision::Marker, here, last))
 }
 
 // Checks 9 to 14 of relocation j, which was read and decided. `trail` is that before it, and `last` is what the previous
-// non-marker left.
+// non-marker left. `known` is how many high halves of the site `highs` begins with, once they are listed.
 pub fn check_one(
     object: &[u8],
     symbols: Symbols,
@@ -420,25 +335,24 @@ pub fn check_one(
     values: &[u64],
     states: &[Result<(), Reason>],
     highs: &mut [u32],
+    known: &mut Option<usize>,
     trail: Trail,
     decision: Decision,
     here: Relocation,
     last: u64,
-    made: u64,
     j: usize,
-) -> Step
-    requires { Lookups object.now symbols values.now states.now × Read object.now site j trail decision here × Listing object.now site highs.old made }
+) -> Result<Step, Finding>
+    requires { Lookups object.now symbols values.now states.now × Read object.now site j trail decision here × Listing object.now site highs.old known.old }
     ensures { Comes (listed values.now states.now) object.now site j
-        (cond (shares_by trail decision here.offset.0) last (le_at (touched decision) (found object.now site) here.offset.0)) result.number result.word
-        × (result.number ≡ 0 → Onward trail decision here last result.word result.size result.last result.trail)
-        × Listing object.now site highs.new result.made × (length highs.new ≡ length highs.old) }
+        (cond (shares_by trail decision here.offset.0) last (le_at (touched decision) (found object.now site) here.offset.0)) trail decision here last result
+        × Listing object.now site highs.new known.new × (length highs.new ≡ length highs.old) }
 {
     match decision {
         Decision::Store(rule) => step_store(
-            object, symbols, site, values, states, highs, trail, rule, here, last, made, j,
+            object, symbols, site, values, states, highs, known, trail, rule, here, last, j,
         ),
-        Decision::Align => step_align(site, trail, here, last, made),
-        Decision::Marker => step_marker(site, trail, here, last, made),
-        Decision::Refused => broken(9, trail, made),
+        Decision::Align => step_align(site, trail, here, last),
+        Decision::Marker => step_marker(site, trail, here, last),
+        Decision::Refused => Err(Finding::BadShape),
     }
 }

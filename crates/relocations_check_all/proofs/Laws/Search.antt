@@ -1,5 +1,6 @@
 -- Laws of the search over the sites.
 use Rattle.std.specs.Prelude.{⊤, Option, Some, None, Result, Ok, Err}
+use Rattle.std.proofs.lemmas.Result.{MatchResult-at_ok, MatchResult-at_err}
 use mathlib.Core.Path.{◌≡◌, refl, sym, ap, ◌∙◌, subst}
 use mathlib.Core.Bool.{Bool, true, false}
 use mathlib.Core.List.{List}
@@ -13,20 +14,13 @@ use Rattle.elf_read.specs.Headers.{section_count}
 use Rattle.elf_read.specs.Sections.{counting_rela, relocations_in, relocations_below}
 use Rattle.elf_read.specs.Entries.{relocation_count}
 use Rattle.elf_check.specs.Requires.{SoundObject}
-use Rattle.placing_symbols.specs.declared.Reason.{Reason}
-use Rattle.relocations_values.specs.Values.{value_at}
 use Rattle.relocations_rela.specs.declared.sites.Site.{Site}
 use Rattle.relocations_rela.specs.Sites.{site_at, count}
 use Rattle.relocations_rela.proofs.Laws.Sites.{count_is}
-use Rattle.relocations_rules.specs.declared.Finding.{Finding}
-use Rattle.relocations_rules.specs.declared.Finding.TheVariants.{BadShape, BadSymbol, BadForm, NoPair, OutOfReach, OffBoundary}
 use Rattle.relocations_rules.specs.declared.Broken.{Broken}
-use Rattle.relocations_rules.specs.Search.{number, finding, finding_of, is_broken, blamed, relocation_check}
-use Rattle.relocations_rules.specs.Rules.{why}
+use Rattle.relocations_rules.specs.Search.{finding, finding_of, is_broken, blamed, relocation_check}
 use Rattle.relocations_rules.proofs.Laws.Search.{counted, finding_entry, check_broken, check_passed}
-use Rattle.relocations_check_one.specs.Outcomes.{number_of}
-use Rattle.relocations_check_all.specs.Sites.{finding_of_number, Worded, WordedBelow, SiteChecked}
-use Rattle.relocations_check_all.proofs.Laws.Sites.{number_kept, number_finding, reason_found}
+use Rattle.relocations_check_all.specs.Sites.{Worded, WordedBelow, SiteChecked}
 
 abbrev is_passed : Result ⊤ Broken → Bool
 is_passed (Ok _) = true
@@ -61,9 +55,9 @@ module _ (object order addresses : List ℕ) where
           never (sym out ∙ ap (counting_rela object) same ∙ e)
 
   module _ (sound : SoundObject object) (i : ℕ) (h : i < section_count object) (counts : counting_rela object i ≡ true) (n : ℕ) (words sizes words₁ sizes₁ : List ℕ) (below : Below i n words sizes)
-      (m at : ℕ) (x : Site) (is : x ≡ site_at object addresses i) (given : SiteChecked object order addresses x n words sizes words₁ sizes₁ m at) where
-    site : SiteChecked object order addresses (site_at object addresses i) n words sizes words₁ sizes₁ m at
-    site = subst (λ x. SiteChecked object order addresses x n words sizes words₁ sizes₁ m at) is given
+      (x : Site) (is : x ≡ site_at object addresses i) (r : Result ⊤ Broken) (given : SiteChecked object order addresses x n words sizes words₁ sizes₁ r) where
+    site : SiteChecked object order addresses (site_at object addresses i) n words sizes words₁ sizes₁ r
+    site = subst (λ x. SiteChecked object order addresses x n words sizes words₁ sizes₁ r) is given
 
     many : count object (site_at object addresses i) ≡ relocations_in object i
     many = count_is object addresses sound i h counts
@@ -73,10 +67,7 @@ module _ (object order addresses : List ℕ) where
     place j l =
         ap (λ n. finding_of object order addresses (n + j)) below.number_is ∙ finding_entry object i j h (omega (arith, many)) order addresses
 
-    place_kept : (j : ℕ) → j < count object (site_at object addresses i) → number_of (finding object order addresses (site_at object addresses i) j) ≡ 0 → is_broken (finding_of object order addresses (n + j)) ≡ false
-    place_kept j l e = ap is_broken (place j l ∙ number_kept (finding object order addresses (site_at object addresses i) j) e)
-
-    kept_up_to : (u : ℕ) → u ≤ count object (site_at object addresses i) → ((j : ℕ) → j < u → number_of (finding object order addresses (site_at object addresses i) j) ≡ 0)
+    kept_up_to : (u : ℕ) → u ≤ count object (site_at object addresses i) → ((j : ℕ) → j < u → finding object order addresses (site_at object addresses i) j ≡ None)
         → (k : ℕ) → k < n + u → is_broken (finding_of object order addresses k) ≡ false
     kept_up_to u l all k b = go (dec_lt k n)
       where
@@ -84,7 +75,7 @@ module _ (object order addresses : List ℕ) where
         go (yes q) = below.kept k q
         go (no q) =
             let back : n + (k - n) ≡ k = omega arith in
-            subst (λ k. is_broken (finding_of object order addresses k) ≡ false) back (place_kept (k - n) (omega arith) (all (k - n) (omega arith)))
+            subst (λ k. is_broken (finding_of object order addresses k) ≡ false) back (ap is_broken (place (k - n) (omega arith) ∙ all (k - n) (omega arith)))
 
     -- what was stored before stays
     same_word : (s : ℕ) → s < i → counting_rela object s ≡ true → (j : ℕ) → j < count object (site_at object addresses s) → relocations_below object s + j < n
@@ -102,10 +93,10 @@ module _ (object order addresses : List ℕ) where
         }
 
     -- a site whose relocations break no rule
-    pub below_site : m ≡ 0 → Below (suc i) (n + count object x) words₁ sizes₁
+    pub below_site : r ≡ Ok tt → Below (suc i) (n + count object x) words₁ sizes₁
     unfolding sum
     below_site none =
-        let passed = site.passed none in
+        let passed = MatchResult-at_ok _ _ tt none site.found in
         record {
           number_is = omega (arith, below.number_is, many, ap (count object) is);
           kept = λ k h. kept_up_to (count object (site_at object addresses i)) (omega arith) passed.0 k (omega (arith, ap (count object) is));
@@ -121,19 +112,13 @@ module _ (object order addresses : List ℕ) where
             (subst (Worded object order addresses (site_at object addresses i) (count object (site_at object addresses i)) words₁ sizes₁) below.number_is w)
 
     -- a site with a relocation that breaks one
-    module _ (some : m ≡ 0 → ⊥) where
-      pub broken_there : n + at < relocation_count object
-      broken_there =
-          let b = site.broken some in
-          omega (arith, below.number_is, counted object i at h (omega (arith, many, b.there)))
-
-      pub below_broken : (reason : Reason) → reason ≡ why (value_at object order addresses x at) → relocation_check object order addresses ≡ Err (record { finding = finding_of_number m reason; relocation = n + at })
-      below_broken reason because =
-          let b = site.broken some in
-          let value : why (value_at object order addresses x at) ≡ why (value_at object order addresses (site_at object addresses i) at) = ap (λ x. why (value_at object order addresses x at)) is in
-          let same : finding_of object order addresses (n + at) ≡ Some (finding_of_number m reason) =
-          place at b.there ∙ number_finding (finding object order addresses (site_at object addresses i) at) m reason some b.number_is (reason_found object order addresses (site_at object addresses i) at reason (because ∙ value)) in
-          check_broken object order addresses (n + at) broken_there (kept_up_to at (omega (arith, b.there)) b.below) (ap is_broken same) ∙ ap (λ f. blamed f (n + at)) same
+    pub below_broken : (b : Broken) → r ≡ Err b → relocation_check object order addresses ≡ Err b
+    below_broken b broken =
+        let f = MatchResult-at_err _ _ b broken site.found in
+        let there : n + f.at < relocation_count object = omega (arith, below.number_is, counted object i f.at h (omega (arith, many, f.there))) in
+        let same : finding_of object order addresses (n + f.at) ≡ Some b.finding = place f.at f.there ∙ f.finding_is in
+        check_broken object order addresses (n + f.at) there (kept_up_to f.at (omega (arith, f.there)) f.below) (ap is_broken same)
+        ∙ ap (λ o. blamed o (n + f.at)) same ∙ ap (λ k. Err (record { finding = b.finding; relocation = k })) (sym f.relocation_is)
 
   -- all relocations of a site have room
   pub site_room : SoundObject object → (i : ℕ) → i < section_count object → counting_rela object i ≡ true → relocations_below object i + count object (site_at object addresses i) ≤ relocation_count object

@@ -1,6 +1,8 @@
 -- Laws of the search over the relocations of a site.
 use Rattle.placing_symbols.specs.Reasons.{State, SymbolValue}
 use Rattle.std.specs.Prelude.{None, Option, Some}
+use Rattle.std.specs.Option.{is_some}
+use Rattle.numbers_definitions.proofs.Laws.Tests.{never}
 use mathlib.Core.Path.{◌≡◌, refl, sym, ap, ◌∙◌, subst}
 use mathlib.Core.Bool.{Bool, true, false, cond}
 use mathlib.Core.List.{List}
@@ -37,61 +39,14 @@ use Rattle.relocations_bytes.specs.Sections.{after}
 use Rattle.relocations_bytes.specs.Words.{word_from, word_at, last_word}
 use Rattle.relocations_bytes.proofs.Laws.Words.{present}
 use Rattle.relocations_check_one.specs.Requires.{Listing}
-use Rattle.relocations_check_one.specs.Outcomes.{number_of, finding_by, word_by, Comes}
+use Rattle.relocations_check_one.specs.Outcomes.{finding_by, word_by}
 use Rattle.relocations_check_one.proofs.Laws.Outcomes.{finding_by_lem, word_by_lem}
-use Rattle.relocations_check_all.specs.Sites.{finding_of_number, Worded, KeptBelow, SameBelow}
-
--- ---- numbers of findings
-
-pub number_kept : (f : Option Finding) → number_of f ≡ 0 → f ≡ None
-number_kept None e = refl
-number_kept (Some BadShape) e = absurd (omega arith)
-number_kept (Some (BadSymbol why)) e = absurd (omega arith)
-number_kept (Some BadForm) e = absurd (omega arith)
-number_kept (Some NoPair) e = absurd (omega arith)
-number_kept (Some OutOfReach) e = absurd (omega arith)
-number_kept (Some OffBoundary) e = absurd (omega arith)
-
--- what is found, by its number and by the reason, which is asked for where the number is 10
-abbrev pub HasReason : Option Finding → Reason → Type 0
-HasReason None r = Unit {0}
-HasReason (Some BadShape) r = Unit {0}
-HasReason (Some (BadSymbol why)) r = why ≡ r
-HasReason (Some BadForm) r = Unit {0}
-HasReason (Some NoPair) r = Unit {0}
-HasReason (Some OutOfReach) r = Unit {0}
-HasReason (Some OffBoundary) r = Unit {0}
-
-pub number_finding : (f : Option Finding) (n : ℕ) (r : Reason) → (n ≡ 0 → ⊥) → n ≡ number_of f → HasReason f r → f ≡ Some (finding_of_number n r)
-number_finding None n r some e h = absurd (some e)
-number_finding (Some BadShape) n r some e h = rw e refl
-number_finding (Some (BadSymbol why)) n r some e h = rw (e, h)
-number_finding (Some BadForm) n r some e h = rw e
-number_finding (Some NoPair) n r some e h = rw e
-number_finding (Some OutOfReach) n r some e h = rw e
-number_finding (Some OffBoundary) n r some e h = rw e
-
-pub reason_found : (object order addresses : List ℕ) (x : Site) (j : ℕ) (r : Reason) → r ≡ why (value_at object order addresses x j) → HasReason (finding object order addresses x j) r
-unfolding finding first_broken
-reason_found object order addresses x j r e =
-    go (shape_well object x j) (symbol_well object x j v) (form_well object x j) (pair_well object x j) (distance_well (class_of object) (has_rvc object) (decision_at object x j) (target_at object order addresses x j) (P object x j)) (boundary_well (decision_at object x j) (P object x j) (A object x j))
-  where
-    v : SymbolValue
-    v = value_at object order addresses x j
-
-    go : (a b c p q k : Bool) → HasReason (cond a (cond b (cond c (cond p (cond q (cond k None (Some OffBoundary)) (Some OutOfReach)) (Some NoPair)) (Some BadForm)) (Some (BadSymbol (why v)))) (Some BadShape)) r
-    go false b c p q k = tt
-    go true false c p q k = sym e
-    go true true false p q k = tt
-    go true true true false q k = tt
-    go true true true true false k = tt
-    go true true true true true false = tt
-    go true true true true true true = tt
+use Rattle.relocations_check_all.specs.Sites.{Worded, KeptBelow, SameBelow}
 
 module _ (object order addresses : List ℕ) (x : Site) where
   -- a relocation that breaks no rule keeps check 9
-  pub kept_shape : (j : ℕ) → number_of (finding object order addresses x j) ≡ 0 → shape_well object x j ≡ true
-  kept_shape j e = (kept_rules object order addresses x j (number_kept (finding object order addresses x j) e)).shape
+  pub kept_shape : (j : ℕ) → finding object order addresses x j ≡ None → shape_well object x j ≡ true
+  kept_shape j e = (kept_rules object order addresses x j e).shape
 
   -- ---- the word of relocation j, where none up to it breaks a rule
 
@@ -127,20 +82,20 @@ module _ (object order addresses : List ℕ) (x : Site) where
     same : ◌≡◌ {A = ℕ → SymbolValue} v (symbol_value object order addresses)
     same = λ i k. listed_is valued k i
 
-    pub number_found : (j b n w : ℕ) → Comes v object x j b n w → n ≡ number_of (finding object order addresses x j)
-    number_found j b n w c = c.number_is ∙ ap (λ v. number_of (finding_by v object x j)) same ∙ ap number_of (finding_by_lem object order addresses x j)
+    pub finding_found : (j : ℕ) → finding_by v object x j ≡ finding object order addresses x j
+    finding_found j = ap (λ v. finding_by v object x j) same ∙ finding_by_lem object order addresses x j
 
-    pub word_comes : (j b n w : ℕ) → Comes v object x j b n w → n ≡ 0 → w ≡ word_from object order addresses x j b
-    word_comes j b n w c e = c.word_is e ∙ ap (λ v. word_by v object x j b) same ∙ word_by_lem object order addresses x j b
+    pub word_comes : (j b w : ℕ) → w ≡ word_by v object x j b → w ≡ word_from object order addresses x j b
+    word_comes j b w e = e ∙ ap (λ v. word_by v object x j b) same ∙ word_by_lem object order addresses x j b
 
 -- ---- the search in a site
 
 -- after the first j relocations, none of which breaks a rule. The lists were words₀, sizes₀ and highs₀ before.
-pub record Searching (object order addresses : List ℕ) (x : Site) (base : ℕ) (words₀ sizes₀ highs₀ words sizes highs : List ℕ) (trail : Trail) (last made j : ℕ) : Type 0 where
+pub record Searching (object order addresses : List ℕ) (x : Site) (base : ℕ) (words₀ sizes₀ highs₀ words sizes highs : List ℕ) (trail : Trail) (last : ℕ) (known : Option ℕ) (j : ℕ) : Type 0 where
   pub far : j ≤ count object x
   pub trail_is : trail ≡ trail_at object x j
   pub last_is : last ≡ last_word object order addresses x j
-  pub listing : Listing object x highs made
+  pub listing : Listing object x highs known
   pub highs_length : length highs ≡ length highs₀
   pub kept : KeptBelow object order addresses x j
   pub worded : Worded object order addresses x j words sizes base
@@ -183,14 +138,14 @@ below_next P j below here i b = go (dec_lt i j)
         subst P is here
 
 module _ (object order addresses : List ℕ) (x : Site) (base : ℕ) (words₀ sizes₀ highs₀ : List ℕ) where
-  pub searching_start : count object x ≤ length highs₀ → length highs₀ < 2 ^ 32 → Searching object order addresses x base words₀ sizes₀ highs₀ words₀ sizes₀ highs₀ no_trail 0 0 0
+  pub searching_start : count object x ≤ length highs₀ → length highs₀ < 2 ^ 32 → Searching object order addresses x base words₀ sizes₀ highs₀ words₀ sizes₀ highs₀ no_trail 0 None 0
   unfolding trail_at last_word
   searching_start room short =
       record {
         far = omega arith;
         trail_is = refl;
         last_is = refl;
-        listing = record { room = room; short = short; highs = λ h. absurd (omega arith) };
+        listing = record { room = room; short = short; highs = λ m e. never (ap is_some e) };
         highs_length = refl;
         kept = λ j h. absurd (omega arith);
         worded = record { word_there = λ j h. absurd (omega arith); size_at = λ j h. absurd (omega arith) };
@@ -202,21 +157,21 @@ module _ (object order addresses : List ℕ) (x : Site) (base : ℕ) (words₀ s
     abbrev present_by : Trail → Decision → Relocation → ℕ → ℕ
     present_by t d r last = cond (shares_by t d r.offset.0) last (le_at (touched d) (found object x) r.offset.0)
 
-    pub searching_next : (words sizes highs highs₁ : List ℕ) (trail t : Trail) (d : Decision) (r : Relocation) (last made made₁ j n w size l : ℕ)
-        → Searching object order addresses x base words₀ sizes₀ highs₀ words sizes highs trail last made j → j < count object x → base + count object x ≤ length words₀ → base + count object x ≤ length sizes₀
-        → r ≡ entry object x j → d ≡ decision_at object x j → Comes (listed values states) object x j (present_by trail d r last) n w → n ≡ 0
-        → Listing object x highs₁ made₁ → length highs₁ ≡ length highs → t ≡ advanced trail d r → size ≡ touched d → l ≡ cond (is_store d) w last
-        → Searching object order addresses x base words₀ sizes₀ highs₀ (set words (base + j) w) (set sizes (base + j) size) highs₁ t l made₁ (suc j)
+    pub searching_next : (words sizes highs highs₁ : List ℕ) (trail t : Trail) (d : Decision) (r : Relocation) (last : ℕ) (known known₁ : Option ℕ) (j w size l : ℕ)
+        → Searching object order addresses x base words₀ sizes₀ highs₀ words sizes highs trail last known j → j < count object x → base + count object x ≤ length words₀ → base + count object x ≤ length sizes₀
+        → r ≡ entry object x j → d ≡ decision_at object x j → finding_by (listed values states) object x j ≡ None → w ≡ word_by (listed values states) object x j (present_by trail d r last)
+        → Listing object x highs₁ known₁ → length highs₁ ≡ length highs → t ≡ advanced trail d r → size ≡ touched d → l ≡ cond (is_store d) w last
+        → Searching object order addresses x base words₀ sizes₀ highs₀ (set words (base + j) w) (set sizes (base + j) size) highs₁ t l known₁ (suc j)
     unfolding trail_at last_word
-    searching_next words sizes highs highs₁ trail t d r last made made₁ j n w size l s there wroom sroom re de comes zero listing same te se le =
-        let number_is : number_of (finding object order addresses x j) ≡ 0 = sym (number_found object order addresses x values states sound valued j _ n w comes) ∙ zero in
-        let kept : KeptBelow object order addresses x (suc j) = below_next (λ i. number_of (finding object order addresses x i) ≡ 0) j s.kept number_is in
+    searching_next words sizes highs highs₁ trail t d r last known known₁ j w size l s there wroom sroom re de keeps comes listing same te se le =
+        let keeps_it : finding object order addresses x j ≡ None = sym (finding_found object order addresses x values states sound valued j) ∙ keeps in
+        let kept : KeptBelow object order addresses x (suc j) = below_next (λ i. finding object order addresses x i ≡ None) j s.kept keeps_it in
         let b : present_by trail d r last
         ≡ cond (shares_by (trail_at object x j) (decision_at object x j) (offset object x j)) (last_word object order addresses x j) (le_at (touched (decision_at object x j)) (found object x) (offset object x j)) =
         ap (λ t. present_by t d r last) s.trail_is ∙ ap (λ d. present_by (trail_at object x j) d r last) de ∙ ap (λ r. present_by (trail_at object x j) (decision_at object x j) r last) re
         ∙ ap (present_by (trail_at object x j) (decision_at object x j) (entry object x j)) s.last_is in
         let word : w ≡ word_at object order addresses x j =
-        word_comes object order addresses x values states sound valued j _ n w comes zero ∙ ap (word_from object order addresses x j) b
+        word_comes object order addresses x values states sound valued j _ w comes ∙ ap (word_from object order addresses x j) b
         ∙ word_found object order addresses x j site (λ i h. kept_shape object order addresses x i (kept i h)) in
         record {
           far = there;

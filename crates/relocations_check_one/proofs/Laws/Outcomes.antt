@@ -1,6 +1,6 @@
 -- Checks 9 to 14 of a relocation, by what its type asks for.
 use Rattle.placing_symbols.specs.Reasons.{SymbolValue}
-use Rattle.std.specs.Prelude.{None, Option, Some}
+use Rattle.std.specs.Prelude.{Err, None, Ok, Option, Result, Some}
 use mathlib.Core.Path.{◌≡◌, refl, sym, ap, ◌∙◌, subst}
 use mathlib.Core.Bool.{Bool, true, false, not, cond, ◌&&◌}
 use mathlib.Core.List.{List}
@@ -40,14 +40,18 @@ use Rattle.relocations_rela.proofs.Laws.Trails.{shape_by_lem}
 use Rattle.relocations_values.specs.Values.{S, T}
 use Rattle.relocations_values.specs.Pairs.{pair_of}
 use Rattle.relocations_rules.specs.Rules.{is_resolved, in_target, symbol, symbol_well, why, form_well, is_one, pair_well, reaches_well, boundary_well}
-use Rattle.relocations_rules.specs.declared.Finding.TheVariants.{BadSymbol, BadForm, NoPair, OutOfReach, OffBoundary}
+use Rattle.placing_symbols.specs.declared.Reason.{Reason}
+use Rattle.placing_symbols.specs.declared.Reason.TheVariants.{OutsideTarget}
+use Rattle.relocations_rules.specs.declared.Finding.{Finding}
+use Rattle.relocations_rules.specs.declared.Finding.TheVariants.{BadShape, BadSymbol, BadForm, NoPair, OutOfReach, OffBoundary}
 use Rattle.relocations_rules.specs.Search.{first_broken, finding}
 use Rattle.relocations_bytes.specs.Sections.{sum_at, distance_at}
 use Rattle.relocations_bytes.specs.Patches.{patched}
 use Rattle.relocations_bytes.specs.Words.{word, word_from}
 use Rattle.relocations_bytes.proofs.Laws.Patches.{same_patch}
 use Rattle.relocations_bytes.proofs.Laws.Sections.{symbol_read, place_read}
-use Rattle.relocations_check_one.specs.Outcomes.{number_of, store_number, value_by, target_by, finding_by, sum_by, distance_by, distance_of_by, pair_distance_by, word_by, Partnered, Comes}
+use Rattle.relocations_check_one.specs.Outcomes.{Answers, Onward, align_finding, marker_finding, value_by, target_by, finding_by, sum_by, distance_by, distance_of_by, distance_if, pair_distance_by, word_by, Takes, Comes}
+use Rattle.relocations_check_one.specs.declared.Step.{Step}
 use Rattle.relocations_check_one.specs.Requires.{Storing, Read}
 
 -- ---- with the values of an object and an order
@@ -61,30 +65,27 @@ module _ (object order addresses : List ℕ) (x : Site) (j : ℕ) where
   unfolding word_by sum_at distance_at
   word_by_lem b = refl
 
+-- the first of 10 to 13 that is broken: of the symbol, for a reason, the form, the pair and the distance, by whether each is kept
+abbrev pub store_finding : Reason → Bool → Bool → Bool → Bool → Option Finding
+store_finding reason symbols forms pairs reaches =
+    cond symbols (cond forms (cond pairs (cond reaches None (Some OutOfReach)) (Some NoPair)) (Some BadForm)) (Some (BadSymbol reason))
+
 module _ (v : ℕ → SymbolValue) (object : List ℕ) (x : Site) (j : ℕ) where
   -- ---- 9 is broken
 
-  pub misshapen : shape_well object x j ≡ false → number_of (finding_by v object x j) ≡ 9
+  pub misshapen : shape_well object x j ≡ false → finding_by v object x j ≡ Some BadShape
   unfolding finding_by first_broken
   misshapen e = rw e
 
   -- ---- a store that keeps 9
 
   module _ (r : Rule) (e : decision_at object x j ≡ Store r) where
-    pub store_number_lem : shape_well object x j ≡ true
-        → number_of (finding_by v object x j)
-        ≡ store_number (symbol_well object x j (value_by v object x j)) (form_well object x j) (pair_well object x j) (reaches_well (class_of object) (has_rvc object) r.calculation r.field (target_by v object x j) (P object x j))
-    unfolding finding_by first_broken store_number
-    store_number_lem s =
-        rw (s, e)
-        (go (symbol_well object x j (value_by v object x j)) (form_well object x j) (pair_well object x j) (reaches_well (class_of object) (has_rvc object) r.calculation r.field (target_by v object x j) (P object x j)))
-      where
-        go : (a b c d : Bool) → number_of (cond a (cond b (cond c (cond d None (Some OutOfReach)) (Some NoPair)) (Some BadForm)) (Some (BadSymbol (why (value_by v object x j))))) ≡ store_number a b c d
-        go false b c d = refl
-        go true false c d = refl
-        go true true false d = refl
-        go true true true false = refl
-        go true true true true = refl
+    pub store_finding_lem : shape_well object x j ≡ true
+        → finding_by v object x j
+        ≡ store_finding (why (value_by v object x j)) (symbol_well object x j (value_by v object x j)) (form_well object x j) (pair_well object x j)
+        (reaches_well (class_of object) (has_rvc object) r.calculation r.field (target_by v object x j) (P object x j))
+    unfolding finding_by first_broken
+    store_finding_lem s = rw (s, e)
 
     -- of any type but PCREL_LO12
     module _ (plain : takes_pair r.calculation ≡ false) where
@@ -112,18 +113,13 @@ module _ (v : ℕ → SymbolValue) (object : List ℕ) (x : Site) (j : ℕ) wher
 
   -- ---- markers that keep 9
 
-  pub align_number : decision_at object x j ≡ Align → shape_well object x j ≡ true → number_of (finding_by v object x j) ≡ cond (boundary_well Align (P object x j) (A object x j)) 0 14
+  pub align_finding_lem : decision_at object x j ≡ Align → shape_well object x j ≡ true → finding_by v object x j ≡ cond (boundary_well Align (P object x j) (A object x j)) None (Some OffBoundary)
   unfolding finding_by first_broken symbol_well form_well pair_well
-  align_number e s = rw (s, e) (go (boundary_well Align (P object x j) (A object x j)))
-    where
-      go : (b : Bool)
-          → number_of (cond b None (Some OffBoundary)) ≡ cond b 0 14
-      go true = refl
-      go false = refl
+  align_finding_lem e s = rw (s, e)
 
-  pub marker_number : decision_at object x j ≡ Marker → shape_well object x j ≡ true → number_of (finding_by v object x j) ≡ 0
+  pub marker_finding_lem : decision_at object x j ≡ Marker → shape_well object x j ≡ true → finding_by v object x j ≡ None
   unfolding finding_by first_broken symbol_well form_well pair_well
-  marker_number e s = rw (s, e)
+  marker_finding_lem e s = rw (s, e)
 
   -- and the bytes of a marker
   pub no_word : (b : ℕ) → is_store (decision_at object x j) ≡ false → 0 ≡ word_by v object x j b
@@ -150,19 +146,6 @@ marker_bytes (Store r) e = never (sym e)
 marker_bytes Marker e = refl
 marker_bytes Align e = refl
 marker_bytes Refused e = refl
-
--- ---- the first of 10 to 13
-
--- where 10 is broken, nobody looks at 12
-any_pair : (symbols forms p q reaches : Bool) → (symbols ≡ true → p ≡ q) → store_number symbols forms p reaches ≡ store_number symbols forms q reaches
-unfolding store_number
-any_pair true forms p q reaches e = ap (λ p. store_number true forms p reaches) (e refl)
-any_pair false forms p q reaches e = refl
-
-pub first_symbol : (symbols forms pairs reaches : Bool) → store_number symbols forms pairs reaches ≡ 0 → symbols ≡ true
-unfolding store_number
-first_symbol true forms pairs reaches e = refl
-first_symbol false forms pairs reaches e = absurd (omega arith)
 
 -- ---- T is S + A modulo 2^w, also by S + A modulo 2^64, which is y
 
@@ -200,16 +183,16 @@ module _ (v : ℕ → SymbolValue) (object : List ℕ) (x : Site) (j : ℕ) (rul
       (te ∙ ap (λ y. T w (S y) (signed 64 here.addend)) value_read ∙ ap (λ r. T w (S (value_by v object x j)) (signed 64 r.addend)) f.read)
       ∙ ap (reaches_well (class_of object) (has_rvc object) rule.calculation rule.field (target_by v object x j)) at_place
 
-  pub number_read : (n t : ℕ) (symbols forms pairs reaches : Bool) → n ≡ store_number symbols forms pairs reaches → symbols ≡ symbol_well object x j (value_by v object x j)
-      → forms ≡ form_well object x j → (symbols ≡ true → pairs ≡ pair_well object x j) → reaches ≡ reaches_well (class_of object) (has_rvc object) rule.calculation rule.field t p → t ≡ T w (S value) (signed 64 here.addend)
-      → n ≡ number_of (finding_by v object x j)
-  number_read n t symbols forms pairs reaches e se fe pe re te =
-      e
-      ∙ any_pair symbols forms pairs (pair_well object x j) reaches pe
-      ∙ ap (λ b. store_number b forms (pair_well object x j) reaches) se
-      ∙ ap (λ b. store_number (symbol_well object x j (value_by v object x j)) b (pair_well object x j) reaches) fe
-      ∙ ap (λ b. store_number (symbol_well object x j (value_by v object x j)) (form_well object x j) (pair_well object x j) b) (re ∙ reach_is t te)
-      ∙ sym (store_number_lem v object x j rule f.decided f.shape)
+  -- the first of 11 to 13 that is broken, where 10 is kept
+  module _ (t : ℕ) (forms pairs reaches : Bool) (se : symbol_well object x j (value_by v object x j) ≡ true) (fe : forms ≡ form_well object x j) (pe : pairs ≡ pair_well object x j)
+      (re : reaches ≡ reaches_well (class_of object) (has_rvc object) rule.calculation rule.field t p) (te : t ≡ T w (S value) (signed 64 here.addend)) where
+    pub finding_read : finding_by v object x j ≡ store_finding OutsideTarget true forms pairs reaches
+    finding_read =
+        store_finding_lem v object x j rule f.decided f.shape
+        ∙ ap (λ b. store_finding (why (value_by v object x j)) b (form_well object x j) (pair_well object x j) (reaches_well (class_of object) (has_rvc object) rule.calculation rule.field (target_by v object x j) (P object x j))) se
+        ∙ ap (λ b. store_finding (why (value_by v object x j)) true b (pair_well object x j) (reaches_well (class_of object) (has_rvc object) rule.calculation rule.field (target_by v object x j) (P object x j))) (sym fe)
+        ∙ ap (λ b. store_finding (why (value_by v object x j)) true forms b (reaches_well (class_of object) (has_rvc object) rule.calculation rule.field (target_by v object x j) (P object x j))) (sym pe)
+        ∙ ap (λ b. store_finding (why (value_by v object x j)) true forms pairs b) (sym (re ∙ reach_is t te))
 
   pub word_read : (u b y d : ℕ) → u ≡ patched w rule.calculation rule.field b (signed 64 y) p d → y < 2 ^ 64 → y ≡ residue 64 (pos (S value) +ℤ signed 64 here.addend)
       → (takes_pair rule.calculation ≡ true → d ≡ pair_distance_by v object x j) → u ≡ word_by v object x j b
@@ -266,41 +249,55 @@ module _ (v : ℕ → SymbolValue) (object : List ℕ) (x : Site) (j : ℕ) (rul
   same : v here.symbol ≡ value_by v object x j
   same = ap (λ r. v r.symbol) f.read
 
-  pub unresolved_comes : (b : ℕ) → is_resolved (v here.symbol) ≡ false → Comes v object x j b 10 0
-  unfolding store_number symbol_well
-  unresolved_comes b e =
+  -- where the symbol breaks check 10
+  pub symbol_breaks : symbol_well object x j (value_by v object x j) ≡ false → finding_by v object x j ≡ Some (BadSymbol (why (value_by v object x j)))
+  symbol_breaks e =
+      store_finding_lem v object x j rule f.decided f.shape
+      ∙ ap (λ b. store_finding (why (value_by v object x j)) b (form_well object x j) (pair_well object x j) (reaches_well (class_of object) (has_rvc object) rule.calculation rule.field (target_by v object x j) (P object x j))) e
+
+  pub unresolved_breaks : (reason : Reason) → v here.symbol ≡ Err reason → finding_by v object x j ≡ Some (BadSymbol reason)
+  unfolding symbol_well
+  unresolved_breaks reason e =
       let out : symbol_well object x j (value_by v object x j) ≡ false = rw (f.decided, ← same, e) in
-      let ten : number_of (finding_by v object x j) ≡ 10 = store_number_lem v object x j rule f.decided f.shape ∙ rw out in
-      record { number_is = sym ten; word_is = λ z. absurd (omega arith) }
+      symbol_breaks out ∙ ap (λ v. Some (BadSymbol (why v))) (sym same ∙ e)
 
   module _ (resolved : is_resolved (v here.symbol) ≡ true) where
     -- any type but PCREL_LO12
-    pub plain_partnered : takes_pair rule.calculation ≡ false → (d : ℕ) → Partnered v object x j rule.calculation 0 d
-    plain_partnered plain d =
+    pub plain_takes : takes_pair rule.calculation ≡ false → (d : ℕ) → Takes v object x j rule.calculation (Some d)
+    plain_takes plain d =
         record {
-          symbol_is = sym (plain_symbol v object x j rule f.decided plain _ ∙ rw (← same, resolved));
-          pair_is = λ _. sym (plain_pair v object x j rule f.decided plain);
-          distance_is = λ _ e. never (sym plain ∙ e);
+          symbol_is = plain_symbol v object x j rule f.decided plain _ ∙ rw (← same, resolved);
+          pair_is = sym (plain_pair v object x j rule f.decided plain);
+          distance_is = λ _ _ e. never (sym plain ∙ e);
         }
 
     module _ (paired : takes_pair rule.calculation ≡ true) where
-      pub elsewhere_partnered : in_target object x j ≡ false → (d : ℕ) → Partnered v object x j rule.calculation 10 d
-      elsewhere_partnered t d =
-          record {
-            symbol_is = sym (paired_symbol v object x j rule f.decided paired _ ∙ rw (← same, resolved, t));
-            pair_is = λ q. never q;
-            distance_is = λ q _. never q;
-          }
+      pub elsewhere_breaks : in_target object x j ≡ false → symbol_well object x j (value_by v object x j) ≡ false
+      elsewhere_breaks t = paired_symbol v object x j rule f.decided paired _ ∙ rw (← same, resolved, t)
 
-      pub target_partnered : in_target object x j ≡ true → (pair : Option ℕ) (n d : ℕ) → pair ≡ pair_of object x (symbol object x j).value → not (eqb n 10) ≡ true → not (eqb n 12) ≡ is_one pair
-          → d ≡ distance_of_by v object x pair
-          → Partnered v object x j rule.calculation n d
-      target_partnered t pair n d pe ten one de =
+      pub resolved_why : why (value_by v object x j) ≡ OutsideTarget
+      resolved_why = ap why (sym same) ∙ go (v here.symbol) resolved
+        where
+          go : (y : SymbolValue) → is_resolved y ≡ true → why y ≡ OutsideTarget
+          go (Ok a) r = refl
+          go (Err a) r = never r
+
+      pub target_takes : in_target object x j ≡ true → (pair d : Option ℕ) → pair ≡ pair_of object x (symbol object x j).value → d ≡ distance_if v object x pair
+          → Takes v object x j rule.calculation d
+      target_takes t pair d pe de =
           record {
-            symbol_is = ten ∙ sym (paired_symbol v object x j rule f.decided paired _ ∙ rw (← same, resolved, t));
-            pair_is = λ _. one ∙ ap is_one pe ∙ sym (paired_pair v object x j rule f.decided paired);
-            distance_is = λ _ _. de ∙ ap (distance_of_by v object x) pe;
+            symbol_is = paired_symbol v object x j rule f.decided paired _ ∙ rw (← same, resolved, t);
+            pair_is = ap is_one de ∙ one pair ∙ ap is_one pe ∙ sym (paired_pair v object x j rule f.decided paired);
+            distance_is = λ n ne _. of pair n (sym de ∙ ne) ∙ ap (distance_of_by v object x) pe;
           }
+        where
+          one : (o : Option ℕ) → is_one (distance_if v object x o) ≡ is_one o
+          one (Some k) = refl
+          one None = refl
+
+          of : (o : Option ℕ) (n : ℕ) → distance_if v object x o ≡ Some n → n ≡ distance_of_by v object x o
+          of (Some k) n e = let back : distance_by v object x k ≡ n = cc in sym back
+          of None n e = never (ap is_one e)
 
 -- ---- what was read and decided of relocation j, and the trail before it
 
@@ -316,33 +313,32 @@ module _ (object : List ℕ) (x : Site) (j : ℕ) (t : Trail) (d : Decision) (r 
       ∙ sym (ap (λ e. cond (shares_by t d r.offset.0) last (le_at (touched e) (found object x) r.offset.0)) e)
 
   -- what breaks check 9
-  pub shape_comes : (v : ℕ → SymbolValue) (b n w : ℕ) → shape_by t d r x.target.size ≡ false → n ≡ 9 → Comes v object x j b n w
-  shape_comes v b n w e ne =
-      let nine : number_of (finding_by v object x j) ≡ 9 = misshapen v object x j (sym shape_read ∙ e) in
-      record { number_is = ne ∙ sym nine; word_is = λ z. absurd (omega arith) }
+  pub shape_breaks : (v : ℕ → SymbolValue) → shape_by t d r x.target.size ≡ false → finding_by v object x j ≡ Some BadShape
+  shape_breaks v e = misshapen v object x j (sym shape_read ∙ e)
 
   -- markers
-  pub align_comes : (v : ℕ → SymbolValue) (b n w : ℕ) → d ≡ Align
-      → n ≡ cond (shape_by t Align r x.target.size) (cond (boundary_well Align (x.address.0 + r.offset.0) (signed 64 r.addend)) 0 14) 9
-      → (n ≡ 0 → w ≡ 0)
-      → Comes v object x j b n w
-  align_comes v b n w e ne we =
-      record { number_is = ne ∙ rw (← e, shape_read, f.read) (go (shape_well object x j) refl); word_is = λ z. we z ∙ no_word v object x j b (ap is_store align) }
+  pub align_read : (v : ℕ → SymbolValue) → d ≡ Align → align_finding t x r ≡ finding_by v object x j
+  align_read v e = rw (← e, shape_read, f.read) (go (shape_well object x j) refl)
     where
       align : decision_at object x j ≡ Align
       align = sym f.decided ∙ e
 
-      go : (k : Bool) → shape_well object x j ≡ k → cond k (cond (boundary_well Align (P object x j) (A object x j)) 0 14) 9 ≡ number_of (finding_by v object x j)
-      go true q = sym (align_number v object x j align q)
+      go : (k : Bool) → shape_well object x j ≡ k → cond k (cond (boundary_well Align (P object x j) (A object x j)) None (Some OffBoundary)) (Some BadShape) ≡ finding_by v object x j
+      go true q = sym (align_finding_lem v object x j align q)
       go false q = sym (misshapen v object x j q)
 
-  pub marker_comes : (v : ℕ → SymbolValue) (b n w : ℕ) → d ≡ Marker → n ≡ cond (shape_by t Marker r x.target.size) 0 9 → (n ≡ 0 → w ≡ 0) → Comes v object x j b n w
-  marker_comes v b n w e ne we =
-      record { number_is = ne ∙ rw (← e, shape_read) (go (shape_well object x j) refl); word_is = λ z. we z ∙ no_word v object x j b (ap is_store marker) }
+  pub marker_read : (v : ℕ → SymbolValue) → d ≡ Marker → marker_finding t x r ≡ finding_by v object x j
+  marker_read v e = rw (← e, shape_read) (go (shape_well object x j) refl)
     where
       marker : decision_at object x j ≡ Marker
       marker = sym f.decided ∙ e
 
-      go : (k : Bool) → shape_well object x j ≡ k → cond k 0 9 ≡ number_of (finding_by v object x j)
-      go true q = sym (marker_number v object x j marker q)
+      go : (k : Bool) → shape_well object x j ≡ k → cond k None (Some BadShape) ≡ finding_by v object x j
+      go true q = sym (marker_finding_lem v object x j marker q)
       go false q = sym (misshapen v object x j q)
+
+  -- what answers a marker, as what answers relocation j
+  pub marker_comes : (v : ℕ → SymbolValue) (b last : ℕ) (found : Option Finding) (answer : Result Step Finding) → is_store d ≡ false → found ≡ finding_by v object x j
+      → Answers found (λ s. (s.word ≡ 0) × Onward t d r last s.word s.size s.last s.trail) answer → Comes v object x j b t d r last answer
+  marker_comes v b last found (Ok s) m is e = (sym is ∙ e.0, (e.1.0 ∙ no_word v object x j b (ap is_store (sym f.decided) ∙ m), e.1.1))
+  marker_comes v b last found (Err g) m is e = sym is ∙ e

@@ -10,12 +10,12 @@ use Rattle.elf_read.specs.declared.Symbol.{Symbol}
 use Rattle.elf_read.specs.Sections.{section_at, symbol_table}
 use Rattle.elf_read.specs.Entries.{symbol_count}
 use Rattle.elf_check.proofs.Laws.Bounds.{symbol_inside}
+use Rattle.relocations_rules.specs.declared.Finding.TheVariants.{BadSymbol}
 use Rattle.relocations_values.specs.Pairs.{pair_of}
 use Rattle.relocations_values.proofs.Laws.Pairs.{pair_there}
 use Rattle.relocations_rules.specs.Rules.{in_target}
 use Rattle.relocations_bytes.proofs.Laws.Sections.{symbol_read}
-use Rattle.relocations_check_one.specs.Requires.{Listing}
-use Rattle.relocations_check_one.proofs.Laws.Outcomes.{none_in_target, in_target_read, elsewhere_partnered, target_partnered}
+use Rattle.relocations_check_one.proofs.Laws.Outcomes.{none_in_target, in_target_read, elsewhere_breaks, resolved_why, target_takes}
 use Rattle.relocations_check_one.proofs.labelled.Goals as goal
 use Rattle.relocations_check_one.proofs.labelled.Goals.{After-read_symbol-symbol, Else-k-eq0}
 
@@ -40,9 +40,12 @@ target c =
 pub returns-then-k-eq0 : goal.returns-then-k-eq0
 returns-then-k-eq0 c =
     let a = c.args in
-    let f = c.requires.1 in (
-      elsewhere_partnered (listed a.values.now a.states.now) a.object.now a.site a.j a.rule a.here f c.requires.3 c.requires.4
-          (none_in_target a.object.now a.site a.j a.here f.read (omega (arith, c.if-k-eq0.true))) 0,
+    let f = c.requires.1 in
+    let v = listed a.values.now a.states.now in (
+      (
+        elsewhere_breaks v a.object.now a.site a.j a.rule a.here f c.requires.3 c.requires.4 (none_in_target a.object.now a.site a.j a.here f.read (omega (arith, c.if-k-eq0.true))),
+        sym (ap BadSymbol (resolved_why v a.object.now a.site a.j a.rule a.here f c.requires.3 c.requires.4)),
+      ),
       c.requires.2,
       refl,
     )
@@ -52,24 +55,16 @@ read_symbol-symbol-requires c = rw (table (goal.at.read_symbol-symbol-requires c
 
 pub returns-then-symbol-site : goal.returns-then-symbol-site
 returns-then-symbol-site c =
-    let a = c.args in (
-      elsewhere_partnered (listed a.values.now a.states.now) a.object.now a.site a.j a.rule a.here c.requires.1 c.requires.3 c.requires.4
-          (sym (target (goal.at.returns-then-symbol-site c).After-read_symbol-symbol) ∙ ne_eqb _ _ c.if-symbol-site.true) 0,
+    let a = c.args in
+    let f = c.requires.1 in
+    let v = listed a.values.now a.states.now in (
+      (
+        elsewhere_breaks v a.object.now a.site a.j a.rule a.here f c.requires.3 c.requires.4 (sym (target (goal.at.returns-then-symbol-site c).After-read_symbol-symbol) ∙ ne_eqb _ _ c.if-symbol-site.true),
+        sym (ap BadSymbol (resolved_why v a.object.now a.site a.j a.rule a.here f c.requires.3 c.requires.4)),
+      ),
       c.requires.2,
       refl,
     )
-
-pub listed_highs-known-requires : goal.listed_highs-known-requires
-listed_highs-known-requires c =
-    (c.requires.1.there.site, c.requires.2)
-
-pub overflow_sub-known : goal.overflow_sub-known
-overflow_sub-known c = omega (arith, c.listed_highs-known.ensures.0)
-
-pub pair_at-pair-requires : goal.pair_at-pair-requires
-pair_at-pair-requires c =
-    let e = c.listed_highs-known.ensures in
-    (c.requires.1.there.site, e.1.highs e.0)
 
 pub high_half-requires : goal.high_half-requires
 high_half-requires c =
@@ -79,11 +74,11 @@ pub returns : goal.returns
 returns c =
     let a = c.args in
     let f = c.requires.1 in
-    let e = c.high_half.ensures in
+    let e = c.listed_highs-m.ensures in
     let here : in_target a.object.now a.site a.j ≡ true = sym (target (goal.at.returns c).After-read_symbol-symbol) ∙ eq-eqb _ _ c.if-symbol-site.false in
     let label = ap (λ (y : Symbol). y.value) (symbol_read a.object.now a.site a.j a.here _ _ f.read (table (goal.at.returns c).Else-k-eq0) c.read_symbol-symbol.ensures) in (
-      target_partnered (listed a.values.now a.states.now) a.object.now a.site a.j a.rule a.here f c.requires.3 c.requires.4
-          here _ _ _ (c.pair_at-pair.ensures ∙ ap (pair_of a.object.now a.site) label) e.0 e.1 e.2,
-      subst (Listing a.object.now a.site _) (sym e.3) c.listed_highs-known.ensures.1,
-      c.listed_highs-known.ensures.2,
+      target_takes (listed a.values.now a.states.now) a.object.now a.site a.j a.rule a.here f c.requires.3 c.requires.4
+          here _ _ (c.pair_at-pair.ensures ∙ ap (pair_of a.object.now a.site) label) c.high_half.ensures,
+      e.1,
+      e.2,
     )

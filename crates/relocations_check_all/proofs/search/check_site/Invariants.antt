@@ -1,7 +1,7 @@
--- `relocations_check_all::search::check_site` meets its contract. The invariant: none of the first `j` relocations breaks a rule, and what they leave is stored. The measure is what is left.
+-- `relocations_check_all::search::check_site` meets its contract. The invariant: none of the first `j` relocations breaks a rule, and what they leave is stored.
 use mathlib.Core.Path.{◌≡◌}
 use mathlib.Core.List.{List}
-use Prim.Native.Nat.{ℕ, ◌-◌, ◌≤◌}
+use Prim.Native.Nat.{ℕ}
 use lib.ListN.{length}
 use Rattle.placing_symbols.specs.Arrays.{Valued}
 use Rattle.relocations_rela.specs.Trails.{trail_at}
@@ -11,13 +11,9 @@ use Rattle.relocations_check_all.proofs.search.check_site.Given as goal
 
 abbrev pub invariant-loop-j : goal.invariant-loop-j
 invariant-loop-j l =
-    (l.j ≤ l.n)
-    × (l.trail ≡ trail_at l.object l.site l.j)
-    × Listing l.object l.site l.highs l.made
+    (l.trail ≡ trail_at l.object l.site l.j)
+    × Listing l.object l.site l.highs l.known
     × (length l.highs ≡ length l.initial.highs)
     × (length l.words ≡ length l.initial.words)
     × (length l.sizes ≡ length l.initial.sizes)
-    × ((o a : List ℕ) → Valued l.object o a l.values l.states → Searching l.object o a l.site l.base l.initial.words l.initial.sizes l.initial.highs l.words l.sizes l.highs l.trail l.last l.made l.j)
-
-abbrev pub decreases-loop-j : goal.decreases-loop-j
-decreases-loop-j l = l.n - l.j
+    × ((o a : List ℕ) → Valued l.object o a l.values l.states → Searching l.object o a l.site l.base l.initial.words l.initial.sizes l.initial.highs l.words l.sizes l.highs l.trail l.last l.known l.j)
