@@ -1,3 +1,3 @@
 -- The laws of the definitions in specs/.
-pub mod Answers
+pub mod Mapped
 pub mod Scratch

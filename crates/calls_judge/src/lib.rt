@@ -1,7 +1,7 @@
-// What a call answers, and the judgement: check 3 and checks 5 to 14 over lent bytes of object and order.
+// Why a call is refused, and the judgement: check 3 and checks 5 to 14 over lent bytes of object and order.
 #![tactic(auto)]
 
-ghost use Rattle.std.specs.Prelude.{◌≡◌, true, ◌≤◌, eqb};
+ghost use Rattle.std.specs.Prelude.{◌≡◌, true, Err, ◌^◌, ◌≤◌, ◌<◌};
 ghost use Rattle.elf_read.specs.Headers.{class_of};
 ghost use Rattle.elf_header.specs.Headers.{header_allowed};
 ghost use Rattle.order_format.specs.Orders.{reading};
@@ -15,19 +15,20 @@ ghost use Rattle.order_lookup.specs.Addresses.{no_addresses, addresses_for};
 ghost use Rattle.calls_judge.specs.Answers.{answer_of};
 ghost use Rattle.calls_judge.specs.Judged.{Lent, PlacedWell, JudgedWell};
 
-use elf_check::MAX_SYMBOLS;
+use elf_check::{MAX_SYMBOLS, check_sections};
 use elf_read::class_of;
 use order_format::OrderHeader;
-use order_lookup::Addresses;
+use order_lookup::{Addresses, fill_addresses};
+use placing_check::check_placing;
+use placing_match::{check_externals, check_placements};
 use placing_symbols::{Reason, Symbols, reason_number, symbol_values};
 use relocations_check_all::search::check_relocations;
-use relocations_rules::Finding;
+use relocations_rules::{Broken, Finding};
 
-// What a call answers. The number in an answer is that of a section, of a symbol, or of a relocation, counted from 0
+// Why a call changes nothing. The number in a refusal is that of a section, of a symbol, or of a relocation, counted from 0
 // over all relocations; a symbol that does not resolve comes with the reason.
 #[derive(Clone, Copy)]
-pub enum Answer {
-    Done,
+pub enum Refusal {
     JournalUnsound,
     OrderMalformed,
     WindowBroken,
@@ -46,25 +47,20 @@ pub enum Answer {
     NothingStands,
 }
 
-// The answer for a relocation that breaks a rule.
-fn refusal(finding: Finding, k: u32) -> Answer
-    ensures { answer_of result ≡ says_why (number finding) k (reason finding) }
-{
-    match finding {
-        Finding::BadShape => Answer::RelocationShape(k),
-        Finding::BadSymbol(why) => Answer::SymbolUnresolved(k, why),
-        Finding::BadForm => Answer::WrongInstruction(k),
-        Finding::NoPair => Answer::NotOnePair(k),
-        Finding::OutOfReach => Answer::OutOfReach(k),
-        Finding::OffBoundary => Answer::PaddingOffBoundary(k),
-    }
-}
+impl From<Broken> for Refusal {
+    ghost from_gives = { λ broken refusal. answer_of (Err refusal) ≡ says_why (number broken.finding) broken.relocation (reason broken.finding) };
 
-// What the judgement leaves: the answer, and the address of each section, for laying.
-#[derive(Clone, Copy)]
-pub struct Judged {
-    pub answer: Answer,
-    pub addresses: Addresses,
+    fn from(broken: Broken) -> Refusal {
+        let k = broken.relocation;
+        match broken.finding {
+            Finding::BadShape => Refusal::RelocationShape(k),
+            Finding::BadSymbol(why) => Refusal::SymbolUnresolved(k, why),
+            Finding::BadForm => Refusal::WrongInstruction(k),
+            Finding::NoPair => Refusal::NotOnePair(k),
+            Finding::OutOfReach => Refusal::OutOfReach(k),
+            Finding::OffBoundary => Refusal::PaddingOffBoundary(k),
+        }
+    }
 }
 
 // How many symbols most objects have at most. Arrays for more are set to 0 only where they are needed.
@@ -83,28 +79,20 @@ fn judge_by_values(
     highs: &mut [u32],
     words: &mut [u64],
     sizes: &mut [u8],
-) -> Judged
+) -> Result<Addresses, Refusal>
     requires { Placeable object.now order.now counts len × (addresses ≡ addresses_for object.now order.now) × SymbolsOf object.now symbols × Blank object.now values.old states.old
         × Lent object.now highs.old words.old sizes.old }
     ensures { JudgedWell object.now order.now len result words.new sizes.new }
 {
     let placed = symbol_values(object, order, counts, symbols, addresses, values, states);
-    match check_relocations(
+    check_relocations(
         object, order, symbols, placed, values, states, highs, words, sizes,
-    ) {
-        Ok(()) => Judged {
-            answer: Answer::Done,
-            addresses: placed,
-        },
-        Err(broken) => Judged {
-            answer: refusal(broken.finding, broken.relocation),
-            addresses: placed,
-        },
-    }
+    )?;
+    Ok(placed)
 }
 
-// The same, with the arrays of the symbols' values for an object that has few.
-fn judge_few_symbols(
+// The same, with arrays for the values of N symbols.
+fn judge_with<const N: usize>(
     object: &[u8],
     order: &[u8],
     counts: OrderHeader,
@@ -114,13 +102,13 @@ fn judge_few_symbols(
     highs: &mut [u32],
     words: &mut [u64],
     sizes: &mut [u8],
-) -> Judged
-    requires { Placeable object.now order.now counts len × (addresses ≡ addresses_for object.now order.now) × SymbolsOf object.now symbols × (symbols.count ≤ 1024)
+) -> Result<Addresses, Refusal>
+    requires { Placeable object.now order.now counts len × (addresses ≡ addresses_for object.now order.now) × SymbolsOf object.now symbols × (0 < N) × (N < 2 ^ 32) × (symbols.count ≤ N)
         × Lent object.now highs.old words.old sizes.old }
     ensures { JudgedWell object.now order.now len result words.new sizes.new }
 {
-    let mut values = [0u64; FEW_SYMBOLS];
-    let mut states = [Err(Reason::PastTable); FEW_SYMBOLS];
+    let mut values = [0u64; N];
+    let mut states = [Err(Reason::PastTable); N];
     judge_by_values(
         object,
         order,
@@ -136,41 +124,8 @@ fn judge_few_symbols(
     )
 }
 
-// The same, with arrays for as many symbols as an object may have.
-fn judge_all_symbols(
-    object: &[u8],
-    order: &[u8],
-    counts: OrderHeader,
-    len: usize,
-    addresses: Addresses,
-    symbols: Symbols,
-    highs: &mut [u32],
-    words: &mut [u64],
-    sizes: &mut [u8],
-) -> Judged
-    requires { Placeable object.now order.now counts len × (addresses ≡ addresses_for object.now order.now) × SymbolsOf object.now symbols
-        × Lent object.now highs.old words.old sizes.old }
-    ensures { JudgedWell object.now order.now len result words.new sizes.new }
-{
-    let mut values = [0u64; MAX_SYMBOLS];
-    let mut states = [Err(Reason::PastTable); MAX_SYMBOLS];
-    judge_by_values(
-        object,
-        order,
-        counts,
-        len,
-        addresses,
-        symbols,
-        &mut values,
-        &mut states,
-        highs,
-        words,
-        sizes,
-    )
-}
-
-// Checks 9 to 14, of an object and an order that pass the others. Where the answer is that of an install that is done, `words` and
-// `sizes` say what each relocation stores.
+// Checks 9 to 14, of an object and an order that pass the others. If every check passes, `words` and `sizes` say what each
+// relocation stores, and `addresses` goes back as it came.
 pub fn judge_relocations(
     object: &[u8],
     order: &[u8],
@@ -180,134 +135,42 @@ pub fn judge_relocations(
     highs: &mut [u32],
     words: &mut [u64],
     sizes: &mut [u8],
-) -> Judged
+) -> Result<Addresses, Refusal>
     requires { Placeable object.now order.now counts len × (addresses ≡ addresses_for object.now order.now) × Lent object.now highs.old words.old sizes.old }
     ensures { JudgedWell object.now order.now len result words.new sizes.new }
 {
     let symbols = placing_symbols::symbols_of(object);
     if symbols.count <= FEW_SYMBOLS {
-        return judge_few_symbols(
+        return judge_with::<FEW_SYMBOLS>(
             object, order, counts, len, addresses, symbols, highs, words, sizes,
         );
     }
-    judge_all_symbols(
+    judge_with::<MAX_SYMBOLS>(
         object, order, counts, len, addresses, symbols, highs, words, sizes,
     )
 }
 
-// Check 8. The address array is filled here, once.
-fn judge_placing(
-    object: &[u8],
-    order: &[u8],
-    counts: OrderHeader,
-    len: usize,
-    addresses: Addresses,
-) -> Judged
-    requires { Named object.now order.now counts len × (addresses ≡ no_addresses) }
-    ensures { PlacedWell object.now order.now counts len result }
-{
-    let filled = order_lookup::fill_addresses(class_of(object), addresses, order, counts);
-    match placing_check::check_placing(object, filled, counts.base, len) {
-        Ok(placed) => Judged {
-            answer: Answer::Done,
-            addresses: placed,
-        },
-        Err(i) => Judged {
-            answer: Answer::Misplaced(i),
-            addresses: filled,
-        },
-    }
-}
-
-// Checks 7 and 8.
-fn judge_externals(
-    object: &[u8],
-    order: &[u8],
-    counts: OrderHeader,
-    len: usize,
-    addresses: Addresses,
-) -> Judged
-    requires { Readable object.now order.now counts len × (placement_check object.now order.now ≡ Ok tt) × (addresses ≡ no_addresses) }
-    ensures { PlacedWell object.now order.now counts len result }
-{
-    match placing_match::check_externals(object, order, counts) {
-        Ok(()) => judge_placing(object, order, counts, len, addresses),
-        Err(k) => Judged {
-            answer: Answer::WrongExternal(k),
-            addresses,
-        },
-    }
-}
-
-// Checks 6 to 8.
-fn judge_placements(
-    object: &[u8],
-    order: &[u8],
-    counts: OrderHeader,
-    len: usize,
-    addresses: Addresses,
-) -> Judged
-    requires { Readable object.now order.now counts len × (addresses ≡ no_addresses) }
-    ensures { PlacedWell object.now order.now counts len result }
-{
-    match placing_match::check_placements(object, order, counts) {
-        Ok(()) => judge_externals(object, order, counts, len, addresses),
-        Err(i) => Judged {
-            answer: Answer::PlacementsDiffer(i),
-            addresses,
-        },
-    }
-}
-
 // Check 3 and checks 5 to 8 for an image of `len` bytes, of an object whose header passes check 4, by an order that has been read.
-// `addresses` comes with zeros and goes back filled, where the answer is that of an install that is done.
+// `addresses` comes with zeros, and goes back filled if every check passes.
 pub fn judge_sections(
     object: &[u8],
     order: &[u8],
     counts: OrderHeader,
     len: usize,
     addresses: Addresses,
-) -> Judged
+) -> Result<Addresses, Refusal>
     requires { (header_allowed object.now ≡ true) × (reading (class_of object.now) order.now ≡ Some counts) × (addresses ≡ no_addresses) }
     ensures { PlacedWell object.now order.now counts len result }
 {
-    if !order_format::window_allowed(class_of(object), counts.base, len) {
-        return Judged {
-            answer: Answer::WindowBroken,
-            addresses,
-        };
+    let class = class_of(object);
+    if !order_format::window_allowed(class, counts.base, len) {
+        return Err(Refusal::WindowBroken);
     }
-    match elf_check::check_sections(object) {
-        Ok(()) => judge_placements(object, order, counts, len, addresses),
-        Err(i) => Judged {
-            answer: Answer::BadSection(i),
-            addresses,
-        },
-    }
-}
-
-pub fn is_done(answer: Answer) -> bool
-    ensures { result ≡ eqb (answer_of answer).number 0 }
-{
-    match answer {
-        Answer::Done => true,
-        Answer::JournalUnsound => false,
-        Answer::OrderMalformed => false,
-        Answer::WindowBroken => false,
-        Answer::BadHeader => false,
-        Answer::BadSection(_) => false,
-        Answer::PlacementsDiffer(_) => false,
-        Answer::WrongExternal(_) => false,
-        Answer::Misplaced(_) => false,
-        Answer::RelocationShape(_) => false,
-        Answer::SymbolUnresolved(_, _) => false,
-        Answer::WrongInstruction(_) => false,
-        Answer::NotOnePair(_) => false,
-        Answer::OutOfReach(_) => false,
-        Answer::PaddingOffBoundary(_) => false,
-        Answer::JournalFull => false,
-        Answer::NothingStands => false,
-    }
+    check_sections(object).map_err(Refusal::BadSection)?;
+    check_placements(object, order, counts).map_err(Refusal::PlacementsDiffer)?;
+    check_externals(object, order, counts).map_err(Refusal::WrongExternal)?;
+    let filled = fill_addresses(class, addresses, order, counts);
+    check_placing(object, filled, counts.base, len).map_err(Refusal::Misplaced)
 }
 
 // A number and a place as one number: the number in the low eight bits, the place in the upper 32.
@@ -325,28 +188,28 @@ fn pack_reason(number: u8, place: u32, reason: u8) -> u64
 }
 
 // Number, place and reason of an answer, as one number.
-pub fn code_of(answer: Answer) -> u64
+pub fn code_of(answer: Result<(), Refusal>) -> u64
     ensures { result ≡ packed (answer_of answer) }
 {
     match answer {
-        Answer::Done => pack(0, 0),
-        Answer::JournalUnsound => pack(1, 0),
-        Answer::OrderMalformed => pack(2, 0),
-        Answer::WindowBroken => pack(3, 0),
-        Answer::BadHeader => pack(4, 0),
-        Answer::BadSection(section) => pack(5, section),
-        Answer::PlacementsDiffer(section) => pack(6, section),
-        Answer::WrongExternal(symbol) => pack(7, symbol),
-        Answer::Misplaced(section) => pack(8, section),
-        Answer::RelocationShape(relocation) => pack(9, relocation),
-        Answer::SymbolUnresolved(relocation, reason) => {
+        Ok(()) => pack(0, 0),
+        Err(Refusal::JournalUnsound) => pack(1, 0),
+        Err(Refusal::OrderMalformed) => pack(2, 0),
+        Err(Refusal::WindowBroken) => pack(3, 0),
+        Err(Refusal::BadHeader) => pack(4, 0),
+        Err(Refusal::BadSection(section)) => pack(5, section),
+        Err(Refusal::PlacementsDiffer(section)) => pack(6, section),
+        Err(Refusal::WrongExternal(symbol)) => pack(7, symbol),
+        Err(Refusal::Misplaced(section)) => pack(8, section),
+        Err(Refusal::RelocationShape(relocation)) => pack(9, relocation),
+        Err(Refusal::SymbolUnresolved(relocation, reason)) => {
             pack_reason(10, relocation, reason_number(reason))
         }
-        Answer::WrongInstruction(relocation) => pack(11, relocation),
-        Answer::NotOnePair(relocation) => pack(12, relocation),
-        Answer::OutOfReach(relocation) => pack(13, relocation),
-        Answer::PaddingOffBoundary(relocation) => pack(14, relocation),
-        Answer::JournalFull => pack(15, 0),
-        Answer::NothingStands => pack(16, 0),
+        Err(Refusal::WrongInstruction(relocation)) => pack(11, relocation),
+        Err(Refusal::NotOnePair(relocation)) => pack(12, relocation),
+        Err(Refusal::OutOfReach(relocation)) => pack(13, relocation),
+        Err(Refusal::PaddingOffBoundary(relocation)) => pack(14, relocation),
+        Err(Refusal::JournalFull) => pack(15, 0),
+        Err(Refusal::NothingStands) => pack(16, 0),
     }
 }

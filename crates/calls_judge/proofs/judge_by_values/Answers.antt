@@ -1,10 +1,10 @@
 -- `calls_judge::judge_by_values` meets its contract.
+use Rattle.std.proofs.lemmas.Result.{err_from_is_err_and}
 use mathlib.Core.Path.{◌≡◌, sym, ap, ◌∙◌, subst}
 use mathlib.Core.List.{List}
 use Prim.Native.Nat.{ℕ}
 use native.Mathlib.Omega.{arith}
 use lib.ListN.{length}
-use lib.Dec.{eqb}
 use Rattle.order_lookup.specs.Addresses.{addresses_for, base_for}
 use Rattle.elf_check.specs.Requires.{SoundObject}
 use Rattle.elf_check.proofs.Laws.Objects.{sound_object}
@@ -13,8 +13,7 @@ use Rattle.relocations_rela.specs.Requires.{Placed}
 use Rattle.relocations_check_all.specs.Sites.{Roomy}
 use Rattle.relocations_rules.specs.Search.{relocation_check}
 use Rattle.relocations_rules.proofs.Laws.Sites.{placed}
-use Rattle.calls_judgement.proofs.Laws.Judgement.{gives_9_to_14, gives_plan, some_number}
-use Rattle.calls_judge.proofs.Laws.Answers.{refused_well}
+use Rattle.calls_judgement.proofs.Laws.Judgement.{gives_9_to_14, gives_plan}
 use Rattle.calls_judge.proofs.judge_by_values.Goals as goal
 use Rattle.calls_judge.proofs.judge_by_values.Goals.{After-check_relocations, After-symbol_values-placed, Start}
 
@@ -54,16 +53,22 @@ found c =
 kept : {object l m : List ℕ} → Roomy object l → length m ≡ length l → Roomy object m
 kept r e = record { room = omega (arith, r.room, e); short = omega (arith, r.short, e) }
 
-pub returns-in-Ok : goal.returns-in-Ok
-returns-in-Ok c =
-    let e = c.check_relocations.ensures in
-    record {
-      verdict_is = sym (gives_plan (S (goal.at.returns-in-Ok c).Start) (O (goal.at.returns-in-Ok c).Start) c.args.len c.args.counts (record { placeable = c.requires.0; relocations = found (goal.at.returns-in-Ok c).After-check_relocations ∙ c.in-Ok.is }));
-      ready = λ _. record { addresses_are = placed_is (goal.at.returns-in-Ok c).After-symbol_values-placed; worked = record { worded = e.1 c.in-Ok.is; words_room = kept c.requires.4.words_room e.3; sizes_room = kept c.requires.4.sizes_room e.4 } };
-    }
+pub returns-in_err-check_relocations : goal.returns-in_err-check_relocations
+returns-in_err-check_relocations c =
+    let a = c.args in
+    let p = err_from_is_err_and c.from_residual.result c.from_residual.ensures.1 in
+    rw p.1
+    (gives_9_to_14 a.object.now a.order.now a.len a.counts _ c.requires.0 (found (goal.at.returns-in_err-check_relocations c).After-check_relocations ∙ c.in_err-check_relocations.was)
+    ∙ ap refused (sym p.2))
 
-pub returns-in-Err : goal.returns-in-Err
-returns-in-Err c =
-    let is = found (goal.at.returns-in-Err c).After-check_relocations ∙ c.in-Err.is in
-    refused_well (S (goal.at.returns-in-Err c).Start) (O (goal.at.returns-in-Err c).Start) c.args.len _ _ _ (ap (λ a. eqb a.number 0) c.refusal.ensures ∙ some_number c.in-Err.broken.finding)
-    (gives_9_to_14 (S (goal.at.returns-in-Err c).Start) (O (goal.at.returns-in-Err c).Start) c.args.len c.args.counts _ c.requires.0 is ∙ ap refused (sym c.refusal.ensures))
+pub returns : goal.returns
+returns c =
+    let a = c.args in
+    let e = c.check_relocations.ensures in
+    let kept_all = found (goal.at.returns c).After-check_relocations ∙ c.in_ok-check_relocations.was in (
+      gives_plan a.object.now a.order.now a.len a.counts (record { placeable = c.requires.0; relocations = kept_all }),
+      record {
+        addresses_are = placed_is (goal.at.returns c).After-symbol_values-placed;
+        worked = record { worded = e.1 c.in_ok-check_relocations.was; words_room = kept c.requires.4.words_room e.3; sizes_room = kept c.requires.4.sizes_room e.4 };
+      },
+    )

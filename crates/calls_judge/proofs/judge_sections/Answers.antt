@@ -1,19 +1,27 @@
 -- `calls_judge::judge_sections` meets its contract.
-use mathlib.Core.Path.{◌≡◌, refl, sym, ap, ◌∙◌}
+use mathlib.Core.Path.{◌≡◌, sym, ap, ◌∙◌}
 use mathlib.Core.Bool.{true}
 use mathlib.Core.List.{List}
 use Prim.Native.Nat.{ℕ}
-use Rattle.order_lookup.specs.Addresses.{base_for}
+use borrow.Author.Tests.{leb-true}
+use Rattle.numbers_definitions.proofs.Laws.Tests.{and_left}
+use Rattle.numbers_definitions.specs.Classes.{bits}
 use Rattle.elf_read.specs.Headers.{class_of, address_width}
 use Rattle.elf_read.proofs.Laws.Headers.{header_there}
 use Rattle.elf_header.proofs.Laws.Headers.{header_long}
-use Rattle.numbers_definitions.specs.Classes.{bits}
-use Rattle.order_format.specs.Windows.{window_allowed}
+use Rattle.order_format.specs.Orders.{reading}
+use Rattle.order_format.specs.Windows.{length_allowed, window_allowed}
 use Rattle.order_format.proofs.Laws.Sound.{reading_sound}
-use Rattle.calls_judgement.proofs.Laws.Judgement.{gives_3, gives_5}
-use Rattle.calls_judge.proofs.Laws.Answers.{not_placed}
+use Rattle.order_lookup.specs.Addresses.{addresses, addresses_for, base_for}
+use Rattle.elf_check.proofs.Laws.Objects.{sound_object}
+use Rattle.placing_check.specs.Placing.{placing_check}
+use Rattle.calls_judgement.specs.Requires.{Readable, Named}
+use Rattle.calls_judgement.proofs.Laws.Judgement.{gives_3, gives_5, gives_6, gives_7, gives_8}
+use Rattle.calls_judge.proofs.Laws.Mapped.{passed, handed_on, ended}
+use Rattle.calls_judge.specs.Judged.{PlacedWell}
+use Rattle.calls_judge.specs.declared.Refusal.TheVariants.{BadSection, PlacementsDiffer, WrongExternal, Misplaced}
 use Rattle.calls_judge.proofs.judge_sections.Goals as goal
-use Rattle.calls_judge.proofs.judge_sections.Goals.{After-window_allowed, Else-not-window_allowed, Start}
+use Rattle.calls_judge.proofs.judge_sections.Goals.{After-window_allowed, Else-not-window_allowed, After-check_sections, After-check_placements, After-check_externals, After-check_placing, Start}
 
 abbrev S : Start → List ℕ
 S c = c.args.object.now
@@ -21,33 +29,100 @@ S c = c.args.object.now
 abbrev O : Start → List ℕ
 O c = c.args.order.now
 
-asked : (c : After-window_allowed) → window_allowed (address_width (S (goal.at.After-window_allowed c).Start)) (base_for (S (goal.at.After-window_allowed c).Start) (O (goal.at.After-window_allowed c).Start)) c.args.len ≡ c.window_allowed.result
+base_is : (c : Start) → base_for (S c) (O c) ≡ c.args.counts.base.0
+base_is c = sym (reading_sound (class_of (S c)) (O c) c.args.counts c.requires.1).base_is
+
+pub class_of-class-requires : goal.class_of-class-requires
+class_of-class-requires c = header_there _ (header_long _ c.requires.0)
+
+asked : (c : After-window_allowed) → let s = (goal.at.After-window_allowed c).Start in window_allowed (address_width (S s)) (base_for (S s) (O s)) c.args.len ≡ c.window_allowed.result
 asked c =
-    let k = class_of (S (goal.at.After-window_allowed c).Start) in
-    ap (λ b. window_allowed (bits k) b c.args.len) (sym (reading_sound k (O (goal.at.After-window_allowed c).Start) c.args.counts c.requires.1).base_is)
-    ∙ ap (λ k. window_allowed (bits k) c.args.counts.base.0 c.args.len) (sym c.class_of.ensures)
+    let s = (goal.at.After-window_allowed c).Start in
+    ap (λ b. window_allowed (address_width (S s)) b c.args.len) (base_is s)
+    ∙ ap (λ k. window_allowed (bits k) c.args.counts.base.0 c.args.len) (sym c.class_of-class.ensures)
     ∙ sym c.window_allowed.ensures
-
-window : (c : Else-not-window_allowed) → window_allowed (address_width (S (goal.at.Else-not-window_allowed c).Start)) (base_for (S (goal.at.Else-not-window_allowed c).Start) (O (goal.at.Else-not-window_allowed c).Start)) c.args.len ≡ true
-window c = asked (goal.at.Else-not-window_allowed c).After-window_allowed ∙ c.if-not-window_allowed.false
-
-pub class_of-requires : goal.class_of-requires
-class_of-requires c = header_there _ (header_long _ c.requires.0)
 
 pub returns-then-not-window_allowed : goal.returns-then-not-window_allowed
 returns-then-not-window_allowed c =
-    not_placed (S (goal.at.returns-then-not-window_allowed c).Start) (O (goal.at.returns-then-not-window_allowed c).Start) c.args.counts c.args.len _ refl (gives_3 (S (goal.at.returns-then-not-window_allowed c).Start) (O (goal.at.returns-then-not-window_allowed c).Start) c.args.len c.args.counts c.requires.0 c.requires.1 (asked (goal.at.returns-then-not-window_allowed c).After-window_allowed ∙ c.if-not-window_allowed.true))
+    let a = c.args in
+    gives_3 a.object.now a.order.now a.len a.counts c.requires.0 c.requires.1 (asked (goal.at.returns-then-not-window_allowed c).After-window_allowed ∙ c.if-not-window_allowed.true)
 
 pub check_sections-requires : goal.check_sections-requires
 check_sections-requires c = header_long _ c.requires.0
 
-pub judge_placements-requires : goal.judge_placements-requires
-judge_placements-requires c =
-    (record { header = c.requires.0; reading_is = c.requires.1; window = window (goal.at.judge_placements-requires c).Else-not-window_allowed; sections = sym c.check_sections.ensures ∙ c.in-Ok.is }, c.requires.2)
+window : (c : Else-not-window_allowed) → let s = (goal.at.Else-not-window_allowed c).Start in window_allowed (address_width (S s)) (base_for (S s) (O s)) c.args.len ≡ true
+window c = asked (goal.at.Else-not-window_allowed c).After-window_allowed ∙ c.if-not-window_allowed.false
 
-pub returns-in-Ok : goal.returns-in-Ok
-returns-in-Ok c = c.judge_placements.ensures
+-- an object that passes checks 4, 2, 3 and 5, and what check 6 finds
+readable : (c : After-check_placements) → let s = (goal.at.After-check_placements c).Start in Readable (S s) (O s) c.args.counts c.args.len
+readable c =
+    record {
+      header = c.requires.0;
+      reading_is = c.requires.1;
+      window = window (goal.at.After-check_placements c).Else-not-window_allowed;
+      sections = sym c.check_sections.ensures ∙ passed BadSection _ _ c.map_err.ensures.cases _ c.in_ok-map_err.was;
+    }
 
-pub returns-in-Err : goal.returns-in-Err
-returns-in-Err c =
-    not_placed (S (goal.at.returns-in-Err c).Start) (O (goal.at.returns-in-Err c).Start) c.args.counts c.args.len _ refl (gives_5 (S (goal.at.returns-in-Err c).Start) (O (goal.at.returns-in-Err c).Start) c.args.len c.args.counts _ c.requires.0 c.requires.1 (window (goal.at.returns-in-Err c).Else-not-window_allowed) (sym c.check_sections.ensures ∙ c.in-Err.is))
+pub returns-in_err-map_err : goal.returns-in_err-map_err
+returns-in_err-map_err c =
+    let a = c.args in
+    handed_on BadSection _ _ c.map_err.ensures.cases _ c.in_err-map_err.was (PlacedWell a.object.now a.order.now a.counts a.len)
+    (λ i e. gives_5 a.object.now a.order.now a.len a.counts i c.requires.0 c.requires.1 (window (goal.at.returns-in_err-map_err c).Else-not-window_allowed) (sym c.check_sections.ensures ∙ e))
+    _ c.from_residual.ensures.1
+
+pub check_placements-requires : goal.check_placements-requires
+check_placements-requires c = (sound_object _ c.requires.0 (sym c.check_sections.ensures ∙ passed BadSection _ _ c.map_err.ensures.cases _ c.in_ok-map_err.was), c.requires.1)
+
+pub returns-in_err-map_err-2 : goal.returns-in_err-map_err-2
+returns-in_err-map_err-2 c =
+    let a = c.args in
+    handed_on PlacementsDiffer _ _ c.map_err-2.ensures.cases _ c.in_err-map_err-2.was (PlacedWell a.object.now a.order.now a.counts a.len)
+    (λ i e. gives_6 a.object.now a.order.now a.len a.counts i (readable (goal.at.returns-in_err-map_err-2 c).After-check_placements) (sym c.check_placements.ensures ∙ e))
+    _ c.from_residual-in_err-map_err-2.ensures.1
+
+pub check_externals-requires : goal.check_externals-requires
+check_externals-requires c = let r = readable (goal.at.check_externals-requires c).After-check_placements in (sound_object _ r.header r.sections, r.reading_is)
+
+pub returns-in_err-map_err-3 : goal.returns-in_err-map_err-3
+returns-in_err-map_err-3 c =
+    let a = c.args in
+    handed_on WrongExternal _ _ c.map_err-3.ensures.cases _ c.in_err-map_err-3.was (PlacedWell a.object.now a.order.now a.counts a.len)
+    (λ k e. gives_7 a.object.now a.order.now a.len a.counts k (readable (goal.at.returns-in_err-map_err-3 c).After-check_placements)
+    (sym c.check_placements.ensures ∙ passed PlacementsDiffer _ _ c.map_err-2.ensures.cases _ c.in_ok-map_err-2.was) (sym c.check_externals.ensures ∙ e))
+    _ c.from_residual-in_err-map_err-3.ensures.1
+
+pub fill_addresses-filled-requires : goal.fill_addresses-filled-requires
+fill_addresses-filled-requires c = (c.requires.2, ap (λ k. reading k c.args.order.now) c.class_of-class.ensures ∙ c.requires.1)
+
+pub check_placing-requires : goal.check_placing-requires
+unfolding window_allowed length_allowed
+check_placing-requires c =
+    let f = readable (goal.at.check_placing-requires c).After-check_placements in
+    (sound_object _ f.header f.sections, leb-true _ _ (and_left (length_allowed c.args.len) _ f.window))
+
+-- checks 2 to 7 have passed, and check 8 is asked of the order's addresses
+named : (c : After-check_placing) → let s = (goal.at.After-check_placing c).Start in Named (S s) (O s) c.args.counts c.args.len
+named c =
+    record {
+      readable = readable (goal.at.After-check_placing c).After-check_placements;
+      placements = sym c.check_placements.ensures ∙ passed PlacementsDiffer _ _ c.map_err-2.ensures.cases _ c.in_ok-map_err-2.was;
+      externals = sym c.check_externals.ensures ∙ passed WrongExternal _ _ c.map_err-3.ensures.cases _ c.in_ok-map_err-3.was;
+    }
+
+array_is : (c : After-check_placing) → let s = (goal.at.After-check_placing c).Start in c.fill_addresses-filled.result ≡ addresses_for (S s) (O s)
+array_is c = c.fill_addresses-filled.ensures ∙ ap (λ k. addresses k (O (goal.at.After-check_placing c).Start)) c.class_of-class.ensures
+
+asked_placing : (c : After-check_placing) → let s = (goal.at.After-check_placing c).Start in
+    placing_check (S s) (addresses_for (S s) (O s)) (base_for (S s) (O s)) c.args.len ≡ placing_check (S s) c.fill_addresses-filled.result c.args.counts.base.0 c.args.len
+asked_placing c =
+    let s = (goal.at.After-check_placing c).Start in
+    ap (λ b. placing_check (S s) (addresses_for (S s) (O s)) b c.args.len) (base_is s)
+    ∙ ap (λ l. placing_check (S s) l c.args.counts.base.0 c.args.len) (sym (array_is c))
+
+pub returns : goal.returns
+returns c =
+    let a = c.args in
+    let p = (goal.at.returns c).After-check_placing in
+    ended Misplaced _ _ c.map_err-4.ensures.cases _ _ c.check_placing.ensures (PlacedWell a.object.now a.order.now a.counts a.len)
+    (λ handed f. (record { named = named p; placing = asked_placing p ∙ f.0 }, f.1 ∙ array_is p))
+    (λ i f. gives_8 a.object.now a.order.now a.len a.counts i (named p) (asked_placing p ∙ f))

@@ -1,0 +1,9 @@
+-- `calls_judge::judge_with` meets its contract.
+use native.Mathlib.Omega.{arith}
+use Rattle.placing_symbols.proofs.Laws.Arrays.{blank}
+use Rattle.calls_judge.proofs.judge_with.Goals as goal
+
+pub judge_by_values-requires : goal.judge_by_values-requires
+judge_by_values-requires g c =
+    let f = c.requires in
+    (f.0, f.1, f.2, blank c.args.object.now g.row.N f.3 (omega (arith, f.2.count, f.5)), f.6)
