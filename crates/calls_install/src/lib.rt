@@ -1,7 +1,7 @@
 // Install and rollback over lent bytes of object, order, image and journal.
 #![tactic(auto)]
 
-ghost use Rattle.std.specs.Prelude.{◌≡◌, true, ◌≤◌, length};
+ghost use Rattle.std.specs.Prelude.{◌≡◌, true, ◌^◌, ◌≤◌, ◌<◌, length};
 ghost use Rattle.elf_read.specs.Headers.{class_of};
 ghost use Rattle.elf_read.specs.Entries.{relocation_count};
 ghost use Rattle.elf_header.specs.Headers.{header_allowed};
@@ -9,12 +9,13 @@ ghost use Rattle.order_format.specs.Orders.{reading};
 ghost use Rattle.order_lookup.specs.Addresses.{addresses_for};
 ghost use Rattle.journal_format.specs.Journals.{sound};
 ghost use Rattle.journal_history.specs.Calls.{files};
+ghost use Rattle.journal_undo.specs.Answers.{answer_of as undo_answer_of};
 ghost use Rattle.calls_judgement.specs.Requires.{Placeable, Fitting};
 ghost use Rattle.calls_judge.specs.Answers.{answer_of};
 ghost use Rattle.calls_judge.specs.Judged.{Lent, Ready};
 ghost use Rattle.calls_demands.specs.Ours.{our_install, our_rollback};
 
-use calls_judge::{Answer, is_done, judge_relocations, judge_sections};
+use calls_judge::{Refusal, judge_relocations, judge_sections};
 use elf_check::MAX_RELOCATIONS;
 use elf_read::MAX_SECTIONS;
 use journal_undo::RollbackRefusal;
@@ -31,18 +32,18 @@ fn fit(
     sizes: &[u8],
     image: &mut [u8],
     journal: &mut [u8],
-) -> Answer
+) -> Result<(), Refusal>
     requires { Fitting object.now order.now counts (length image.old) × Ready object.now order.now addresses words.now sizes.now × (sound journal.old (length image.old) ≡ true) }
     ensures { record { answer = answer_of result; after = files image.new journal.new }
         ≡ our_install object.now order.now (files image.old journal.old) }
 {
     let span = placing_span::span_of(object, addresses, counts.base);
     if !journal_format::has_room(journal, span.size) {
-        return Answer::JournalFull;
+        return Err(Refusal::JournalFull);
     }
     journal_undo::save(image, journal, span);
     calls_lay::lay(object, order, counts, addresses, words, sizes, image);
-    Answer::Done
+    Ok(())
 }
 
 // How many relocations a small object and an object of middle size have at most. What the checks work out is kept in scratch arrays
@@ -51,101 +52,34 @@ const FEW_RELOCATIONS: usize = 256;
 
 const SOME_RELOCATIONS: usize = 4096;
 
-// Checks 9 to 15, and laying.
-fn judge_and_lay(
+// Checks 9 to 15, and laying, with scratch arrays for N relocations.
+fn with_scratch<const N: usize>(
     object: &[u8],
     order: &[u8],
     counts: OrderHeader,
     addresses: Addresses,
-    highs: &mut [u32],
-    words: &mut [u64],
-    sizes: &mut [u8],
     image: &mut [u8],
     journal: &mut [u8],
-) -> Answer
-    requires { Placeable object.now order.now counts (length image.old) × (addresses ≡ addresses_for object.now order.now) × Lent object.now highs.old words.old sizes.old
-        × (sound journal.old (length image.old) ≡ true) }
+) -> Result<(), Refusal>
+    requires { Placeable object.now order.now counts (length image.old) × (addresses ≡ addresses_for object.now order.now) × (relocation_count object.now ≤ N) × (N < 2 ^ 32) × (sound journal.old (length image.old) ≡ true) }
     ensures { record { answer = answer_of result; after = files image.new journal.new }
         ≡ our_install object.now order.now (files image.old journal.old) }
 {
-    let judged = judge_relocations(
+    let mut highs = [0u32; N];
+    let mut words = [0u64; N];
+    let mut sizes = [0u8; N];
+    let placed = judge_relocations(
         object,
         order,
         counts,
         image.len(),
         addresses,
-        highs,
-        words,
-        sizes,
-    );
-    let answer = judged.answer;
-    if !is_done(answer) {
-        return answer;
-    }
-    let placed = judged.addresses;
-    fit(object, order, counts, placed, words, sizes, image, journal)
-}
-
-// The same, with scratch arrays for a small object.
-fn with_few(
-    object: &[u8],
-    order: &[u8],
-    counts: OrderHeader,
-    addresses: Addresses,
-    image: &mut [u8],
-    journal: &mut [u8],
-) -> Answer
-    requires { Placeable object.now order.now counts (length image.old) × (addresses ≡ addresses_for object.now order.now) × (relocation_count object.now ≤ 256) × (sound journal.old (length image.old) ≡ true) }
-    ensures { record { answer = answer_of result; after = files image.new journal.new }
-        ≡ our_install object.now order.now (files image.old journal.old) }
-{
-    let mut highs = [0u32; FEW_RELOCATIONS];
-    let mut words = [0u64; FEW_RELOCATIONS];
-    let mut sizes = [0u8; FEW_RELOCATIONS];
-    judge_and_lay(
-        object, order, counts, addresses, &mut highs, &mut words, &mut sizes, image, journal,
-    )
-}
-
-// The same, with scratch arrays for an object of middle size.
-fn with_some(
-    object: &[u8],
-    order: &[u8],
-    counts: OrderHeader,
-    addresses: Addresses,
-    image: &mut [u8],
-    journal: &mut [u8],
-) -> Answer
-    requires { Placeable object.now order.now counts (length image.old) × (addresses ≡ addresses_for object.now order.now) × (relocation_count object.now ≤ 4096) × (sound journal.old (length image.old) ≡ true) }
-    ensures { record { answer = answer_of result; after = files image.new journal.new }
-        ≡ our_install object.now order.now (files image.old journal.old) }
-{
-    let mut highs = [0u32; SOME_RELOCATIONS];
-    let mut words = [0u64; SOME_RELOCATIONS];
-    let mut sizes = [0u8; SOME_RELOCATIONS];
-    judge_and_lay(
-        object, order, counts, addresses, &mut highs, &mut words, &mut sizes, image, journal,
-    )
-}
-
-// The same, with scratch arrays for as many relocations as an object may have.
-fn with_all(
-    object: &[u8],
-    order: &[u8],
-    counts: OrderHeader,
-    addresses: Addresses,
-    image: &mut [u8],
-    journal: &mut [u8],
-) -> Answer
-    requires { Placeable object.now order.now counts (length image.old) × (addresses ≡ addresses_for object.now order.now) × (sound journal.old (length image.old) ≡ true) }
-    ensures { record { answer = answer_of result; after = files image.new journal.new }
-        ≡ our_install object.now order.now (files image.old journal.old) }
-{
-    let mut highs = [0u32; MAX_RELOCATIONS];
-    let mut words = [0u64; MAX_RELOCATIONS];
-    let mut sizes = [0u8; MAX_RELOCATIONS];
-    judge_and_lay(
-        object, order, counts, addresses, &mut highs, &mut words, &mut sizes, image, journal,
+        &mut highs,
+        &mut words,
+        &mut sizes,
+    )?;
+    fit(
+        object, order, counts, placed, &words, &sizes, image, journal,
     )
 }
 
@@ -157,69 +91,59 @@ fn finish(
     addresses: Addresses,
     image: &mut [u8],
     journal: &mut [u8],
-) -> Answer
+) -> Result<(), Refusal>
     requires { Placeable object.now order.now counts (length image.old) × (addresses ≡ addresses_for object.now order.now) × (sound journal.old (length image.old) ≡ true) }
     ensures { record { answer = answer_of result; after = files image.new journal.new }
         ≡ our_install object.now order.now (files image.old journal.old) }
 {
     let n = elf_read::section_count(object);
     if elf_read::relocations_within(object, n, FEW_RELOCATIONS) {
-        return with_few(object, order, counts, addresses, image, journal);
+        return with_scratch::<FEW_RELOCATIONS>(object, order, counts, addresses, image, journal);
     }
     if elf_read::relocations_within(object, n, SOME_RELOCATIONS) {
-        return with_some(object, order, counts, addresses, image, journal);
+        return with_scratch::<SOME_RELOCATIONS>(object, order, counts, addresses, image, journal);
     }
-    with_all(object, order, counts, addresses, image, journal)
+    with_scratch::<MAX_RELOCATIONS>(object, order, counts, addresses, image, journal)
 }
 
-// Check 3, checks 5 to 15, and laying.
-fn judge_and_fit(
+// Installs an object by an order. Nothing is written before the last check has passed. The header is checked first, because the
+// object's class says how the order is read.
+pub fn install(
     object: &[u8],
     order: &[u8],
-    counts: OrderHeader,
     image: &mut [u8],
     journal: &mut [u8],
-) -> Answer
-    requires { (header_allowed object.now ≡ true) × (reading (class_of object.now) order.now ≡ Some counts) × (sound journal.old (length image.old) ≡ true) }
-    ensures { record { answer = answer_of result; after = files image.new journal.new }
-        ≡ our_install object.now order.now (files image.old journal.old) }
-{
-    let judged = judge_sections(object, order, counts, image.len(), [0u64; MAX_SECTIONS]);
-    let answer = judged.answer;
-    if !is_done(answer) {
-        return answer;
-    }
-    let addresses = judged.addresses;
-    finish(object, order, counts, addresses, image, journal)
-}
-
-// Installs an object by an order (document 01: a fit). Nothing is written before the last check has passed. The header is checked
-// first, because the object's class says how the order is read.
-pub fn install(object: &[u8], order: &[u8], image: &mut [u8], journal: &mut [u8]) -> Answer
+) -> Result<(), Refusal>
     ensures { record { answer = answer_of result; after = files image.new journal.new }
         ≡ our_install object.now order.now (files image.old journal.old) }
 {
     if !journal_format::is_sound(journal, image.len()) {
-        return Answer::JournalUnsound;
+        return Err(Refusal::JournalUnsound);
     }
     if !elf_header::check_header(object) {
-        return Answer::BadHeader;
+        return Err(Refusal::BadHeader);
     }
-    match order_format::read_order(elf_read::class_of(object), order) {
-        None => Answer::OrderMalformed,
-        Some(counts) => judge_and_fit(object, order, counts, image, journal),
+    let class = elf_read::class_of(object);
+    let counts = order_format::read_order(class, order).ok_or(Refusal::OrderMalformed)?;
+    let addresses = judge_sections(object, order, counts, image.len(), [0u64; MAX_SECTIONS])?;
+    finish(object, order, counts, addresses, image, journal)
+}
+
+// The refusal of a call for that of a rollback.
+fn refusal_of(refusal: RollbackRefusal) -> Refusal
+    ensures { answer_of (Err result) ≡ undo_answer_of (Err refusal) }
+{
+    match refusal {
+        RollbackRefusal::JournalUnsound => Refusal::JournalUnsound,
+        RollbackRefusal::ImageTooLong => Refusal::WindowBroken,
+        RollbackRefusal::NothingStands => Refusal::NothingStands,
     }
 }
 
-// Undoes the newest standing install (document 01: a taking-back).
-pub fn rollback(image: &mut [u8], journal: &mut [u8]) -> Answer
+// Undoes the newest standing install.
+pub fn rollback(image: &mut [u8], journal: &mut [u8]) -> Result<(), Refusal>
     ensures { record { answer = answer_of result; after = files image.new journal.new }
         ≡ our_rollback (files image.old journal.old) }
 {
-    match journal_undo::rollback(image, journal) {
-        Ok(()) => Answer::Done,
-        Err(RollbackRefusal::JournalUnsound) => Answer::JournalUnsound,
-        Err(RollbackRefusal::ImageTooLong) => Answer::WindowBroken,
-        Err(RollbackRefusal::NothingStands) => Answer::NothingStands,
-    }
+    journal_undo::rollback(image, journal).map_err(refusal_of)
 }

@@ -9,6 +9,7 @@ use Rattle.elf_read.specs.Sections.{relocations_below}
 use Rattle.elf_read.specs.Entries.{relocation_count}
 use Rattle.elf_check.specs.Requires.{SoundObject}
 use Rattle.elf_check.proofs.Laws.Objects.{sound_object}
+use Rattle.elf_check.proofs.Laws.Bounds.{relocations_few}
 use Rattle.calls_install.proofs.finish.Goals as goal
 use Rattle.calls_install.proofs.finish.Goals.{After-section_count-n, Start}
 
@@ -28,14 +29,18 @@ section_count-n-requires c = (is_sound (goal.at.section_count-n-requires c).Star
 pub relocations_within-requires : goal.relocations_within-requires
 relocations_within-requires c = ((is_sound (goal.at.relocations_within-requires c).Start).table, omega (arith, c.section_count-n.ensures))
 
-pub with_few-requires : goal.with_few-requires
-with_few-requires c =
-    (c.requires.0, c.requires.1, all_of (goal.at.with_few-requires c).After-section_count-n 256 _ c.relocations_within.ensures c.if-relocations_within.true, c.requires.2)
+pub with_scratch-requires : goal.with_scratch-requires
+with_scratch-requires c =
+    (c.requires.0, c.requires.1, all_of (goal.at.with_scratch-requires c).After-section_count-n 256 _ c.relocations_within.ensures c.if-relocations_within.true, omega arith, c.requires.2)
 
 pub relocations_within-requires-2 : goal.relocations_within-requires-2
 relocations_within-requires-2 c =
     ((is_sound (goal.at.relocations_within-requires-2 c).Start).table, omega (arith, c.section_count-n.ensures))
 
-pub with_some-requires : goal.with_some-requires
-with_some-requires c =
-    (c.requires.0, c.requires.1, all_of (goal.at.with_some-requires c).After-section_count-n 4096 _ c.relocations_within-2.ensures c.if-relocations_within-2.true, c.requires.2)
+pub with_scratch-requires-then-relocations_within-2 : goal.with_scratch-requires-then-relocations_within-2
+with_scratch-requires-then-relocations_within-2 c =
+    (c.requires.0, c.requires.1, all_of (goal.at.with_scratch-requires-then-relocations_within-2 c).After-section_count-n 4096 _ c.relocations_within-2.ensures c.if-relocations_within-2.true, omega arith, c.requires.2)
+
+pub with_scratch-requires-2 : goal.with_scratch-requires-2
+with_scratch-requires-2 c =
+    (c.requires.0, c.requires.1, relocations_few _ (is_sound (goal.at.with_scratch-requires-2 c).Start), omega arith, c.requires.2)
