@@ -10,7 +10,7 @@ ghost use Rattle.calls_judgement.specs.Requires.{Placeable};
 ghost use Rattle.tests_relocations.specs.Requires.{Layable};
 
 use super::lines;
-use calls_judge::Answer;
+use calls_judge::Refusal;
 use elf_check::MAX_RELOCATIONS;
 use elf_header::MAX_OBJECT;
 use elf_read::MAX_SECTIONS;
@@ -23,7 +23,7 @@ pub fn line(out: &mut impl Write, object: &[u8], order: &[u8], len: usize) -> io
     if elf_header::check_header(object) {
         read(out, object, order, len)?;
     } else {
-        write(out, Answer::BadHeader)?;
+        write(out, Err(Refusal::BadHeader))?;
     }
     tests_harness::end(out)
 }
@@ -33,12 +33,12 @@ fn read(out: &mut impl Write, object: &[u8], order: &[u8], len: usize) -> io::Re
     requires { header_allowed object.now ≡ true }
 {
     match order_format::read_order(elf_read::class_of(object), order) {
-        None => write(out, Answer::OrderMalformed),
+        None => write(out, Err(Refusal::OrderMalformed)),
         Some(counts) => judged(out, object, order, counts, len),
     }
 }
 
-fn write(out: &mut impl Write, answer: Answer) -> io::Result<()> {
+fn write(out: &mut impl Write, answer: Result<(), Refusal>) -> io::Result<()> {
     let code = calls_judge::code_of(answer);
     tests_harness::answer(out, code % 256, code / 4294967296)?;
     let reason = code / 256 % 256;
@@ -54,13 +54,9 @@ fn judged(
 ) -> io::Result<()>
     requires { (header_allowed object.now ≡ true) × (reading (class_of object.now) order.now ≡ Some counts) }
 {
-    let placed = calls_judge::judge_sections(object, order, counts, len, [0u64; MAX_SECTIONS]);
-    let answer = placed.answer;
-    if calls_judge::is_done(answer) {
-        let array = placed.addresses;
-        relocations(out, object, order, counts, len, array)
-    } else {
-        write(out, answer)
+    match calls_judge::judge_sections(object, order, counts, len, [0u64; MAX_SECTIONS]) {
+        Ok(array) => relocations(out, object, order, counts, len, array),
+        Err(refusal) => write(out, Err(refusal)),
     }
 }
 
@@ -78,16 +74,15 @@ fn relocations(
     let mut highs = [0u32; MAX_RELOCATIONS];
     let mut words = [0u64; MAX_RELOCATIONS];
     let mut sizes = [0u8; MAX_RELOCATIONS];
-    let judged = calls_judge::judge_relocations(
+    match calls_judge::judge_relocations(
         object, order, counts, len, array, &mut highs, &mut words, &mut sizes,
-    );
-    let answer = judged.answer;
-    write(out, answer)?;
-    if calls_judge::is_done(answer) {
-        let known = judged.addresses;
-        passed(out, object, order, known, &words, &sizes)?;
+    ) {
+        Ok(array) => {
+            write(out, Ok(()))?;
+            passed(out, object, order, array, &words, &sizes)
+        }
+        Err(refusal) => write(out, Err(refusal)),
     }
-    Ok(())
 }
 
 // The loaded sections, one after the other in the same room. Each finds there what those before it left.
