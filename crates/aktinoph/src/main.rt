@@ -13,7 +13,7 @@ ghost use Rattle.std.specs.Prelude.{◌<◌, ◌≤◌, All, MatchOption};
 
 use program_files::{File, MAX_FILE, ROOM, Told, argument, fail, read};
 use program_replace::replace_both;
-use program_text::{Command, LINE};
+use program_text::Command;
 use std::env::FillError;
 use std::io::Write;
 use std::rt::Env;
@@ -128,17 +128,11 @@ fn keep(
     if code == DONE {
         replace_both(rt, first, new, second, other)?;
     }
-    print_answer(rt, code).inspect_err(|_| {
+    print(rt, program_text::line_of(code).as_bytes()).inspect_err(|_| {
         if code == DONE {
             program_files::tell(rt, b"the call is done, image and ledger are new\n");
         }
     })
-}
-
-fn print_answer(rt: HostRuntime, code: u64) -> Result<(), Told> {
-    let mut line = [0u8; LINE];
-    let n = program_text::line_of(code, &mut line);
-    print(rt, &line[..n])
 }
 
 fn print(rt: HostRuntime, line: &[u8]) -> Result<(), Told> {

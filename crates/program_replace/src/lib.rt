@@ -1,11 +1,12 @@
 // Files that are replaced whole by rename, so that a failed write changes nothing.
 #![tactic(auto)]
 
-ghost use Rattle.std.specs.Prelude.{◌+◌, ◌≤◌, length};
+ghost use Rattle.std.specs.Prelude.{◌≤◌, length};
 ghost use Rattle.io.specs.Counts.{IsPrefixLen};
 
 use program_files::{File, ROOM, Told, argument, fail, look, open_read, read, say, text};
 use program_modes::{Seen, is_same};
+use program_text::{Text, beside};
 use std::fmt::InlineText;
 use std::fs::{OpenOptions, Permissions};
 use std::io::{ErrorKind, Write};
@@ -24,46 +25,34 @@ const EINVAL: i32 = 22;
 
 const EOPNOTSUPP: i32 = 95;
 
-// The longest path that is replaced.
+// Room for the path of a file that is replaced.
 const PATH: usize = 4096;
 
 // Room for the name of a new file: a path, a dot and six letters or digits.
 const NAME: usize = 4103;
 
-// A new file, by its name. That begins with the path of the file that is to be replaced.
+// A new file, and the path of the file that it is to replace.
 #[derive(Drop)]
 struct NewFile {
-    name: [u8; NAME],
-    len: usize,
-    ghost fits: { len + 7 ≤ 4103 },
+    name: Text<NAME>,
+    path: Text<PATH>,
 }
 
 impl NewFile {
     fn name(&self) -> &[u8] {
-        &self.name[..self.len + 7]
+        self.name.as_bytes()
     }
 
-    // The path of the file that is to be replaced.
     fn path(&self) -> &[u8] {
-        &self.name[..self.len]
+        self.path.as_bytes()
     }
 }
 
 // A file that is to be replaced: its path, and what was seen of it.
 #[derive(Drop)]
 struct Target {
-    path: [u8; PATH],
-    len: usize,
+    path: Text<PATH>,
     seen: Seen,
-    ghost fits: { len ≤ 4096 },
-}
-
-impl Target {
-    fn path(&self) -> &[u8]
-        ensures { length result.now ≤ 4096 }
-    {
-        &self.path[..self.len]
-    }
 }
 
 // Replaces the first file, then the second. Both new files are written before either takes its name. One that has taken
@@ -222,29 +211,29 @@ fn write_beside(rt: HostRuntime, i: usize, bytes: &[u8]) -> Result<NewFile, Told
     let mut given = [0u8; PATH];
     let n = argument(rt, i, &mut given).unwrap_or(0);
     let given = &given[..n];
-    let target = find_target(rt, given)?;
-    let (mut file, new) = create_beside(rt, target.path()).map_err(|error| fail(rt, given, error))?;
-    store(&mut file, target.seen, bytes).map_err(|error| {
+    let Target { path, seen } = find_target(rt, given)?;
+    let (mut file, name) = create_beside(rt, path.as_bytes()).map_err(|error| fail(
+        rt, given, error,
+    ))?;
+    store(&mut file, seen, bytes).map_err(|error| {
         let told = fail(rt, given, error);
-        unlink(rt, new.name());
+        unlink(rt, name.as_bytes());
         told
     })?;
-    Ok(new)
+    Ok(NewFile { name, path })
 }
 
 // How many names are tried for a new file, as by the C library's `mkstemp`.
 const ATTEMPTS: usize = 238328;
 
 // Makes a file that only its owner may open, under a new name: the path, a dot and six letters or digits.
-fn create_beside(rt: HostRuntime, path: &[u8]) -> io::Result<(fs::File, NewFile)>
+fn create_beside(rt: HostRuntime, path: &[u8]) -> io::Result<(fs::File, Text<NAME>)>
     requires { length path.now ≤ 4096 }
 {
-    let mut name = [0u8; NAME];
-    let len = path.len();
     for _ in 0..ATTEMPTS {
-        let end = program_text::beside(path, tag(rt)?, &mut name);
-        match create_private(rt, &name[..end]) {
-            Ok(file) => return Ok((file, NewFile { name, len })),
+        let name = beside(path, tag(rt)?);
+        match create_private(rt, name.as_bytes()) {
+            Ok(file) => return Ok((file, name)),
             Err(error) if error.kind() == ErrorKind::AlreadyExists => {}
             Err(error) => return Err(error),
         }
@@ -311,12 +300,14 @@ fn own_path(rt: HostRuntime, link: &str, seen: Option<Seen>) -> io::Result<Optio
 
 // The file at this path, if it is still the one that was seen.
 fn target_at(rt: HostRuntime, own: &[u8], seen: Option<Seen>) -> Option<Target> {
-    let mut path = [0u8; PATH];
-    let len = own.len();
-    path.get_mut(..len)?.copy_from_slice(own);
+    if own.len() > PATH {
+        return None;
+    }
+    let mut path = Text::new();
+    path.push(own);
     let now = look(rt, own)?;
     let seen = seen?;
-    is_same(now, seen).then_some(Target { path, len, seen })
+    is_same(now, seen).then_some(Target { path, seen })
 }
 
 // Whether the user may write a plain file that is open, or the error of a user who may not. `std` has no call that only

@@ -1,5 +1,5 @@
 -- The line of an answer, in ASCII.
-use Rattle.std.specs.Prelude.{ℕ, zero, suc, ◌+◌, ◌/◌, ◌%◌, ◌≡◌, cond, List, [], ◌∷◌, ◌++◌, length, take, ltb}
+use Rattle.std.specs.Prelude.{ℕ, zero, suc, ◌/◌, ◌%◌, cond, List, [], ◌∷◌, ◌++◌, ltb}
 use Rattle.io.specs.Digits.{hex_digit_ascii}
 use Rattle.plan_pieces.specs.Answers.{Answer}
 
@@ -15,8 +15,3 @@ decimal = decimal_in 20
 -- "number and place in decimal, a space between, then a line end". The reason is written third
 unfoldable pub line : Answer → List ℕ
 line a = decimal a.number ++ 32 ∷ [] ++ decimal a.place ++ 32 ∷ [] ++ decimal a.reason ++ 10 ∷ []
-
--- the bytes follow the first `at` bytes of what was there before, and end at r
-pub record Appended (before : List ℕ) (at : ℕ) (bytes : List ℕ) (r : ℕ) (after : List ℕ) : Type 0 where
-  pub end : r ≡ at + length bytes
-  pub text : take r after ≡ take at before ++ bytes

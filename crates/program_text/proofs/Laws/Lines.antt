@@ -1,5 +1,5 @@
--- Laws of appended bytes, of decimals and of an answer's line.
-use mathlib.Core.Path.{◌≡◌, refl, ap, ◌∙◌}
+-- Laws of decimals and of an answer's line.
+use mathlib.Core.Path.{◌≡◌, refl, ap}
 use Prim.Native.Nat.{ℕ, zero, suc, ◌*◌, ◌/◌, ◌%◌, ◌^◌, ◌-◌, ◌≤◌, ◌<◌}
 use native.Mathlib.Omega.{arith}
 use native.Mathlib.Numerals.{unary_clauses}
@@ -7,21 +7,10 @@ use native.Mathlib.Nat.{mod-eq_of_lt, pow-suc, pow-le-pow_right, div-lt_iff_lt-m
 use mathlib.Core.Bool.{Bool, true, false}
 use lib.Dec.{leb}
 use mathlib.Core.List.{List, [], ◌∷◌, ◌++◌}
-use lib.ListN.{take}
 use borrow.Author.Tests.{lt-ltb, le-ltb, leb-true, leb-false}
 use Rattle.io.specs.Digits.{hex_digit_ascii, last_digits, IsDigitCount}
 use Rattle.plan_pieces.specs.Answers.{Answer}
-use Rattle.program_text.specs.Lines.{Appended, decimal_in, decimal, line}
-
--- ---- appended bytes
-
--- two pieces from the start
-pub two : {s₀ s₁ s₂ a b : List ℕ} {n r : ℕ} → Appended s₀ 0 a n s₁ → Appended s₁ n b r s₂ → take r s₂ ≡ a ++ b
-two {b = b} p q = q.text ∙ ap (λ (l : List ℕ). l ++ b) p.text
-
--- appended bytes may be replaced by an equal text
-pub appended_as : {before a b after : List ℕ} {at r : ℕ} → a ≡ b → Appended before at a r after → Appended before at b r after
-appended_as e p = rw (← e) p
+use Rattle.program_text.specs.Lines.{decimal_in, decimal, line}
 
 -- ---- decimals
 
@@ -53,10 +42,8 @@ fewest_most n k h f = go (leb k 20) refl
 -- ---- the line of an answer
 
 -- six pieces, each after the one before
-pub line_of : (a : Answer) {s₀ s₁ s₂ s₃ s₄ s₅ s₆ : List ℕ} {r₁ r₂ r₃ r₄ r₅ r₆ : ℕ}
-    → Appended s₀ 0 (decimal a.number) r₁ s₁ → Appended s₁ r₁ (32 ∷ []) r₂ s₂
-    → Appended s₂ r₂ (decimal a.place) r₃ s₃ → Appended s₃ r₃ (32 ∷ []) r₄ s₄
-    → Appended s₄ r₄ (decimal a.reason) r₅ s₅ → Appended s₅ r₅ (10 ∷ []) r₆ s₆
-    → take r₆ s₆ ≡ line a
+pub line_of : (a : Answer) {s₀ s₁ s₂ s₃ s₄ s₅ s₆ : List ℕ}
+    → s₀ ≡ [] → s₁ ≡ s₀ ++ decimal a.number → s₂ ≡ s₁ ++ 32 ∷ [] → s₃ ≡ s₂ ++ decimal a.place → s₄ ≡ s₃ ++ 32 ∷ []
+    → s₅ ≡ s₄ ++ decimal a.reason → s₆ ≡ s₅ ++ 10 ∷ [] → s₆ ≡ line a
 unfolding line
-line_of a p q r t u v = rw (v.text, u.text, t.text, r.text, q.text, p.text)
+line_of a e p q r t u v = rw (v, u, t, r, q, p, e)

@@ -3,13 +3,14 @@ use Rattle.plan_pieces.specs.Answers.{says_why}
 use Rattle.program_text.proofs.Laws.Lines.{line_of}
 use Rattle.program_text.proofs.answer_line.Goals as goal
 
-pub returns-clause-out_after : goal.returns-clause-out_after
-returns-clause-out_after c =
+pub returns : goal.returns
+returns c =
     line_of
     (says_why c.args.number c.args.place c.args.reason)
-    c.append_decimal-a.ensures.appended
-    c.append-b.ensures.appended
-    c.append_decimal-c.ensures.appended
-    c.append-d.ensures.appended
-    c.append_decimal-e.ensures.appended
-    c.append.ensures.appended
+    c.new-text.ensures
+    c.push_decimal.ensures.new
+    c.push.ensures
+    c.push_decimal-2.ensures.new
+    c.push-2.ensures
+    c.push_decimal-3.ensures.new
+    c.push-3.ensures
