@@ -204,7 +204,7 @@ pub fn is_loaded(h: Section) -> bool
     is_allocated(h) & (h.kind != NOBITS)
 }
 
-// The lowest SYMTAB, or the number of sections where there is none.
+// The lowest SYMTAB, or the number of sections where there is none. It is no Option, since the definition, which checks 5 to 14 cite, is a number.
 pub fn symbol_table(object: &[u8]) -> usize
     requires { TableInside object.now }
     ensures { result ≡ symbol_table object.now }
