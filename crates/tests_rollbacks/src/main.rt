@@ -60,14 +60,12 @@ fn case(
     let start = number(input)?;
     let size = number(input)?;
     let span = Span { start, size };
-    if images.len() < m {
+    let Some(image) = images.get_mut(..m) else {
         return Ok(());
-    }
-    if journals.len() < n {
+    };
+    let Some(book) = journals.get_mut(..n) else {
         return Ok(());
-    }
-    let image = &mut images[..m];
-    let book = &mut journals[..n];
+    };
     if kind < 2 {
         fill(input, image, first)?;
         fill(input, book, second)?;
@@ -96,10 +94,10 @@ fn fill(input: &mut impl Read, s: &mut [u8], given: usize) -> io::Result<()> {
     for (i, b) in s.iter_mut().enumerate() {
         *b = (i % 251) as u8;
     }
-    if given <= s.len() {
-        tests_harness::read_full(input, &mut s[..given])?;
+    match s.get_mut(..given) {
+        Some(part) => tests_harness::read_full(input, part),
+        None => Ok(()),
     }
-    Ok(())
 }
 
 // The number of a rollback's answer.
