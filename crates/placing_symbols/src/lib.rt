@@ -113,6 +113,7 @@ pub fn symbols_of(object: &[u8]) -> Symbols
     ensures { SymbolsOf object.now result }
 {
     let count = elf_read::symbol_count(object);
+    // Section 0 stands for the table that is not there: an Option would make each lookup ask whether it is.
     if count == 0 {
         return Symbols {
             table: elf_read::read_section(object, 0),
@@ -127,6 +128,7 @@ pub fn symbols_of(object: &[u8]) -> Symbols
 
 // Works S out for every symbol, in one way through the table and through the order's external values. `addresses` is passed by
 // value and handed back. The states past the table stay as they come, which says that they are past it.
+// Values and states are two arrays: one array of Results would need 57 KB more stack, which the C header does not allow.
 pub fn symbol_values(
     object: &[u8],
     order: &[u8],
