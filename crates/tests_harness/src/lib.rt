@@ -39,12 +39,7 @@ where
     for _ in 0..first.a {
         let command = next(&mut input)?;
         if command.letter == b's' {
-            store(
-                &mut input,
-                &mut space,
-                command.a as usize,
-                command.b as usize,
-            )?;
+            store(&mut input, &mut space, command)?;
         } else {
             ask(&mut out, &space, command)?;
         }
@@ -63,7 +58,7 @@ pub fn pair(space: &[u8], command: Command) -> Option<(&[u8], &[u8])> {
 }
 
 // The next command, or zeros if the input has ended.
-pub fn next(input: &mut impl Read) -> io::Result<Command> {
+fn next(input: &mut impl Read) -> io::Result<Command> {
     let mut text = [0u8; 13];
     read_full(input, &mut text)?;
     Ok(parse(&text))
@@ -88,8 +83,9 @@ pub fn read_full(input: &mut impl Read, buf: &mut [u8]) -> io::Result<()> {
 }
 
 // Stores the bytes that follow. A command that would write outside the space does nothing.
-pub fn store(input: &mut impl Read, space: &mut [u8], at: usize, count: usize) -> io::Result<()> {
-    match space.get_mut(at..at.saturating_add(count)) {
+fn store(input: &mut impl Read, space: &mut [u8], command: Command) -> io::Result<()> {
+    let at = command.a as usize;
+    match space.get_mut(at..at + command.b as usize) {
         Some(part) => read_full(input, part),
         None => Ok(()),
     }
