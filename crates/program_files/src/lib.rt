@@ -33,7 +33,7 @@ const ENAMETOOLONG: i32 = 36;
 const EILSEQ: i32 = 84;
 
 // A file as it was read: the number of its argument, how many bytes of it were read, at most one more than the limit, and
-// what was seen of it before.
+// what was seen of it before. The bytes stay apart, in the caller's buffer, since a call changes them.
 #[derive(Clone, Copy)]
 pub struct File {
     pub at: usize,

@@ -30,7 +30,7 @@ pub fn asked(word: &[u8], count: usize) -> Command
     }
 }
 
-// At most N bytes, put behind each other.
+// At most N bytes, put behind each other. std's `InlineText` does not promise that it keeps what fits.
 #[derive(Drop)]
 pub struct Text<const N: usize> {
     bytes: [u8; N],
