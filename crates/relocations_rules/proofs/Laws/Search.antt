@@ -135,3 +135,36 @@ kept_rules object order addresses x j e =
     go true e₁ true e₂ true e₃ true e₄ false e₅ r e₆ k = other OutOfReach k
     go true e₁ true e₂ true e₃ true e₄ true e₅ false e₆ k = other OffBoundary k
     go true e₁ true e₂ true e₃ true e₄ true e₅ true e₆ k = record { shape = e₁; symbol = e₂; form = e₃; pair = e₄; distance = e₅; boundary = e₆ }
+
+-- a relocation that breaks check 10 breaks it for the reason of its symbol
+pub symbol_finding : (object order addresses : List ℕ) (x : Site) (j : ℕ) (f : Finding) → finding object order addresses x j ≡ Some f → number f ≡ 10
+    → f ≡ BadSymbol (why (value_at object order addresses x j))
+unfolding finding first_broken
+symbol_finding object order addresses x j f e n =
+    go (shape_well object x j) (symbol_well object x j v) (form_well object x j) (pair_well object x j) (distance_well (class_of object) (has_rvc object) d t (P object x j)) (boundary_well d (P object x j) (A object x j)) e
+  where
+    v : SymbolValue
+    v = value_at object order addresses x j
+
+    d : Decision
+    d = decision_at object x j
+
+    t : ℕ
+    t = target_at object order addresses x j
+
+    another : (g : Finding) → Some g ≡ Some f → (number g ≡ 10 → ⊥) → f ≡ BadSymbol (why v)
+    another g k other =
+        let same : g ≡ f = cc in
+        absurd (other (ap number same ∙ n))
+
+    go : (a b c p q r : Bool) → cond a (cond b (cond c (cond p (cond q (cond r None (Some OffBoundary)) (Some OutOfReach)) (Some NoPair)) (Some BadForm)) (Some (BadSymbol (why v)))) (Some BadShape) ≡ Some f
+        → f ≡ BadSymbol (why v)
+    go false b c p q r k = another BadShape k (λ h. absurd (omega arith))
+    go true false c p q r k = cc
+    go true true false p q r k = another BadForm k (λ h. absurd (omega arith))
+    go true true true false q r k = another NoPair k (λ h. absurd (omega arith))
+    go true true true true false r k = another OutOfReach k (λ h. absurd (omega arith))
+    go true true true true true false k = another OffBoundary k (λ h. absurd (omega arith))
+    go true true true true true true k =
+        let z : ◌≡◌ {A = ℕ} 0 1 = cc in
+        absurd (omega arith)
