@@ -102,12 +102,10 @@ fn lay_all(
     ensures { image.new ≡ overwritten image.old (plan_of object.now order.now) }
 {
     let n = elf_read::section_count(object);
-    let mut t: usize = 0;
-    while t < n {
+    for t in 0..n {
         lay_one(
             object, order, counts, addresses, words, sizes, relas, starts, t, image,
         );
-        t += 1;
     }
 }
 

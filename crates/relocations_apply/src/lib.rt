@@ -51,20 +51,9 @@ fn apply_all(object: &[u8], site: Site, words: &[u64], sizes: &[u8], base: usize
 {
     let class = elf_read::class_of(object);
     let n = elf_read::relocation_entries(object, site.rela);
-    let mut j: usize = 0;
-    while j < n {
+    for j in 0..n {
         store_one(class, object, site, words, sizes, base + j, j, part);
-        j += 1;
     }
-}
-
-// Copies bytes into a part of the same length.
-fn copy(from: &[u8], part: &mut [u8])
-    requires { length from.now ≡ length part.old }
-    ensures { part.new ≡ from.now }
-{
-    let n = from.len();
-    numbers_bytes::copy(part, 0, from, 0, n);
 }
 
 // Lists the RELA section of each section, in one way through the sections: `relas` gets one more than its number, where there was 0, and
@@ -75,10 +64,8 @@ pub fn index_relas(object: &[u8], relas: &mut [u32], starts: &mut [u32])
 {
     let n = elf_read::section_count(object);
     let mut number: usize = 0;
-    let mut i: usize = 0;
-    'next: while i < n {
+    'next: for i in 0..n {
         if !elf_read::is_counting_rela(object, i) {
-            i += 1;
             continue 'next;
         }
         let h = elf_read::read_section(object, i);
@@ -86,7 +73,6 @@ pub fn index_relas(object: &[u8], relas: &mut [u32], starts: &mut [u32])
         relas[t] = i as u32 + 1;
         starts[t] = number as u32;
         number += elf_read::relocation_entries(object, h);
-        i += 1;
     }
 }
 
@@ -109,7 +95,7 @@ pub fn lay_section(
     ensures { part.new ≡ relocated object.now order.now addresses.now t }
 {
     let h = elf_read::read_section(object, t);
-    copy(elf_read::section_bytes(object, h), part);
+    part.copy_from_slice(elf_read::section_bytes(object, h));
     let mark = relas[t] as usize;
     if mark == 0 {
         return;

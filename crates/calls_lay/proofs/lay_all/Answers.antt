@@ -27,17 +27,17 @@ pub section_count-n-requires : goal.section_count-n-requires
 section_count-n-requires c = let s = (goal.at.section_count-n-requires c).Start in (is_sound (S s) (O s) c.args.counts (length (Image s)) c.requires.0).table.header
 
 pub loop-t-init : goal.loop-t-init
-loop-t-init c = let s = (goal.at.loop-t-init c).Start in (omega arith, refl, sym (laid_none (S s) (O s) (Image s)))
+loop-t-init c = let s = (goal.at.loop-t-init c).Start in (refl, sym (laid_none (S s) (O s) (Image s)))
 
 pub lay_one-requires : goal.lay_one-requires
 lay_one-requires c =
     let s = (goal.at.lay_one-requires c).Start in
-    (subst (Fitting (S s) (O s) c.args.counts) (sym c.loop-t.invariant.1) c.requires.0, c.requires.1, c.requires.2, omega (arith, count_is (goal.at.lay_one-requires c).After-section_count-n), c.requires.3, c.requires.4)
+    (subst (Fitting (S s) (O s) c.args.counts) (sym c.loop-t.invariant.0) c.requires.0, c.requires.1, c.requires.2, omega (arith, c.loop-t-test.true, count_is (goal.at.lay_one-requires c).After-section_count-n), c.requires.3, c.requires.4)
 
 pub loop-t-preserved : goal.loop-t-preserved
 loop-t-preserved c =
     let s = (goal.at.loop-t-preserved c).Start in
-    (omega arith, omega arith, rw add-one (c.lay_one.ensures ∙ ap (with_section (S s) (O s) c.loop-t.t) c.loop-t.invariant.2 ∙ sym (laid_more (S s) (O s) (Image s) c.loop-t.t)))
+    (omega arith, rw add-one (c.lay_one.ensures ∙ ap (with_section (S s) (O s) c.loop-t.t) c.loop-t.invariant.1 ∙ sym (laid_more (S s) (O s) (Image s) c.loop-t.t)))
 
 pub shape_of-image : goal.shape_of-image
 shape_of-image c = omega arith
@@ -45,5 +45,5 @@ shape_of-image c = omega arith
 pub returns : goal.returns
 returns c =
     let s = (goal.at.returns c).Start in
-    let stop : c.loop-t.t ≡ section_count (S s) = omega (arith, count_is (goal.at.returns c).After-section_count-n) in
-    c.loop-t.invariant.2 ∙ ap (laid_below (S s) (O s) (Image s)) stop ∙ laid_all (S s) (O s) (Image s)
+    let stop : c.loop-t.t ≡ section_count (S s) = omega (arith, c.loop-t-test.false, c.loop-t.auto.t-end, count_is (goal.at.returns c).After-section_count-n) in
+    c.loop-t.invariant.1 ∙ ap (laid_below (S s) (O s) (Image s)) stop ∙ laid_all (S s) (O s) (Image s)

@@ -1,12 +1,8 @@
 -- `calls_lay::lay_all` meets its contract. The invariant: the sections below `t` are laid.
 use mathlib.Core.Path.{◌≡◌}
-use Prim.Native.Nat.{◌-◌, ◌≤◌}
 use lib.ListN.{length}
 use Rattle.calls_judgement.proofs.Laws.Laying.{laid_below}
 use Rattle.calls_lay.proofs.lay_all.Given as goal
 
 abbrev pub invariant-loop-t : goal.invariant-loop-t
-invariant-loop-t l = (l.t ≤ l.n) × (length l.image ≡ length l.initial.image) × (l.image ≡ laid_below l.object l.order l.initial.image l.t)
-
-abbrev pub decreases-loop-t : goal.decreases-loop-t
-decreases-loop-t l = l.n - l.t
+invariant-loop-t l = (length l.image ≡ length l.initial.image) × (l.image ≡ laid_below l.object l.order l.initial.image l.t)

@@ -22,7 +22,7 @@ class_of-class-requires c = header_there _ c.requires.0
 
 pub loop-j-init : goal.loop-j-init
 unfolding after
-loop-j-init c = (omega arith, refl, λ o a w. c.requires.5)
+loop-j-init c = (refl, λ o a w. c.requires.5)
 
 pub overflow_add-base : goal.overflow_add-base
 overflow_add-base c = let f = c.requires in omega (arith, there (goal.at.overflow_add-base c).In-loop-j, f.1, f.3)
@@ -31,7 +31,7 @@ pub store_one-requires : goal.store_one-requires
 store_one-requires c =
     let f = c.requires in
     let now = c.loop-j in (
-      subst (Storable c.args.object.now c.args.site now.j (get_or c.args.sizes.now (c.args.base + now.j) 0)) (sym now.invariant.1) (f.4 now.j (there (goal.at.store_one-requires c).In-loop-j)),
+      subst (Storable c.args.object.now c.args.site now.j (get_or c.args.sizes.now (c.args.base + now.j) 0)) (sym now.invariant.0) (f.4 now.j (there (goal.at.store_one-requires c).In-loop-j)),
       omega (arith, there (goal.at.store_one-requires c).In-loop-j, f.1),
       omega (arith, there (goal.at.store_one-requires c).In-loop-j, f.2),
       f.3,
@@ -42,14 +42,13 @@ pub loop-j-preserved : goal.loop-j-preserved
 loop-j-preserved c =
     let a = c.args in
     let now = c.loop-j in (
-      omega (arith, c.loop-j-test.true),
-      ap length c.store_one.ensures ∙ length-sets now.part (offset a.object.now a.site now.j) (bytes (get_or a.sizes.now (a.base + now.j) 0) (get_or a.words.now (a.base + now.j) 0)) ∙ now.invariant.1,
-      λ o l w. rw add-one (stored_next a.object.now o l a.site a.words.now a.sizes.now _ _ a.base now.j w (there (goal.at.loop-j-preserved c).In-loop-j) (now.invariant.2 o l w) c.store_one.ensures),
+      ap length c.store_one.ensures ∙ length-sets now.part (offset a.object.now a.site now.j) (bytes (get_or a.sizes.now (a.base + now.j) 0) (get_or a.words.now (a.base + now.j) 0)) ∙ now.invariant.0,
+      λ o l w. rw add-one (stored_next a.object.now o l a.site a.words.now a.sizes.now _ _ a.base now.j w (there (goal.at.loop-j-preserved c).In-loop-j) (now.invariant.1 o l w) c.store_one.ensures),
     )
 
 pub returns : goal.returns
 returns c =
     let now = c.loop-j in
     let a = c.args in
-    let all : now.j ≡ count a.object.now a.site = omega (arith, now.invariant.0, c.relocation_entries-n.ensures) in
-    ((λ o l w. now.invariant.2 o l w ∙ ap (after a.object.now o l a.site) all), now.invariant.1)
+    let all : now.j ≡ count a.object.now a.site = omega (arith, c.loop-j-test.false, now.auto.j-end, c.relocation_entries-n.ensures) in
+    ((λ o l w. now.invariant.1 o l w ∙ ap (after a.object.now o l a.site) all), now.invariant.0)

@@ -1,6 +1,5 @@
 -- `relocations_apply::index_relas` meets its contract. The invariant: the RELA sections below `i` are listed.
 use mathlib.Core.Path.{◌≡◌}
-use Prim.Native.Nat.{◌-◌, ◌≤◌}
 use lib.ListN.{length}
 use Rattle.elf_read.specs.Sections.{relocations_below}
 use Rattle.relocations_apply.proofs.Laws.Relas.{IndexedBelow}
@@ -8,7 +7,4 @@ use Rattle.relocations_apply.proofs.index_relas.Given as goal
 
 abbrev pub invariant-next : goal.invariant-next
 invariant-next l =
-    (l.i ≤ l.n) × (l.number ≡ relocations_below l.object l.i) × IndexedBelow l.object l.relas l.starts l.i × (length l.relas ≡ length l.initial.relas) × (length l.starts ≡ length l.initial.starts)
-
-abbrev pub decreases-next : goal.decreases-next
-decreases-next l = l.n - l.i
+    (l.number ≡ relocations_below l.object l.i) × IndexedBelow l.object l.relas l.starts l.i × (length l.relas ≡ length l.initial.relas) × (length l.starts ≡ length l.initial.starts)

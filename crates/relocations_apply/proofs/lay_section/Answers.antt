@@ -39,15 +39,15 @@ section_bytes-requires c =
     let f = c.requires in
     rw c.read_section-h.ensures (loaded_inside a.object.now f.0 a.t f.4 f.5)
 
-pub copy-requires : goal.copy-requires
+pub copy_from_slice-requires : goal.copy_from_slice-requires
 unfolding bytes_of
-copy-requires c =
+copy_from_slice-requires c =
     let a = c.args in
     let s = a.object.now in
     let f = c.requires in
     let inside = loaded_inside s f.0 a.t f.4 f.5 in
     let size : length (bytes_of s (section_at s a.t)) ≡ (section_at s a.t).size = length_part s (section_at s a.t).offset.0 (section_at s a.t).size inside.inside in
-    rw (c.section_bytes.ensures, c.read_section-h.ensures) (size ∙ sym f.6)
+    rw (c.section_bytes.ensures, c.read_section-h.ensures) (f.6 ∙ sym size)
 
 pub bounds-relas-t : goal.bounds-relas-t
 bounds-relas-t c = omega (arith, c.requires.4, c.requires.8.sided.relas_long)
@@ -65,7 +65,7 @@ pub returns-then-mark-eq0 : goal.returns-then-mark-eq0
 returns-then-mark-eq0 c =
     let a = c.args in
     let s = a.object.now in
-    c.copy.ensures ∙ c.section_bytes.ensures ∙ ap (bytes_of s) c.read_section-h.ensures ∙ sym (relocated_none s a.order.now a.addresses.now a.t (c.requires.8.none a.t c.requires.4 c.if-mark-eq0.true))
+    c.copy_from_slice.ensures.after ∙ c.section_bytes.ensures ∙ ap (bytes_of s) c.read_section-h.ensures ∙ sym (relocated_none s a.order.now a.addresses.now a.t (c.requires.8.none a.t c.requires.4 c.if-mark-eq0.true))
 
 pub site_at-site-requires : goal.site_at-site-requires
 site_at-site-requires c =
@@ -102,7 +102,7 @@ apply_all-requires c =
     let counts = rela_found s a.t (rela_there (goal.at.apply_all-requires c).After-site_at-site) in
     let fine : Checked s a.order.now a.addresses.now c.site_at-site.result =
     subst (Checked s a.order.now a.addresses.now) (sym (site_is (goal.at.apply_all-requires c).After-site_at-site)) (checked s a.order.now a.addresses.now f.0 f.1 f.2 i (rela_there (goal.at.apply_all-requires c).After-site_at-site) counts.0) in
-    let held = c.copy.ensures ∙ c.section_bytes.ensures ∙ ap (bytes_of s) c.read_section-h.ensures ∙ sym (found_target s a.addresses.now a.t (rela_there (goal.at.apply_all-requires c).After-site_at-site)) ∙ ap (found s) (sym (site_is (goal.at.apply_all-requires c).After-site_at-site)) in
+    let held = c.copy_from_slice.ensures.after ∙ c.section_bytes.ensures ∙ ap (bytes_of s) c.read_section-h.ensures ∙ sym (found_target s a.addresses.now a.t (rela_there (goal.at.apply_all-requires c).After-site_at-site)) ∙ ap (found s) (sym (site_is (goal.at.apply_all-requires c).After-site_at-site)) in
     let size = ap length held ∙ found_length s c.site_at-site.result fine.site in (
       f.0.table.header,
       omega (arith, room (goal.at.apply_all-requires c).After-site_at-site, f.3.words_room.room),
