@@ -13,7 +13,7 @@ ghost use Rattle.relocations_rela.specs.Trails.{shares_by, shape_by};
 ghost use Rattle.relocations_values.specs.Highs.{Listed};
 ghost use Rattle.relocations_rules.specs.Rules.{is_resolved, is_one, boundary_well};
 ghost use Rattle.relocations_check_one.specs.Outcomes.{distance_by, distance_if, align_finding, marker_finding, Answers, Partnered, Leaves, Comes, Onward};
-ghost use Rattle.relocations_check_one.specs.Requires.{Storing, Listing, Lookups, Read};
+ghost use Rattle.relocations_check_one.specs.Requires.{Storing, Listing, Relisted, Lookups, Read};
 ghost use Rattle.relocations_check_one.specs.Unique.{alignment_unique};
 ghost use Rattle.std.proofs.Props.{props};
 
@@ -78,9 +78,10 @@ fn found_bytes(object: &[u8], site: Site, rule: Rule, here: Relocation, j: usize
 }
 
 // How many high halves a site has. They are listed, unless they are listed already.
+// `highs` and `known` stay two parameters: of a struct that holds a `&mut`, each contract would say that the reference stays the same one.
 fn listed_highs(object: &[u8], site: Site, highs: &mut [u32], known: &mut Option<usize>) -> usize
     requires { SoundSite object.now site × Listing object.now site highs.old known.old }
-    ensures { Listed object.now site highs.new result × Listing object.now site highs.new known.new × (length highs.new ≡ length highs.old) }
+    ensures { Listed object.now site highs.new result × Relisted object.now site highs.old highs.new known.new }
 {
     match *known {
         Some(m) => m,
@@ -167,7 +168,7 @@ impl Source<'_> {
         requires { Storing self.now.object.now site j rule here × Listing self.now.object.now site highs.old known.old
             × (is_resolved (listed self.now.values.now self.now.states.now here.symbol) ≡ true) × (takes_pair rule.calculation ≡ true) }
         ensures { Partnered (listed self.now.values.now self.now.states.now) self.now.object.now site j rule.calculation result
-            × Listing self.now.object.now site highs.new known.new × (length highs.new ≡ length highs.old) }
+            × Relisted self.now.object.now site highs.old highs.new known.new }
     {
         let outside = Finding::BadSymbol(Reason::OutsideTarget);
         let k = here.symbol as usize;
@@ -196,7 +197,7 @@ impl Source<'_> {
         requires { Storing self.now.object.now site j rule here × Listing self.now.object.now site highs.old known.old
             × (is_resolved (listed self.now.values.now self.now.states.now here.symbol) ≡ true) }
         ensures { Partnered (listed self.now.values.now self.now.states.now) self.now.object.now site j rule.calculation result
-            × Listing self.now.object.now site highs.new known.new × (length highs.new ≡ length highs.old) }
+            × Relisted self.now.object.now site highs.old highs.new known.new }
     {
         let calculation = rule.calculation;
         if takes_pair(calculation) {
@@ -221,7 +222,7 @@ impl Source<'_> {
         requires { Storing self.now.object.now site j rule here × Listing self.now.object.now site highs.old known.old
             × (Ok s ≡ listed self.now.values.now self.now.states.now here.symbol) }
         ensures { Leaves (listed self.now.values.now self.now.states.now) self.now.object.now site j (cond shares last (le_at rule.size (found self.now.object.now site) here.offset.0)) result
-            × Listing self.now.object.now site highs.new known.new × (length highs.new ≡ length highs.old) }
+            × Relisted self.now.object.now site highs.old highs.new known.new }
     {
         let value = Ok(s);
         let high = self.take_partner(site, highs, known, rule, here, j)?;
@@ -264,7 +265,7 @@ impl Source<'_> {
     ) -> Result<u64, Finding>
         requires { Storing self.now.object.now site j rule here × Listing self.now.object.now site highs.old known.old }
         ensures { Leaves (listed self.now.values.now self.now.states.now) self.now.object.now site j (cond shares last (le_at rule.size (found self.now.object.now site) here.offset.0)) result
-            × Listing self.now.object.now site highs.new known.new × (length highs.new ≡ length highs.old) }
+            × Relisted self.now.object.now site highs.old highs.new known.new }
     {
         let value = value_at(self.values, self.states, here.symbol);
         match value {
@@ -288,7 +289,7 @@ impl Source<'_> {
         requires { Read self.now.object.now site j trail (Decision.Store rule) here × Listing self.now.object.now site highs.old known.old }
         ensures { Comes (listed self.now.values.now self.now.states.now) self.now.object.now site j
             (cond (shares_by trail (Decision.Store rule) here.offset.0) last (le_at rule.size (found self.now.object.now site) here.offset.0)) trail (Decision.Store rule) here last result
-            × Listing self.now.object.now site highs.new known.new × (length highs.new ≡ length highs.old) }
+            × Relisted self.now.object.now site highs.old highs.new known.new }
     {
         let decision = Decision::Store(rule);
         let width = stack_bits(rule) as u64;
@@ -321,7 +322,7 @@ impl Source<'_> {
         requires { Read self.now.object.now site j trail decision here × Listing self.now.object.now site highs.old known.old }
         ensures { Comes (listed self.now.values.now self.now.states.now) self.now.object.now site j
             (cond (shares_by trail decision here.offset.0) last (le_at (touched decision) (found self.now.object.now site) here.offset.0)) trail decision here last result
-            × Listing self.now.object.now site highs.new known.new × (length highs.new ≡ length highs.old) }
+            × Relisted self.now.object.now site highs.old highs.new known.new }
     {
         match decision {
             Decision::Store(rule) => self.step_store(

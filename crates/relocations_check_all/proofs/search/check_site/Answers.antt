@@ -59,7 +59,7 @@ returns-in-Err c =
           }),
       inv.3,
       inv.4,
-      e.2 ∙ inv.2,
+      e.1.1 ∙ inv.2,
     )
 
 pub loop-j-preserved : goal.loop-j-preserved
@@ -73,14 +73,14 @@ loop-j-preserved c =
     let next = e.0.1.1 in
     let there : c.loop-j.j < count a.source.now.object.now a.site = omega (arith, c.loop-j-test.true, c.relocation_entries-n.ensures) in (
       rw add-one (trail_next a.source.now.object.now a.site c.loop-j.j _ _ _ _ inv.0 is r next.next_is),
-      e.1,
-      e.2 ∙ inv.2,
+      e.1.0,
+      e.1.1 ∙ inv.2,
       length-set c.loop-j.words (a.base + c.loop-j.j) c.in-Ok.step.word ∙ inv.3,
       length-set c.loop-j.sizes (a.base + c.loop-j.j) c.in-Ok.step.size ∙ inv.4,
       (λ o l v.
           rw add-one
           (searching_next a.source.now.object.now o l a.site a.base a.words.now a.sizes.now a.highs.now a.source.now.values.now a.source.now.states.now a.source.now.lookups.sound v f.0 _ _ _ _ _ _ _ _ _ _ _ c.loop-j.j _ _ _
-          (inv.5 o l v) there f.3 f.4 r is e.0.0 e.0.1.0 e.1 e.2 next.next_is next.size_is next.left_is)),
+          (inv.5 o l v) there f.3 f.4 r is e.0.0 e.0.1.0 e.1.0 e.1.1 next.next_is next.size_is next.left_is)),
     )
 
 pub returns : goal.returns

@@ -43,7 +43,7 @@ returns-in_err-high c =
     let a = c.args in
     let e = c.in_err-high.ensures in
     let p = err_from_is_err_and c.from_residual.result c.from_residual.ensures.1 in
-    rw (p.1, p.2) (symbol_breaks (V (goal.at.returns-in_err-high c).Start) a.self.now.object.now a.site a.j a.rule a.here c.requires.0 e.0.0 ∙ sym (ap Some e.0.1), e.1, e.2)
+    rw (p.1, p.2) (symbol_breaks (V (goal.at.returns-in_err-high c).Start) a.self.now.object.now a.site a.j a.rule a.here c.requires.0 e.0.0 ∙ sym (ap Some e.0.1), e.1)
 
 pub apply_rule-applied-requires : goal.apply_rule-applied-requires
 apply_rule-applied-requires c =
@@ -73,7 +73,7 @@ pub returns-then-not-applied : goal.returns-then-not-applied
 returns-then-not-applied c =
     let e = c.in_ok-high.ensures in
     let r = c.apply_rule-applied.result in
-    (finding_is (goal.at.returns-then-not-applied c).After-apply_rule-applied ∙ ap (λ b. store_finding OutsideTarget true b (is_one c.in_ok-high.high) r.reaches) (not-true _ c.if-not-applied.true), e.1, e.2)
+    (finding_is (goal.at.returns-then-not-applied c).After-apply_rule-applied ∙ ap (λ b. store_finding OutsideTarget true b (is_one c.in_ok-high.high) r.reaches) (not-true _ c.if-not-applied.true), e.1)
 
 pub returns-then-is_none : goal.returns-then-is_none
 returns-then-is_none c =
@@ -83,7 +83,6 @@ returns-then-is_none c =
       finding_is (goal.at.returns-then-is_none c).After-apply_rule-applied ∙ ap (λ b. store_finding OutsideTarget true b (is_one c.in_ok-high.high) r.reaches) (not-false _ c.if-not-applied.false)
           ∙ ap (λ b. store_finding OutsideTarget true true b r.reaches) none,
       e.1,
-      e.2,
     )
 
 -- where the form stands and the pair is there
@@ -98,7 +97,7 @@ reach_left c =
 pub returns-then-not-applied-2 : goal.returns-then-not-applied-2
 returns-then-not-applied-2 c =
     let e = c.in_ok-high.ensures in
-    (reach_left (goal.at.returns-then-not-applied-2 c).Else-is_none ∙ ap (λ b. cond b None (Some OutOfReach)) (not-true _ c.if-not-applied-2.true), e.1, e.2)
+    (reach_left (goal.at.returns-then-not-applied-2 c).Else-is_none ∙ ap (λ b. cond b None (Some OutOfReach)) (not-true _ c.if-not-applied-2.true), e.1)
 
 pub returns : goal.returns
 returns c =
@@ -118,5 +117,4 @@ returns c =
             (omega arith) c.symbol_sum.ensures (takes.0.distance_is _ high),
       ),
       takes.1,
-      takes.2,
     )

@@ -7,4 +7,4 @@ use Rattle.relocations_check_one.proofs.Source.check_store.Goals as goal
 pub returns-in-Err : goal.returns-in-Err
 returns-in-Err c =
     let a = c.args in
-    (unresolved_breaks (listed a.self.now.values.now a.self.now.states.now) a.self.now.object.now a.site a.j a.rule a.here c.requires.0 _ (sym c.value_at-value.ensures ∙ c.in-Err.is), c.requires.1, refl)
+    (unresolved_breaks (listed a.self.now.values.now a.self.now.states.now) a.self.now.object.now a.site a.j a.rule a.here c.requires.0 _ (sym c.value_at-value.ensures ∙ c.in-Err.is), (c.requires.1, refl))

@@ -46,8 +46,7 @@ returns-then-k-eq0 c =
         elsewhere_breaks v a.self.now.object.now a.site a.j a.rule a.here f c.requires.2 c.requires.3 (none_in_target a.self.now.object.now a.site a.j a.here f.read (omega (arith, c.if-k-eq0.true))),
         sym (ap BadSymbol (resolved_why v a.self.now.object.now a.site a.j a.rule a.here f c.requires.2 c.requires.3)),
       ),
-      c.requires.1,
-      refl,
+      (c.requires.1, refl),
     )
 
 pub read_symbol-symbol-requires : goal.read_symbol-symbol-requires
@@ -62,8 +61,7 @@ returns-then-symbol-site c =
         elsewhere_breaks v a.self.now.object.now a.site a.j a.rule a.here f c.requires.2 c.requires.3 (sym (target (goal.at.returns-then-symbol-site c).After-read_symbol-symbol) ∙ ne_eqb _ _ c.if-symbol-site.true),
         sym (ap BadSymbol (resolved_why v a.self.now.object.now a.site a.j a.rule a.here f c.requires.2 c.requires.3)),
       ),
-      c.requires.1,
-      refl,
+      (c.requires.1, refl),
     )
 
 pub high_half-requires : goal.high_half-requires
@@ -80,5 +78,4 @@ returns c =
       target_takes (listed a.self.now.values.now a.self.now.states.now) a.self.now.object.now a.site a.j a.rule a.here f c.requires.2 c.requires.3
           here _ _ (c.pair_at-pair.ensures ∙ ap (pair_of a.self.now.object.now a.site) label) c.high_half.ensures,
       e.1,
-      e.2,
     )

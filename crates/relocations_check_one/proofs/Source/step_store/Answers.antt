@@ -10,7 +10,7 @@ use Rattle.relocations_check_one.proofs.Source.step_store.Goals as goal
 pub returns-then-not-is_shape_well : goal.returns-then-not-is_shape_well
 returns-then-not-is_shape_well c =
     let a = c.args in
-    (shape_breaks a.self.now.object.now a.site a.j a.trail (Store a.rule) a.here c.requires.0 (listed a.self.now.values.now a.self.now.states.now) (sym c.is_shape_well.ensures ∙ c.if-not-is_shape_well.true), c.requires.1, refl)
+    (shape_breaks a.self.now.object.now a.site a.j a.trail (Store a.rule) a.here c.requires.0 (listed a.self.now.values.now a.self.now.states.now) (sym c.is_shape_well.ensures ∙ c.if-not-is_shape_well.true), (c.requires.1, refl))
 
 pub check_store-requires : goal.check_store-requires
 check_store-requires c =
