@@ -17,6 +17,3 @@ lay_all-requires c =
     let few : section_count c.args.object.now ≤ max_sections = (is_sound _ _ _ _ c.requires.0).table.few in
     let long : section_count c.args.object.now ≤ length c.args.addresses = omega (arith, few) in
     (c.requires.0, c.requires.1, c.requires.2, long, c.index_relas.ensures)
-
-pub returns : goal.returns
-returns c = c.lay_all.ensures

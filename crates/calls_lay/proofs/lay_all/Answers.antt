@@ -39,9 +39,6 @@ loop-t-preserved c =
     let s = (goal.at.loop-t-preserved c).Start in
     (omega arith, rw add-one (c.lay_one.ensures ∙ ap (with_section (S s) (O s) c.loop-t.t) c.loop-t.invariant.1 ∙ sym (laid_more (S s) (O s) (Image s) c.loop-t.t)))
 
-pub shape_of-image : goal.shape_of-image
-shape_of-image c = omega arith
-
 pub returns : goal.returns
 returns c =
     let s = (goal.at.returns c).Start in

@@ -10,7 +10,7 @@ use Rattle.elf_read.specs.Sections.{section_at}
 use Rattle.relocations_rela.specs.Requires.{Placed}
 use Rattle.relocations_rules.specs.Search.{relocation_check}
 use Rattle.relocations_bytes.specs.Sections.{relocated}
-use Rattle.calls_judgement.proofs.Laws.Laying.{is_sound, is_placed, length_short, relocated_length, put_part}
+use Rattle.calls_judgement.proofs.Laws.Laying.{is_sound, is_placed, relocated_length, put_part}
 use Rattle.calls_lay.proofs.lay_at.Goals as goal
 use Rattle.calls_lay.proofs.lay_at.Goals.{After-read_section-h, Start}
 
@@ -32,13 +32,6 @@ inside c = omega (arith, size_is c, c.requires.5)
 pub read_section-h-requires : goal.read_section-h-requires
 read_section-h-requires c =
     ((is_sound _ _ _ _ c.requires.0).table, c.requires.3)
-
-pub overflow_add-end : goal.overflow_add-end
-overflow_add-end c =
-    omega (arith, inside (goal.at.overflow_add-end c).After-read_section-h, length_short (S (goal.at.overflow_add-end c).Start) (O (goal.at.overflow_add-end c).Start) c.args.counts (length (Image (goal.at.overflow_add-end c).Start)) c.requires.0)
-
-pub slice_bounds-lay_section-end : goal.slice_bounds-lay_section-end
-slice_bounds-lay_section-end c = omega (arith, inside (goal.at.slice_bounds-lay_section-end c).After-read_section-h)
 
 pub lay_section-requires : goal.lay_section-requires
 lay_section-requires c =

@@ -51,9 +51,6 @@ pub returns-then-not-has_bytes : goal.returns-then-not-has_bytes
 returns-then-not-has_bytes c =
     sym (with_none (S (goal.at.returns-then-not-has_bytes c).Start) (O (goal.at.returns-then-not-has_bytes c).Start) c.args.image.now c.args.t (has_bytes_is (goal.at.returns-then-not-has_bytes c).After-has_bytes ∙ c.if-not-has_bytes.true))
 
-pub bounds-addresses-t : goal.bounds-addresses-t
-bounds-addresses-t c = omega (arith, c.requires.3, c.requires.4)
-
 pub overflow_sub-at : goal.overflow_sub-at
 overflow_sub-at c = omega (arith, (inside (goal.at.overflow_sub-at c).Else-not-has_bytes).0, base_is (goal.at.overflow_sub-at c).Start, address (goal.at.overflow_sub-at c).Start)
 

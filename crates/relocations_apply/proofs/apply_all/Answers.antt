@@ -1,15 +1,13 @@
 -- `relocations_apply::apply_all` meets its contract.
-use mathlib.Core.Path.{◌≡◌, refl, sym, ap, ◌∙◌, subst}
+use mathlib.Core.Path.{◌≡◌, refl, ap, ◌∙◌}
 use Prim.Native.Nat.{◌+◌, ◌<◌}
 use native.Mathlib.Numerals.{add-one}
 use native.Mathlib.Omega.{arith}
 use lib.ListN.{length, get_or}
 use lib.Seq.{length-sets}
 use Rattle.numbers_definitions.specs.Bytes.{bytes}
-use Rattle.elf_read.proofs.Laws.Headers.{header_there}
 use Rattle.relocations_rela.specs.Sites.{count, offset}
 use Rattle.relocations_bytes.specs.Sections.{after}
-use Rattle.relocations_apply.specs.Requires.{Storable}
 use Rattle.relocations_apply.proofs.Laws.Stores.{stored_next}
 use Rattle.relocations_apply.proofs.apply_all.Goals as goal
 use Rattle.relocations_apply.proofs.apply_all.Goals.{In-loop-j}
@@ -17,26 +15,9 @@ use Rattle.relocations_apply.proofs.apply_all.Goals.{In-loop-j}
 there : (c : In-loop-j) → c.loop-j.j < count c.args.object.now c.args.site
 there c = omega (arith, c.loop-j-test.true, c.relocation_entries-n.ensures)
 
-pub class_of-class-requires : goal.class_of-class-requires
-class_of-class-requires c = header_there _ c.requires.0
-
 pub loop-j-init : goal.loop-j-init
 unfolding after
 loop-j-init c = (refl, λ o a w. c.requires.5)
-
-pub overflow_add-base : goal.overflow_add-base
-overflow_add-base c = let f = c.requires in omega (arith, there (goal.at.overflow_add-base c).In-loop-j, f.1, f.3)
-
-pub store_one-requires : goal.store_one-requires
-store_one-requires c =
-    let f = c.requires in
-    let now = c.loop-j in (
-      subst (Storable c.args.object.now c.args.site now.j (get_or c.args.sizes.now (c.args.base + now.j) 0)) (sym now.invariant.0) (f.4 now.j (there (goal.at.store_one-requires c).In-loop-j)),
-      omega (arith, there (goal.at.store_one-requires c).In-loop-j, f.1),
-      omega (arith, there (goal.at.store_one-requires c).In-loop-j, f.2),
-      f.3,
-      c.class_of-class.ensures,
-    )
 
 pub loop-j-preserved : goal.loop-j-preserved
 loop-j-preserved c =
