@@ -9,7 +9,7 @@ ghost use Rattle.order_lookup.specs.Addresses.{placed_at, no_addresses, addresse
 
 use elf_read::MAX_SECTIONS;
 use numbers_definitions::{Address, Class};
-use order_format::OrderHeader;
+use order_format::{Order, OrderHeader};
 use std::cmp::Ordering;
 
 // The value that the n entries from `at` on give to number k, if they give one. They ascend strictly, so this is a binary search.
@@ -33,17 +33,11 @@ fn find(class: Class, order: &[u8], at: usize, n: usize, k: u32) -> Option<Addre
 }
 
 // The external value of a symbol.
-pub fn external_value(
-    class: Class,
-    order: &[u8],
-    counts: OrderHeader,
-    symbol: u32,
-) -> Option<Address>
-    requires { reading class order.now ≡ Some counts }
-    ensures { result ≡ external_value class order.now symbol }
+pub fn external_value(order: &Order<'_>, symbol: u32) -> Option<Address>
+    ensures { result ≡ external_value order.now.class order.now.bytes.now symbol }
 {
-    let start = order_format::externals_start(class, counts.placements);
-    find(class, order, start, counts.externals, symbol)
+    let start = order_format::externals_start(order.class, order.counts.placements);
+    find(order.class, order.bytes, start, order.counts.externals, symbol)
 }
 
 // What the order gives to a symbol, and where the search for the next symbol goes on.
@@ -78,12 +72,11 @@ pub fn take_external(class: Class, order: &[u8], counts: OrderHeader, from: usiz
 }
 
 // The address that an order gives a section.
-pub fn placed_at(class: Class, order: &[u8], counts: OrderHeader, section: u32) -> Option<Address>
-    requires { reading class order.now ≡ Some counts }
-    ensures { result ≡ placed_at class order.now section }
+pub fn placed_at(order: &Order<'_>, section: u32) -> Option<Address>
+    ensures { result ≡ placed_at order.now.class order.now.bytes.now section }
 {
-    let start = order_format::placements_start(class);
-    find(class, order, start, counts.placements, section)
+    let start = order_format::placements_start(order.class);
+    find(order.class, order.bytes, start, order.counts.placements, section)
 }
 
 // The addresses of all sections travel as one array passed by value.

@@ -6,11 +6,11 @@ use Rattle.order_lookup.proofs.placed_at.Goals as goal
 
 pub find-requires : goal.find-requires
 find-requires c =
-    let k : Sound _ _ _ = reading_sound _ _ _ c.requires in
+    let k : Sound _ _ _ = reading_sound _ _ _ c.args.order.now.read_is in
     record { inside = omega arith; ascends = rw c.placements_start-start.ensures k.placed }
 
 pub returns : goal.returns
 unfolding placed_at
 returns c =
-    let k : Sound _ _ _ = reading_sound _ _ _ c.requires in
+    let k : Sound _ _ _ = reading_sound _ _ _ c.args.order.now.read_is in
     cc
