@@ -2,14 +2,13 @@
 #![tactic(auto)]
 
 ghost use Rattle.std.specs.Prelude.{◌≡◌, ◌+◌};
-ghost use Rattle.order_format.specs.Orders.{reading};
 ghost use Rattle.order_lookup.specs.Values.{value_in, external_value};
 ghost use Rattle.order_lookup.specs.Requires.{Searchable, Reached};
 ghost use Rattle.order_lookup.specs.Addresses.{placed_at, no_addresses, addresses};
 
 use elf_read::MAX_SECTIONS;
 use numbers_definitions::{Address, Class};
-use order_format::{Order, OrderHeader};
+use order_format::Order;
 use std::cmp::Ordering;
 
 // The value that the n entries from `at` on give to number k, if they give one. They ascend strictly, so this is a binary search.
@@ -37,7 +36,13 @@ pub fn external_value(order: &Order<'_>, symbol: u32) -> Option<Address>
     ensures { result ≡ external_value order.now.class order.now.bytes.now symbol }
 {
     let start = order_format::externals_start(order.class, order.counts.placements);
-    find(order.class, order.bytes, start, order.counts.externals, symbol)
+    find(
+        order.class,
+        order.bytes,
+        start,
+        order.counts.externals,
+        symbol,
+    )
 }
 
 // What the order gives to a symbol, and where the search for the next symbol goes on.
@@ -49,19 +54,18 @@ pub struct Taken {
 
 // The external value of symbol k. The search begins at external value `from`: those before it are of lower symbols, and this one
 // and those behind it are not. So all symbols in turn cost one way through the external values.
-pub fn take_external(class: Class, order: &[u8], counts: OrderHeader, from: usize, k: u32) -> Taken
-    requires { (reading class order.now ≡ Some counts) × Reached class order.now from k }
-    ensures { (result.value ≡ external_value class order.now k) × Reached class order.now result.next (k + 1) }
+pub fn take_external(order: &Order<'_>, from: usize, k: u32) -> Taken
+    requires { Reached order.now.class order.now.bytes.now from k }
+    ensures { (result.value ≡ external_value order.now.class order.now.bytes.now k) × Reached order.now.class order.now.bytes.now result.next (k + 1) }
 {
     let nothing = Taken {
         value: None,
         next: from,
     };
-    if counts.externals <= from {
+    if order.counts.externals <= from {
         return nothing;
     }
-    let start = order_format::externals_start(class, counts.placements);
-    let e = order_format::read_entry(class, order, start, from);
+    let e = order.external(from);
     if e.index != k {
         return nothing;
     }
@@ -76,7 +80,13 @@ pub fn placed_at(order: &Order<'_>, section: u32) -> Option<Address>
     ensures { result ≡ placed_at order.now.class order.now.bytes.now section }
 {
     let start = order_format::placements_start(order.class);
-    find(order.class, order.bytes, start, order.counts.placements, section)
+    find(
+        order.class,
+        order.bytes,
+        start,
+        order.counts.placements,
+        section,
+    )
 }
 
 // The addresses of all sections travel as one array passed by value.
@@ -84,18 +94,12 @@ pub type Addresses = [u64; MAX_SECTIONS];
 
 // Stores the address of each section that the order places into an array of zeros. A section that the order does not place
 // keeps the entry 0; once check 6 has passed, no result depends on it.
-pub fn fill_addresses(
-    class: Class,
-    mut array: Addresses,
-    order: &[u8],
-    counts: OrderHeader,
-) -> Addresses
-    requires { (array ≡ no_addresses) × (reading class order.now ≡ Some counts) }
-    ensures { result ≡ addresses class order.now }
+pub fn fill_addresses(mut array: Addresses, order: &Order<'_>) -> Addresses
+    requires { array ≡ no_addresses }
+    ensures { result ≡ addresses order.now.class order.now.bytes.now }
 {
-    let start = order_format::placements_start(class);
-    for i in 0..counts.placements {
-        let e = order_format::read_entry(class, order, start, i);
+    for i in 0..order.counts.placements {
+        let e = order.placement(i);
         let section = e.index as usize;
         if section < MAX_SECTIONS {
             array[section] = e.value.0;
