@@ -143,21 +143,7 @@ pub fn read_order(class: Class, order: &[u8]) -> Option<OrderHeader>
     })
 }
 
-// Check 3 of a rollback: the image's length.
-pub fn length_allowed(len: usize) -> bool
-    ensures { result ≡ length_allowed len }
-{
-    len <= MAX_IMAGE
-}
-
-// Check 3 of an install: the image's length, and that the window ends at or below the end of memory.
-pub fn window_allowed(class: Class, base: Address, len: usize) -> bool
-    ensures { result ≡ window_allowed (bits class) base.0 len }
-{
-    (len <= MAX_IMAGE) & numbers_arithmetic::ends_in_memory(class, base.0, len as u64)
-}
-
-// An order that was read: its bytes, the class by which they are read, and their base and counts.
+// An order that was read: its bytes, the class by which they were read, and their base and counts.
 #[derive(Clone, Copy)]
 pub struct Order<'a> {
     pub bytes: &'a [u8],
@@ -195,4 +181,18 @@ impl<'a> Order<'a> {
         let start = externals_start(self.class, self.counts.placements);
         read_entry(self.class, self.bytes, start, i)
     }
+}
+
+// Check 3 of a rollback: the image's length.
+pub fn length_allowed(len: usize) -> bool
+    ensures { result ≡ length_allowed len }
+{
+    len <= MAX_IMAGE
+}
+
+// Check 3 of an install: the image's length, and that the window ends at or below the end of memory.
+pub fn window_allowed(class: Class, base: Address, len: usize) -> bool
+    ensures { result ≡ window_allowed (bits class) base.0 len }
+{
+    (len <= MAX_IMAGE) & numbers_arithmetic::ends_in_memory(class, base.0, len as u64)
 }

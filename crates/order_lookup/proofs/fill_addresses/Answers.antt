@@ -2,7 +2,7 @@
 use mathlib.Core.Path.{◌≡◌, ap, ◌∙◌}
 use lib.ListN.{set}
 use Prim.Native.Nat.{◌<◌}
-use Rattle.order_format.proofs.Laws.Sound.{Sound, reading_sound}
+use Rattle.order_format.proofs.Laws.Read.{order_sound, placements_are}
 use native.Mathlib.Omega.{arith}
 use Rattle.order_lookup.proofs.Laws.Array.{filled_none, filled_in, filled_out, filled_all}
 use Rattle.order_lookup.proofs.fill_addresses.Goals as goal
@@ -14,15 +14,13 @@ loop-i-init c = c.requires ∙ filled_none _ _
 pub loop-i-preserved : goal.loop-i-preserved
 loop-i-preserved c =
     let e = c.placement-e.result in
-    let k : Sound _ _ _ = reading_sound _ _ _ c.args.order.now.read_is in
     let inside : c.loop-i.i < c.args.order.now.counts.placements = omega arith in
     elim c.if-section-lt-MAX_SECTIONS.branch [
-      | then-section-lt-MAX_SECTIONS w ↦ w.array-is ∙ ap (λ a. set a e.index e.value.0) c.loop-i.invariant ∙ filled_in _ _ _ _ c.placement-e.ensures _ k.placed inside
+      | then-section-lt-MAX_SECTIONS w ↦ w.array-is ∙ ap (λ a. set a e.index e.value.0) c.loop-i.invariant ∙ filled_in _ _ _ _ c.placement-e.ensures _ (order_sound c.args.order.now).placed inside
       | else-section-lt-MAX_SECTIONS w ↦ w.array-is ∙ c.loop-i.invariant ∙ filled_out _ _ _ _ c.placement-e.ensures w.if-section-lt-MAX_SECTIONS.false
     ]
 
 pub returns : goal.returns
 returns c =
-    let k : Sound _ _ _ = reading_sound _ _ _ c.args.order.now.read_is in
     let end : c.loop-i.i ≡ c.args.order.now.counts.placements = omega arith in
-    c.loop-i.invariant ∙ filled_all _ _ _ (end ∙ k.placements_are)
+    c.loop-i.invariant ∙ filled_all _ _ _ (end ∙ placements_are c.args.order.now)
