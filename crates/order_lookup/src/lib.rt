@@ -7,21 +7,21 @@ ghost use Rattle.order_lookup.specs.Requires.{Searchable, Reached};
 ghost use Rattle.order_lookup.specs.Addresses.{placed_at, no_addresses, addresses};
 
 use elf_read::MAX_SECTIONS;
-use numbers_definitions::{Address, Class};
+use numbers_definitions::Address;
 use order_format::Order;
 use std::cmp::Ordering;
 
 // The value that the n entries from `at` on give to number k, if they give one. They ascend strictly, so this is a binary search.
 // It is a loop of its own: the library searches slices of elements, and an entry is as many bytes as the class says.
-fn find(class: Class, order: &[u8], at: usize, n: usize, k: u32) -> Option<Address>
-    requires { Searchable class order.now at n }
-    ensures { result ≡ value_in class order.now at n k }
+fn find(order: &Order<'_>, at: usize, n: usize, k: u32) -> Option<Address>
+    requires { Searchable order.now.class order.now.bytes.now at n }
+    ensures { result ≡ value_in order.now.class order.now.bytes.now at n k }
 {
     let mut low: usize = 0;
     let mut high: usize = n;
     while low < high {
         let middle = low + (high - low) / 2;
-        let e = order_format::read_entry(class, order, at, middle);
+        let e = order_format::read_entry(order.class, order.bytes, at, middle);
         match e.index.cmp(&k) {
             Ordering::Less => low = middle + 1,
             Ordering::Equal => return Some(e.value),
@@ -36,13 +36,7 @@ pub fn external_value(order: &Order<'_>, symbol: u32) -> Option<Address>
     ensures { result ≡ external_value order.now.class order.now.bytes.now symbol }
 {
     let start = order_format::externals_start(order.class, order.counts.placements);
-    find(
-        order.class,
-        order.bytes,
-        start,
-        order.counts.externals,
-        symbol,
-    )
+    find(order, start, order.counts.externals, symbol)
 }
 
 // What the order gives to a symbol, and where the search for the next symbol goes on.
@@ -80,13 +74,7 @@ pub fn placed_at(order: &Order<'_>, section: u32) -> Option<Address>
     ensures { result ≡ placed_at order.now.class order.now.bytes.now section }
 {
     let start = order_format::placements_start(order.class);
-    find(
-        order.class,
-        order.bytes,
-        start,
-        order.counts.placements,
-        section,
-    )
+    find(order, start, order.counts.placements, section)
 }
 
 // The addresses of all sections travel as one array passed by value.
