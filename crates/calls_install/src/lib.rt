@@ -40,15 +40,7 @@ fn fit(
         return Err(Refusal::JournalFull);
     }
     journal_undo::save(image, journal, span);
-    calls_lay::lay(
-        object,
-        order.bytes,
-        order.counts,
-        addresses,
-        words,
-        sizes,
-        image,
-    );
+    calls_lay::lay(object, order, addresses, words, sizes, image);
     Ok(())
 }
 
