@@ -17,6 +17,7 @@ use elf_read::MAX_SECTIONS;
 use order_format::Order;
 use order_lookup::Addresses;
 use placing_check::has_bytes;
+use relocations_apply::Rela;
 
 // Lays section t into the image from `at` on.
 fn lay_at(
@@ -25,13 +26,12 @@ fn lay_at(
     addresses: &[u64],
     words: &[u64],
     sizes: &[u8],
-    relas: &[u32],
-    starts: &[u32],
+    relas: &[Option<Rela>],
     t: usize,
     at: usize,
     image: &mut [u8],
 )
-    requires { Fitting object.now order.now.bytes.now order.now.counts (length image.old) × (addresses.now ≡ addresses_for object.now order.now.bytes.now) × Worked object.now order.now.bytes.now addresses.now words.now sizes.now × (t < section_count object.now) × (loaded (section_at object.now t) ≡ true) × (at + (section_at object.now t).size ≤ length image.old) × (section_count object.now ≤ length addresses.now) × Indexed object.now relas.now starts.now }
+    requires { Fitting object.now order.now.bytes.now order.now.counts (length image.old) × (addresses.now ≡ addresses_for object.now order.now.bytes.now) × Worked object.now order.now.bytes.now addresses.now words.now sizes.now × (t < section_count object.now) × (loaded (section_at object.now t) ≡ true) × (at + (section_at object.now t).size ≤ length image.old) × (section_count object.now ≤ length addresses.now) × Indexed object.now relas.now }
     ensures { image.new ≡ sets image.old at (relocated object.now order.now.bytes.now (addresses_for object.now order.now.bytes.now) t) }
 {
     let h = elf_read::read_section(object, t);
@@ -43,7 +43,6 @@ fn lay_at(
         words,
         sizes,
         relas,
-        starts,
         t,
         &mut image[at..end],
     );
@@ -56,12 +55,11 @@ fn lay_one(
     addresses: &[u64],
     words: &[u64],
     sizes: &[u8],
-    relas: &[u32],
-    starts: &[u32],
+    relas: &[Option<Rela>],
     t: usize,
     image: &mut [u8],
 )
-    requires { Fitting object.now order.now.bytes.now order.now.counts (length image.old) × (addresses.now ≡ addresses_for object.now order.now.bytes.now) × Worked object.now order.now.bytes.now addresses.now words.now sizes.now × (t < section_count object.now) × (section_count object.now ≤ length addresses.now) × Indexed object.now relas.now starts.now }
+    requires { Fitting object.now order.now.bytes.now order.now.counts (length image.old) × (addresses.now ≡ addresses_for object.now order.now.bytes.now) × Worked object.now order.now.bytes.now addresses.now words.now sizes.now × (t < section_count object.now) × (section_count object.now ≤ length addresses.now) × Indexed object.now relas.now }
     ensures { image.new ≡ with_section object.now order.now.bytes.now t image.old }
 {
     let h = elf_read::read_section(object, t);
@@ -76,7 +74,6 @@ fn lay_one(
         words,
         sizes,
         relas,
-        starts,
         t,
         at as usize,
         image,
@@ -90,18 +87,15 @@ fn lay_all(
     addresses: &[u64],
     words: &[u64],
     sizes: &[u8],
-    relas: &[u32],
-    starts: &[u32],
+    relas: &[Option<Rela>],
     image: &mut [u8],
 )
-    requires { Fitting object.now order.now.bytes.now order.now.counts (length image.old) × (addresses.now ≡ addresses_for object.now order.now.bytes.now) × Worked object.now order.now.bytes.now addresses.now words.now sizes.now × (section_count object.now ≤ length addresses.now) × Indexed object.now relas.now starts.now }
+    requires { Fitting object.now order.now.bytes.now order.now.counts (length image.old) × (addresses.now ≡ addresses_for object.now order.now.bytes.now) × Worked object.now order.now.bytes.now addresses.now words.now sizes.now × (section_count object.now ≤ length addresses.now) × Indexed object.now relas.now }
     ensures { image.new ≡ overwritten image.old (plan_of object.now order.now.bytes.now) }
 {
     let n = elf_read::section_count(object);
     for t in 0..n {
-        lay_one(
-            object, order, addresses, words, sizes, relas, starts, t, image,
-        );
+        lay_one(object, order, addresses, words, sizes, relas, t, image);
     }
 }
 
@@ -117,10 +111,7 @@ pub fn lay(
     requires { Fitting object.now order.now.bytes.now order.now.counts (length image.old) × (addresses ≡ addresses_for object.now order.now.bytes.now) × Worked object.now order.now.bytes.now addresses words.now sizes.now }
     ensures { image.new ≡ overwritten image.old (plan_of object.now order.now.bytes.now) }
 {
-    let mut relas = [0u32; MAX_SECTIONS];
-    let mut starts = [0u32; MAX_SECTIONS];
-    relocations_apply::index_relas(object, &mut relas, &mut starts);
-    lay_all(
-        object, order, &addresses, words, sizes, &relas, &starts, image,
-    );
+    let mut relas = [None; MAX_SECTIONS];
+    relocations_apply::index_relas(object, &mut relas);
+    lay_all(object, order, &addresses, words, sizes, &relas, image);
 }

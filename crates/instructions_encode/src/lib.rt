@@ -1,5 +1,6 @@
 // Putting a value into a field.
 // Instructions and data are numbers of up to 64 bits, as `numbers_bytes` reads them from bytes.
+// Each format has a sum of its own: no function over a list of runs is as quick, or as close to the manual's drawing.
 #![tactic(auto)]
 
 ghost use Rattle.std.specs.Prelude.{◌≡◌};

@@ -14,7 +14,8 @@ pub struct Range {
     pub ahead: u64,
 }
 
-// The range of the jump or branch that has this field. For every other field it is all distances.
+// The range of the jump or branch that has this field. For every other field it is all distances, as `anywhere` in `specs/` says,
+// and no Option: who asks needs no case for a field without a range.
 pub fn range_of(field: Field) -> Range
     ensures { result ≡ range_of field }
 {

@@ -2,7 +2,7 @@
 // out already, so nothing here can fail.
 #![tactic(auto)]
 
-ghost use Rattle.std.specs.Prelude.{◌≡◌, true, List, ℕ, ◌+◌, ◌^◌, ◌≤◌, ◌<◌, length, get_or};
+ghost use Rattle.std.specs.Prelude.{◌≡◌, true, List, ℕ, ◌+◌, ◌^◌, ◌≤◌, ◌<◌, length, get_or, None};
 ghost use Rattle.std.proofs.lemmas.List.Edits.{sets};
 ghost use Rattle.numbers_definitions.specs.Bytes.{bytes};
 ghost use Rattle.elf_read.specs.Requires.{HeaderInside};
@@ -56,23 +56,29 @@ fn apply_all(object: &[u8], site: Site, words: &[u64], sizes: &[u8], base: usize
     }
 }
 
-// Lists the RELA section of each section, in one way through the sections: `relas` gets one more than its number, where there was 0, and
-// `starts` gets the number of its first relocation.
-pub fn index_relas(object: &[u8], relas: &mut [u32], starts: &mut [u32])
-    requires { SoundObject object.now × Sided object.now relas.old starts.old × ((t : ℕ) → get_or relas.old t 0 ≡ 0) }
-    ensures { Indexed object.now relas.new starts.new }
+// The RELA section of a section, and the number of its first relocation.
+#[derive(Clone, Copy)]
+pub struct Rela {
+    pub section: u32,
+    pub first: u32,
+}
+
+// Lists the RELA section of each section, in one way through the sections. The list comes with None for each.
+pub fn index_relas(object: &[u8], relas: &mut [Option<Rela>])
+    requires { SoundObject object.now × Sided object.now relas.old × ((t : ℕ) → get_or relas.old t None ≡ None) }
+    ensures { Indexed object.now relas.new }
 {
     let n = elf_read::section_count(object);
     let mut number: usize = 0;
-    'next: for i in 0..n {
-        if !elf_read::is_counting_rela(object, i) {
-            continue 'next;
+    for i in 0..n {
+        if elf_read::is_counting_rela(object, i) {
+            let h = elf_read::read_section(object, i);
+            relas[h.info as usize] = Some(Rela {
+                section: i as u32,
+                first: number as u32,
+            });
+            number += elf_read::relocation_entries(object, h);
         }
-        let h = elf_read::read_section(object, i);
-        let t = h.info as usize;
-        relas[t] = i as u32 + 1;
-        starts[t] = number as u32;
-        number += elf_read::relocation_entries(object, h);
     }
 }
 
@@ -83,24 +89,20 @@ pub fn lay_section(
     addresses: &[u64],
     words: &[u64],
     sizes: &[u8],
-    relas: &[u32],
-    starts: &[u32],
+    relas: &[Option<Rela>],
     t: usize,
     part: &mut [u8],
 )
     requires { SoundObject object.now × Placed object.now addresses.now × (relocation_check object.now order.now addresses.now ≡ Ok tt)
         × Worked object.now order.now addresses.now words.now sizes.now
         × (t < section_count object.now) × (loaded (section_at object.now t) ≡ true) × (length part.old ≡ (section_at object.now t).size)
-        × (section_count object.now ≤ length addresses.now) × Indexed object.now relas.now starts.now }
+        × (section_count object.now ≤ length addresses.now) × Indexed object.now relas.now }
     ensures { part.new ≡ relocated object.now order.now addresses.now t }
 {
     let h = elf_read::read_section(object, t);
     part.copy_from_slice(elf_read::section_bytes(object, h));
-    let mark = relas[t] as usize;
-    if mark == 0 {
-        return;
+    if let Some(rela) = relas[t] {
+        let site = site_at(object, addresses, rela.section as usize);
+        apply_all(object, site, words, sizes, rela.first as usize, part);
     }
-    let base = starts[t] as usize;
-    let site = site_at(object, addresses, mark - 1);
-    apply_all(object, site, words, sizes, base, part);
 }

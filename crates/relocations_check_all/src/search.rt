@@ -8,12 +8,11 @@ ghost use Rattle.placing_symbols.specs.Arrays.{Valued};
 ghost use Rattle.relocations_rela.specs.Sites.{count};
 ghost use Rattle.relocations_rela.specs.Requires.{SoundSite, Placed};
 ghost use Rattle.relocations_rules.specs.Search.{relocation_check};
-ghost use Rattle.relocations_check_one.specs.Requires.{Lookups};
 ghost use Rattle.relocations_check_all.specs.Sites.{WordedBelow, Roomy, SiteChecked};
 
 use order_lookup::Addresses;
 use placing_symbols::{Reason, Symbols};
-use relocations_check_one::check_one;
+use relocations_check_one::Source;
 use relocations_rela::shape::no_trail;
 use relocations_rela::sites::{Site, site_at};
 use relocations_rules::Broken;
@@ -22,35 +21,30 @@ use relocations_types::decide;
 // Checks the relocations of a site in file order, each through all rules before the next, and stores what they leave from
 // `base` on, which is the number of the first of them.
 fn check_site(
-    object: &[u8],
-    symbols: Symbols,
+    source: &Source,
     site: Site,
-    values: &[u64],
-    states: &[Result<(), Reason>],
     highs: &mut [u32],
     words: &mut [u64],
     sizes: &mut [u8],
     base: usize,
 ) -> Result<(), Broken>
-    requires { Lookups object.now symbols values.now states.now × SoundSite object.now site × (count object.now site ≤ length highs.old) × (length highs.old < 2 ^ 32)
-        × (base + count object.now site ≤ length words.old) × (base + count object.now site ≤ length sizes.old) × (length words.old < 2 ^ 32) }
-    ensures { ((order addresses : List ℕ) → Valued object.now order addresses values.now states.now
-        → SiteChecked object.now order addresses site base words.old sizes.old words.new sizes.new result)
+    requires { SoundSite source.now.object.now site × (count source.now.object.now site ≤ length highs.old) × (length highs.old < 2 ^ 32)
+        × (base + count source.now.object.now site ≤ length words.old) × (base + count source.now.object.now site ≤ length sizes.old) × (length words.old < 2 ^ 32) }
+    ensures { ((order addresses : List ℕ) → Valued source.now.object.now order addresses source.now.values.now source.now.states.now
+        → SiteChecked source.now.object.now order addresses site base words.old sizes.old words.new sizes.new result)
         × (length words.new ≡ length words.old) × (length sizes.new ≡ length sizes.old)
         × (length highs.new ≡ length highs.old) }
 {
-    let class = elf_read::class_of(object);
-    let n = elf_read::relocation_entries(object, site.rela);
+    let class = elf_read::class_of(source.object);
+    let n = elf_read::relocation_entries(source.object, site.rela);
     let mut trail = no_trail();
     let mut last: u64 = 0;
     let mut known: Option<usize> = None;
     for j in 0..n {
-        let here = elf_read::read_relocation(object, site.rela, j);
+        let here = elf_read::read_relocation(source.object, site.rela, j);
         let decision = decide(class, site.rvc, here.kind);
-        let step = match check_one(
-            object, symbols, site, values, states, highs, &mut known, trail, decision, here, last,
-            j,
-        ) {
+        // A finding of check_one has no number yet: it gets that of the relocation here.
+        let step = match source.check_one(site, highs, &mut known, trail, decision, here, last, j) {
             Ok(step) => step,
             Err(finding) => {
                 return Err(Broken {
@@ -88,15 +82,19 @@ pub fn check_relocations(
         × (length highs.new ≡ length highs.old) × (length words.new ≡ length words.old) × (length sizes.new ≡ length sizes.old) }
 {
     let n = elf_read::section_count(object);
+    let source = Source {
+        object,
+        symbols,
+        values,
+        states,
+    };
     let mut number: usize = 0;
     'search: for i in 0..n {
         if !elf_read::is_counting_rela(object, i) {
             continue 'search;
         }
         let site = site_at(object, &addresses, i);
-        check_site(
-            object, symbols, site, values, states, highs, words, sizes, number,
-        )?;
+        check_site(&source, site, highs, words, sizes, number)?;
         number += elf_read::relocation_entries(object, site.rela);
     }
     Ok(())

@@ -1,2 +1,3 @@
 pub mod Outcomes
 pub mod Requires
+pub mod Unique

@@ -36,6 +36,10 @@ pub record Listing (object : List ℕ) (x : Site) (l : List ℕ) (known : Option
   pub short : length l < 2 ^ 32
   pub highs : (m : ℕ) → known ≡ Some m → Listed object x l m
 
+-- the list of high halves as a function leaves it: such a list still, and as long as it was
+abbrev pub Relisted : List ℕ → Site → List ℕ → List ℕ → Option ℕ → Type 0
+Relisted object x before after known = Listing object x after known × (length after ≡ length before)
+
 -- what does not change over a site: a sound object with its symbols, and the arrays of their values
 pub record Lookups (object : List ℕ) (symbols : Symbols) (values : List ℕ) (states : List State) : Type 0 where
   pub sound : SoundObject object

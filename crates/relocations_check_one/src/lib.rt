@@ -5,7 +5,7 @@
 ghost use Rattle.std.specs.Prelude.{◌≡◌, true, false, not, cond, ℕ, ◌+◌, ◌-◌, ◌≤◌, ◌<◌, length, eqb};
 ghost use Rattle.numbers_definitions.specs.Bytes.{le_at};
 ghost use Rattle.numbers_definitions.specs.Whole.{signed};
-ghost use Rattle.placing_symbols.specs.Arrays.{listed, ValueArrays};
+ghost use Rattle.placing_symbols.specs.Arrays.{listed};
 ghost use Rattle.relocations_decisions.specs.Decisions.{is_store, takes_pair, touched};
 ghost use Rattle.relocations_rela.specs.Sites.{count, found};
 ghost use Rattle.relocations_rela.specs.Requires.{SoundSite, There};
@@ -13,7 +13,9 @@ ghost use Rattle.relocations_rela.specs.Trails.{shares_by, shape_by};
 ghost use Rattle.relocations_values.specs.Highs.{Listed};
 ghost use Rattle.relocations_rules.specs.Rules.{is_resolved, is_one, boundary_well};
 ghost use Rattle.relocations_check_one.specs.Outcomes.{distance_by, distance_if, align_finding, marker_finding, Answers, Partnered, Leaves, Comes, Onward};
-ghost use Rattle.relocations_check_one.specs.Requires.{Storing, Listing, Lookups, Read};
+ghost use Rattle.relocations_check_one.specs.Requires.{Storing, Listing, Relisted, Lookups, Read};
+ghost use Rattle.relocations_check_one.specs.Unique.{alignment_unique};
+ghost use Rattle.std.proofs.Props.{props};
 
 use elf_read::{Relocation, class_of};
 use numbers_arithmetic::{add64, difference};
@@ -38,6 +40,16 @@ pub struct Step {
     pub size: u64,
     pub last: u64,
     pub trail: Trail,
+}
+
+// An object, its symbol table, and the value of each of its symbols or why it has none.
+#[derive(Clone, Copy)]
+pub struct Source<'a> {
+    pub object: &'a [u8],
+    pub symbols: Symbols,
+    pub values: &'a [u64],
+    pub states: &'a [Result<(), Reason>],
+    pub ghost lookups: { Lookups object.now symbols values.now states.now } by { Prim.hlevel (alignment_unique, props) },
 }
 
 // Check 14 of an ALIGN. Where the sum is 2^64 or more, it wraps; a power of two up to 2^64 divides it all the same or not.
@@ -65,29 +77,11 @@ fn found_bytes(object: &[u8], site: Site, rule: Rule, here: Relocation, j: usize
     read_bytes(bytes, here.offset.0 as usize, rule.size as usize)
 }
 
-// T - P of relocation k. S + A is not reduced first: the difference is.
-fn distance_at(
-    object: &[u8],
-    site: Site,
-    values: &[u64],
-    states: &[Result<(), Reason>],
-    k: usize,
-) -> u64
-    requires { There object.now site k × ValueArrays values.now states.now }
-    ensures { result ≡ distance_by (listed values.now states.now) object.now site k }
-{
-    let class = class_of(object);
-    let high = elf_read::read_relocation(object, site.rela, k);
-    let value = value_at(values, states, high.symbol);
-    let x = symbol_sum(value, high.addend);
-    let p = place_of(site, high);
-    difference(class, x, p.0)
-}
-
 // How many high halves a site has. They are listed, unless they are listed already.
+// `highs` and `known` stay two parameters: of a struct that holds a `&mut`, each contract would say that the reference stays the same one.
 fn listed_highs(object: &[u8], site: Site, highs: &mut [u32], known: &mut Option<usize>) -> usize
     requires { SoundSite object.now site × Listing object.now site highs.old known.old }
-    ensures { Listed object.now site highs.new result × Listing object.now site highs.new known.new × (length highs.new ≡ length highs.old) }
+    ensures { Listed object.now site highs.new result × Relisted object.now site highs.old highs.new known.new }
 {
     match *known {
         Some(m) => m,
@@ -96,160 +90,6 @@ fn listed_highs(object: &[u8], site: Site, highs: &mut [u32], known: &mut Option
             *known = Some(m);
             m
         }
-    }
-}
-
-// T - P of the high half that a pair names, if it names one.
-fn high_half(
-    object: &[u8],
-    site: Site,
-    values: &[u64],
-    states: &[Result<(), Reason>],
-    pair: Option<usize>,
-) -> Option<u64>
-    requires { SoundSite object.now site × ValueArrays values.now states.now × ((k : ℕ) → pair ≡ Some k → k < count object.now site) }
-    ensures { result ≡ distance_if (listed values.now states.now) object.now site pair }
-{
-    match pair {
-        Some(k) => Some(distance_at(object, site, values, states, k)),
-        None => None,
-    }
-}
-
-// T - P of the high half that a PCREL_LO12 takes, whose symbol resolves; none if not exactly one high half is there. Refused is a
-// symbol that is not in the target.
-fn labelled(
-    object: &[u8],
-    symbols: Symbols,
-    site: Site,
-    values: &[u64],
-    states: &[Result<(), Reason>],
-    highs: &mut [u32],
-    known: &mut Option<usize>,
-    rule: Rule,
-    here: Relocation,
-    j: usize,
-) -> Result<Option<u64>, Finding>
-    requires { Lookups object.now symbols values.now states.now × Storing object.now site j rule here × Listing object.now site highs.old known.old
-        × (is_resolved (listed values.now states.now here.symbol) ≡ true) × (takes_pair rule.calculation ≡ true) }
-    ensures { Partnered (listed values.now states.now) object.now site j rule.calculation result
-        × Listing object.now site highs.new known.new × (length highs.new ≡ length highs.old) }
-{
-    let outside = Finding::BadSymbol(Reason::OutsideTarget);
-    let k = here.symbol as usize;
-    if k == 0 {
-        return Err(outside);
-    }
-    let symbol = elf_read::read_symbol(object, symbols.table, k);
-    if symbol.section as u32 != site.index {
-        return Err(outside);
-    }
-    let m = listed_highs(object, site, highs, known);
-    let pair = pair_at(object, site, highs, m, symbol.value);
-    Ok(high_half(object, site, values, states, pair))
-}
-
-// T - P of the high half that a relocation takes, whose symbol resolves; none if it takes one and not exactly one is there.
-fn take_partner(
-    object: &[u8],
-    symbols: Symbols,
-    site: Site,
-    values: &[u64],
-    states: &[Result<(), Reason>],
-    highs: &mut [u32],
-    known: &mut Option<usize>,
-    rule: Rule,
-    here: Relocation,
-    j: usize,
-) -> Result<Option<u64>, Finding>
-    requires { Lookups object.now symbols values.now states.now × Storing object.now site j rule here × Listing object.now site highs.old known.old
-        × (is_resolved (listed values.now states.now here.symbol) ≡ true) }
-    ensures { Partnered (listed values.now states.now) object.now site j rule.calculation result
-        × Listing object.now site highs.new known.new × (length highs.new ≡ length highs.old) }
-{
-    let calculation = rule.calculation;
-    if takes_pair(calculation) {
-        return labelled(
-            object, symbols, site, values, states, highs, known, rule, here, j,
-        );
-    }
-    Ok(Some(0))
-}
-
-// The bytes that a relocation leaves that stores and keeps check 9, where S is s.
-fn check_resolved(
-    object: &[u8],
-    symbols: Symbols,
-    site: Site,
-    values: &[u64],
-    states: &[Result<(), Reason>],
-    highs: &mut [u32],
-    known: &mut Option<usize>,
-    rule: Rule,
-    here: Relocation,
-    s: Address,
-    shares: bool,
-    last: u64,
-    j: usize,
-) -> Result<u64, Finding>
-    requires { Lookups object.now symbols values.now states.now × Storing object.now site j rule here × Listing object.now site highs.old known.old
-        × (Ok s ≡ listed values.now states.now here.symbol) }
-    ensures { Leaves (listed values.now states.now) object.now site j (cond shares last (le_at rule.size (found object.now site) here.offset.0)) result
-        × Listing object.now site highs.new known.new × (length highs.new ≡ length highs.old) }
-{
-    let value = Ok(s);
-    let high = take_partner(
-        object, symbols, site, values, states, highs, known, rule, here, j,
-    )?;
-    let found = found_bytes(object, site, rule, here, j);
-    let class = class_of(object);
-    let applied = apply_rule(
-        class,
-        site.rvc,
-        rule,
-        found,
-        present(shares, last, found),
-        symbol_sum(value, here.addend),
-        place_of(site, here),
-        high.unwrap_or(0),
-    );
-    if !applied.stands {
-        return Err(Finding::BadForm);
-    }
-    if high.is_none() {
-        return Err(Finding::NoPair);
-    }
-    if !applied.reaches {
-        return Err(Finding::OutOfReach);
-    }
-    Ok(applied.word)
-}
-
-// The bytes that a relocation leaves that stores and keeps check 9.
-fn check_store(
-    object: &[u8],
-    symbols: Symbols,
-    site: Site,
-    values: &[u64],
-    states: &[Result<(), Reason>],
-    highs: &mut [u32],
-    known: &mut Option<usize>,
-    rule: Rule,
-    here: Relocation,
-    shares: bool,
-    last: u64,
-    j: usize,
-) -> Result<u64, Finding>
-    requires { Lookups object.now symbols values.now states.now × Storing object.now site j rule here × Listing object.now site highs.old known.old }
-    ensures { Leaves (listed values.now states.now) object.now site j (cond shares last (le_at rule.size (found object.now site) here.offset.0)) result
-        × Listing object.now site highs.new known.new × (length highs.new ≡ length highs.old) }
-{
-    let value = value_at(values, states, here.symbol);
-    match value {
-        Ok(s) => check_resolved(
-            object, symbols, site, values, states, highs, known, rule, here, s, shares, last, j,
-        ),
-        Err(reason) => Err(Finding::BadSymbol(reason)),
     }
 }
 
@@ -264,43 +104,6 @@ fn passed(trail: Trail, decision: Decision, here: Relocation, last: u64) -> Step
         last,
         trail: advance(trail, decision, 0, here),
     }
-}
-
-// A relocation that stores.
-fn step_store(
-    object: &[u8],
-    symbols: Symbols,
-    site: Site,
-    values: &[u64],
-    states: &[Result<(), Reason>],
-    highs: &mut [u32],
-    known: &mut Option<usize>,
-    trail: Trail,
-    rule: Rule,
-    here: Relocation,
-    last: u64,
-    j: usize,
-) -> Result<Step, Finding>
-    requires { Lookups object.now symbols values.now states.now × Read object.now site j trail (Decision.Store rule) here × Listing object.now site highs.old known.old }
-    ensures { Comes (listed values.now states.now) object.now site j
-        (cond (shares_by trail (Decision.Store rule) here.offset.0) last (le_at rule.size (found object.now site) here.offset.0)) trail (Decision.Store rule) here last result
-        × Listing object.now site highs.new known.new × (length highs.new ≡ length highs.old) }
-{
-    let decision = Decision::Store(rule);
-    let width = stack_bits(rule) as u64;
-    let shares = shares_place(trail, width, here.offset);
-    if !is_shape_well(trail, decision, shares, here, site.target.size) {
-        return Err(Finding::BadShape);
-    }
-    let word = check_store(
-        object, symbols, site, values, states, highs, known, rule, here, shares, last, j,
-    )?;
-    Ok(Step {
-        word,
-        size: rule.size as u64,
-        last: word,
-        trail: advance(trail, decision, width, here),
-    })
 }
 
 // An ALIGN.
@@ -326,33 +129,208 @@ fn step_marker(site: Site, trail: Trail, here: Relocation, last: u64) -> Result<
     Ok(passed(trail, Decision::Marker, here, last))
 }
 
-// Checks 9 to 14 of relocation j, which was read and decided. `trail` is that before it, and `last` is what the previous
-// non-marker left. `known` is how many high halves of the site `highs` begins with, once they are listed.
-pub fn check_one(
-    object: &[u8],
-    symbols: Symbols,
-    site: Site,
-    values: &[u64],
-    states: &[Result<(), Reason>],
-    highs: &mut [u32],
-    known: &mut Option<usize>,
-    trail: Trail,
-    decision: Decision,
-    here: Relocation,
-    last: u64,
-    j: usize,
-) -> Result<Step, Finding>
-    requires { Lookups object.now symbols values.now states.now × Read object.now site j trail decision here × Listing object.now site highs.old known.old }
-    ensures { Comes (listed values.now states.now) object.now site j
-        (cond (shares_by trail decision here.offset.0) last (le_at (touched decision) (found object.now site) here.offset.0)) trail decision here last result
-        × Listing object.now site highs.new known.new × (length highs.new ≡ length highs.old) }
-{
-    match decision {
-        Decision::Store(rule) => step_store(
-            object, symbols, site, values, states, highs, known, trail, rule, here, last, j,
-        ),
-        Decision::Align => step_align(site, trail, here, last),
-        Decision::Marker => step_marker(site, trail, here, last),
-        Decision::Refused => Err(Finding::BadShape),
+impl Source<'_> {
+    // T - P of relocation k. S + A is not reduced first: the difference is.
+    fn distance_at(&self, site: Site, k: usize) -> u64
+        requires { There self.now.object.now site k }
+        ensures { result ≡ distance_by (listed self.now.values.now self.now.states.now) self.now.object.now site k }
+    {
+        let class = class_of(self.object);
+        let high = elf_read::read_relocation(self.object, site.rela, k);
+        let value = value_at(self.values, self.states, high.symbol);
+        let x = symbol_sum(value, high.addend);
+        let p = place_of(site, high);
+        difference(class, x, p.0)
+    }
+
+    // T - P of the high half that a pair names, if it names one.
+    fn high_half(&self, site: Site, pair: Option<usize>) -> Option<u64>
+        requires { SoundSite self.now.object.now site × ((k : ℕ) → pair ≡ Some k → k < count self.now.object.now site) }
+        ensures { result ≡ distance_if (listed self.now.values.now self.now.states.now) self.now.object.now site pair }
+    {
+        match pair {
+            Some(k) => Some(self.distance_at(site, k)),
+            None => None,
+        }
+    }
+
+    // T - P of the high half that a PCREL_LO12 takes, whose symbol resolves; none if not exactly one high half is there. Refused is a
+    // symbol that is not in the target.
+    fn labelled(
+        &self,
+        site: Site,
+        highs: &mut [u32],
+        known: &mut Option<usize>,
+        rule: Rule,
+        here: Relocation,
+        j: usize,
+    ) -> Result<Option<u64>, Finding>
+        requires { Storing self.now.object.now site j rule here × Listing self.now.object.now site highs.old known.old
+            × (is_resolved (listed self.now.values.now self.now.states.now here.symbol) ≡ true) × (takes_pair rule.calculation ≡ true) }
+        ensures { Partnered (listed self.now.values.now self.now.states.now) self.now.object.now site j rule.calculation result
+            × Relisted self.now.object.now site highs.old highs.new known.new }
+    {
+        let outside = Finding::BadSymbol(Reason::OutsideTarget);
+        let k = here.symbol as usize;
+        if k == 0 {
+            return Err(outside);
+        }
+        let symbol = elf_read::read_symbol(self.object, self.symbols.table, k);
+        if symbol.section as u32 != site.index {
+            return Err(outside);
+        }
+        let m = listed_highs(self.object, site, highs, known);
+        let pair = pair_at(self.object, site, highs, m, symbol.value);
+        Ok(self.high_half(site, pair))
+    }
+
+    // T - P of the high half that a relocation takes, whose symbol resolves; none if it takes one and not exactly one is there.
+    fn take_partner(
+        &self,
+        site: Site,
+        highs: &mut [u32],
+        known: &mut Option<usize>,
+        rule: Rule,
+        here: Relocation,
+        j: usize,
+    ) -> Result<Option<u64>, Finding>
+        requires { Storing self.now.object.now site j rule here × Listing self.now.object.now site highs.old known.old
+            × (is_resolved (listed self.now.values.now self.now.states.now here.symbol) ≡ true) }
+        ensures { Partnered (listed self.now.values.now self.now.states.now) self.now.object.now site j rule.calculation result
+            × Relisted self.now.object.now site highs.old highs.new known.new }
+    {
+        let calculation = rule.calculation;
+        if takes_pair(calculation) {
+            return self.labelled(site, highs, known, rule, here, j);
+        }
+        Ok(Some(0))
+    }
+
+    // The bytes that a relocation leaves that stores and keeps check 9, where S is s.
+    fn check_resolved(
+        &self,
+        site: Site,
+        highs: &mut [u32],
+        known: &mut Option<usize>,
+        rule: Rule,
+        here: Relocation,
+        s: Address,
+        shares: bool,
+        last: u64,
+        j: usize,
+    ) -> Result<u64, Finding>
+        requires { Storing self.now.object.now site j rule here × Listing self.now.object.now site highs.old known.old
+            × (Ok s ≡ listed self.now.values.now self.now.states.now here.symbol) }
+        ensures { Leaves (listed self.now.values.now self.now.states.now) self.now.object.now site j (cond shares last (le_at rule.size (found self.now.object.now site) here.offset.0)) result
+            × Relisted self.now.object.now site highs.old highs.new known.new }
+    {
+        let value = Ok(s);
+        let high = self.take_partner(site, highs, known, rule, here, j)?;
+        let found = found_bytes(self.object, site, rule, here, j);
+        let class = class_of(self.object);
+        let applied = apply_rule(
+            class,
+            site.rvc,
+            rule,
+            found,
+            present(shares, last, found),
+            symbol_sum(value, here.addend),
+            place_of(site, here),
+            high.unwrap_or(0),
+        );
+        // The form is looked at before the pair: check 11 comes before check 12. The distance was needed before both, by the calculation.
+        if !applied.stands {
+            return Err(Finding::BadForm);
+        }
+        if high.is_none() {
+            return Err(Finding::NoPair);
+        }
+        if !applied.reaches {
+            return Err(Finding::OutOfReach);
+        }
+        Ok(applied.word)
+    }
+
+    // The bytes that a relocation leaves that stores and keeps check 9.
+    fn check_store(
+        &self,
+        site: Site,
+        highs: &mut [u32],
+        known: &mut Option<usize>,
+        rule: Rule,
+        here: Relocation,
+        shares: bool,
+        last: u64,
+        j: usize,
+    ) -> Result<u64, Finding>
+        requires { Storing self.now.object.now site j rule here × Listing self.now.object.now site highs.old known.old }
+        ensures { Leaves (listed self.now.values.now self.now.states.now) self.now.object.now site j (cond shares last (le_at rule.size (found self.now.object.now site) here.offset.0)) result
+            × Relisted self.now.object.now site highs.old highs.new known.new }
+    {
+        let value = value_at(self.values, self.states, here.symbol);
+        match value {
+            Ok(s) => self.check_resolved(site, highs, known, rule, here, s, shares, last, j),
+            Err(reason) => Err(Finding::BadSymbol(reason)),
+        }
+    }
+
+    // A relocation that stores.
+    fn step_store(
+        &self,
+        site: Site,
+        highs: &mut [u32],
+        known: &mut Option<usize>,
+        trail: Trail,
+        rule: Rule,
+        here: Relocation,
+        last: u64,
+        j: usize,
+    ) -> Result<Step, Finding>
+        requires { Read self.now.object.now site j trail (Decision.Store rule) here × Listing self.now.object.now site highs.old known.old }
+        ensures { Comes (listed self.now.values.now self.now.states.now) self.now.object.now site j
+            (cond (shares_by trail (Decision.Store rule) here.offset.0) last (le_at rule.size (found self.now.object.now site) here.offset.0)) trail (Decision.Store rule) here last result
+            × Relisted self.now.object.now site highs.old highs.new known.new }
+    {
+        let decision = Decision::Store(rule);
+        let width = stack_bits(rule) as u64;
+        let shares = shares_place(trail, width, here.offset);
+        if !is_shape_well(trail, decision, shares, here, site.target.size) {
+            return Err(Finding::BadShape);
+        }
+        let word = self.check_store(site, highs, known, rule, here, shares, last, j)?;
+        Ok(Step {
+            word,
+            size: rule.size as u64,
+            last: word,
+            trail: advance(trail, decision, width, here),
+        })
+    }
+
+    // Checks 9 to 14 of relocation j, which was read and decided. `trail` is that before it, and `last` is what the previous
+    // non-marker left. `known` is how many high halves of the site `highs` begins with, once they are listed.
+    pub fn check_one(
+        &self,
+        site: Site,
+        highs: &mut [u32],
+        known: &mut Option<usize>,
+        trail: Trail,
+        decision: Decision,
+        here: Relocation,
+        last: u64,
+        j: usize,
+    ) -> Result<Step, Finding>
+        requires { Read self.now.object.now site j trail decision here × Listing self.now.object.now site highs.old known.old }
+        ensures { Comes (listed self.now.values.now self.now.states.now) self.now.object.now site j
+            (cond (shares_by trail decision here.offset.0) last (le_at (touched decision) (found self.now.object.now site) here.offset.0)) trail decision here last result
+            × Relisted self.now.object.now site highs.old highs.new known.new }
+    {
+        match decision {
+            Decision::Store(rule) => self.step_store(
+                site, highs, known, trail, rule, here, last, j,
+            ),
+            Decision::Align => step_align(site, trail, here, last),
+            Decision::Marker => step_marker(site, trail, here, last),
+            Decision::Refused => Err(Finding::BadShape),
+        }
     }
 }

@@ -120,7 +120,8 @@ pub fn forms(out: &mut impl Write, word: u64, next: u64) -> io::Result<()> {
     end(out)
 }
 
-// A field's place among those that the lines of `f` go through.
+// A field's place among those that the lines of `f` go through. A field may hold a width, so that no cast gives this number, and
+// `From` is not allowed here: neither type is this crate's.
 fn field_number(field: Field) -> u64 {
     match field {
         Field::U => 0,

@@ -151,11 +151,8 @@ fn lay(
 ) -> io::Result<()>
     requires { Layable object.now order.now array words.now sizes.now × (t < section_count object.now) × (loaded (section_at object.now t) ≡ true) × (length part.old ≡ (section_at object.now t).size) }
 {
-    let mut relas = [0u32; MAX_SECTIONS];
-    let mut starts = [0u32; MAX_SECTIONS];
-    relocations_apply::index_relas(object, &mut relas, &mut starts);
-    relocations_apply::lay_section(
-        object, order, &array, words, sizes, &relas, &starts, t, part,
-    );
+    let mut relas = [None; MAX_SECTIONS];
+    relocations_apply::index_relas(object, &mut relas);
+    relocations_apply::lay_section(object, order, &array, words, sizes, &relas, t, part);
     lines::section(out, t, part)
 }

@@ -2,16 +2,15 @@
 use Prim.Native.Nat.{◌≤◌}
 use native.Mathlib.Omega.{arith}
 use lib.ListN.{length}
-use Rattle.numbers_definitions.proofs.Laws.Lists.{zeros_at}
 use Rattle.elf_read.specs.Headers.{section_count, max_sections}
-use Rattle.relocations_apply.proofs.Laws.Relas.{blank}
+use Rattle.relocations_apply.proofs.Laws.Relas.{blank, nothing_at}
 use Rattle.calls_judgement.proofs.Laws.Laying.{is_sound}
 use Rattle.calls_lay.proofs.lay.Goals as goal
 
 pub index_relas-requires : goal.index_relas-requires
 index_relas-requires c =
     let f = is_sound _ _ _ _ c.requires.0 in
-    (f, blank c.args.object.now max_sections f.table.few, zeros_at max_sections)
+    (f, blank c.args.object.now max_sections f.table.few, nothing_at max_sections)
 
 pub lay_all-requires : goal.lay_all-requires
 lay_all-requires c =

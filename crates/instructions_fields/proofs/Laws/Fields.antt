@@ -79,7 +79,3 @@ six = imm 5 0 ∷ keep 2 ∷ []
 pub read_six : (v : ℕ) → read six v ≡ v % 64
 unfolding read
 read_six v = omega arith
-
-pub put_six : (v x : ℕ) → put six v x ≡ x % 64 + v / 64 % 4 * 64
-unfolding put
-put_six v x = omega arith

@@ -6,7 +6,7 @@ use native.Mathlib.Numerals.{add-one}
 use native.Mathlib.Omega.{arith}
 use mathlib.Core.Bool.{Bool, true, false}
 use mathlib.Core.List.{List, [], ◌∷◌, ◌++◌, append_assoc}
-use lib.ListN.{length, take, drop, set, get_or, replicate, length-append, length-drop, length-replicate, get_or-replicate, get_or-eq_default, replicate-append-replicate}
+use lib.ListN.{length, take, drop, set, get_or, replicate, length-append, length-drop, length-replicate, get_or-replicate, get_or-eq_default}
 use lib.Seq.{sets, sets-eq, length-sets, take_at, drop_at, take-set-le, drop-set-lt, take-suc, get_or-drop, get_or-take, get_or-set_other, ext_get_or, length-take-le, take-add, take_all, drop-drop}
 use lib.Dec.{ltb}
 use borrow.Author.Tests.{ltb-true, ltb-false}
@@ -102,9 +102,6 @@ part_other l i v j n h (inl b) =
 part_other l i v j n h (inr b) = ap (take n) (drop_sets j l i v b)
 
 -- ---- replicate
-
-pub replicate_snoc : (n a : ℕ) → replicate (n + 1) a ≡ replicate n a ++ a ∷ []
-replicate_snoc n a = sym (replicate-append-replicate n 1 a)
 
 -- zeros are 0 at each place, past their end too
 abbrev zeros : ℕ → List ℕ

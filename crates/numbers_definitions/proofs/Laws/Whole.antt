@@ -172,10 +172,6 @@ extend_high v w u d high h e =
 
 -- ---- wrapping at the width of a field
 
--- the contract of a wrapping difference determines its result: it is the difference modulo 2^w
-pub minus_wrapped : (w v x r : ℕ) → r < 2 ^ w → v < 2 ^ w → (r + x % 2 ^ w) % 2 ^ w ≡ v → r ≡ minus w v x
-minus_wrapped w v x r hr hv e = minus_unique w v x r hr (sym (add-mod-mod r x (2 ^ w)) ∙ e ∙ sym (mod-eq_of_lt hv))
-
 -- adding or subtracting the residue of a whole number at a greater width is adding or subtracting the number itself
 pub plus_residue : (j k v : ℕ) (z : ℤ) → plus k v (residue (j + k) z) ≡ residue k (pos v +ℤ z)
 unfolding plus

@@ -5,6 +5,5 @@ use Rattle.elf_read.specs.Sections.{relocations_below}
 use Rattle.relocations_apply.proofs.Laws.Relas.{IndexedBelow}
 use Rattle.relocations_apply.proofs.index_relas.Given as goal
 
-abbrev pub invariant-next : goal.invariant-next
-invariant-next l =
-    (l.number ≡ relocations_below l.object l.i) × IndexedBelow l.object l.relas l.starts l.i × (length l.relas ≡ length l.initial.relas) × (length l.starts ≡ length l.initial.starts)
+abbrev pub invariant-loop-i : goal.invariant-loop-i
+invariant-loop-i l = (l.number ≡ relocations_below l.object l.i) × IndexedBelow l.object l.relas l.i × (length l.relas ≡ length l.initial.relas)

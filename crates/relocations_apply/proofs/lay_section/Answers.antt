@@ -1,8 +1,8 @@
 -- `relocations_apply::lay_section` meets its contract.
 use mathlib.Core.Path.{◌≡◌, sym, ap, ◌∙◌, subst}
-use Prim.Native.Nat.{suc, ◌+◌, ◌-◌, ◌≤◌, ◌<◌}
+use Prim.Native.Nat.{◌+◌, ◌≤◌, ◌<◌}
 use native.Mathlib.Omega.{arith}
-use lib.ListN.{length, get_or}
+use lib.ListN.{length}
 use Rattle.numbers_definitions.proofs.Laws.Lists.{length_part}
 use Rattle.elf_read.specs.Headers.{section_count}
 use Rattle.elf_read.specs.Sections.{section_at, relocations_below}
@@ -17,21 +17,18 @@ use Rattle.relocations_check_all.specs.Sites.{Worded}
 use Rattle.relocations_check_all.proofs.Laws.Search.{site_room}
 use Rattle.relocations_apply.proofs.Laws.Stores.{storable}
 use Rattle.relocations_apply.proofs.lay_section.Goals as goal
-use Rattle.relocations_apply.proofs.lay_section.Goals.{After-site_at-site, Else-mark-eq0}
+use Rattle.relocations_apply.proofs.lay_section.Goals.{After-site_at-site, In-Some}
 
 -- the RELA section that is listed
-listed : (c : Else-mark-eq0) → let a = c.args in let i = rela_of a.object.now a.t in
-    (get_or a.relas.now a.t 0 ≡ suc i) × (i < section_count a.object.now) × (get_or a.starts.now a.t 0 ≡ relocations_below a.object.now i)
-listed c = let f = c.requires in f.8.some c.args.t f.4 (omega (arith, c.if-mark-eq0.false))
+listed : (c : In-Some) → let a = c.args in let i = rela_of a.object.now a.t in
+    (c.in-Some.rela.section ≡ i) × (i < section_count a.object.now) × (c.in-Some.rela.first ≡ relocations_below a.object.now i)
+listed c = let f = c.requires in f.8.some c.args.t c.in-Some.rela f.4 c.in-Some.is
 
 rela_there : (c : After-site_at-site) → let a = c.args in rela_of a.object.now a.t < section_count a.object.now
-rela_there c = (listed (goal.at.After-site_at-site c).Else-mark-eq0).1
-
-mark_is : (c : Else-mark-eq0) → let a = c.args in get_or a.relas.now a.t 0 - 1 ≡ rela_of a.object.now a.t
-mark_is c = omega (arith, (listed c).0)
+rela_there c = (listed (goal.at.After-site_at-site c).In-Some).1
 
 site_is : (c : After-site_at-site) → let a = c.args in c.site_at-site.result ≡ site_at a.object.now a.addresses.now (rela_of a.object.now a.t)
-site_is c = let a = c.args in c.site_at-site.ensures ∙ ap (site_at a.object.now a.addresses.now) (mark_is (goal.at.After-site_at-site c).Else-mark-eq0)
+site_is c = let a = c.args in c.site_at-site.ensures ∙ ap (site_at a.object.now a.addresses.now) (listed (goal.at.After-site_at-site c).In-Some).0
 
 pub section_bytes-requires : goal.section_bytes-requires
 section_bytes-requires c =
@@ -49,49 +46,28 @@ copy_from_slice-requires c =
     let size : length (bytes_of s (section_at s a.t)) ≡ (section_at s a.t).size = length_part s (section_at s a.t).offset.0 (section_at s a.t).size inside.inside in
     rw (c.section_bytes.ensures, c.read_section-h.ensures) (f.6 ∙ sym size)
 
-pub bounds-relas-t : goal.bounds-relas-t
-bounds-relas-t c = omega (arith, c.requires.4, c.requires.8.sided.relas_long)
-
--- what the lists hold are numbers of 32 bits
-pub overflow_cast-mark : goal.overflow_cast-mark
-overflow_cast-mark c =
-    omega (arith, c.type_inv.relas c.args.t)
-
-pub overflow_cast-base : goal.overflow_cast-base
-overflow_cast-base c =
-    omega (arith, c.type_inv.starts c.args.t)
-
-pub returns-then-mark-eq0 : goal.returns-then-mark-eq0
-returns-then-mark-eq0 c =
-    let a = c.args in
-    let s = a.object.now in
-    c.copy_from_slice.ensures.after ∙ c.section_bytes.ensures ∙ ap (bytes_of s) c.read_section-h.ensures ∙ sym (relocated_none s a.order.now a.addresses.now a.t (c.requires.8.none a.t c.requires.4 c.if-mark-eq0.true))
-
 pub site_at-site-requires : goal.site_at-site-requires
 site_at-site-requires c =
     let a = c.args in
-    let there = (listed (goal.at.site_at-site-requires c).Else-mark-eq0).1 in
-    (c.requires.0, rw (mark_is (goal.at.site_at-site-requires c).Else-mark-eq0) there, rw (mark_is (goal.at.site_at-site-requires c).Else-mark-eq0) (rela_found a.object.now a.t there).0, c.requires.7)
-
-pub bounds-starts-t : goal.bounds-starts-t
-bounds-starts-t c = omega (arith, c.requires.4, c.requires.8.sided.starts_long)
+    let l = listed (goal.at.site_at-site-requires c).In-Some in
+    (c.requires.0, rw l.0 l.1, rw l.0 (rela_found a.object.now a.t l.1).0, c.requires.7)
 
 -- the words of the site's relocations
 worded : (c : After-site_at-site) → let a = c.args in
-    Worded a.object.now a.order.now a.addresses.now c.site_at-site.result (count a.object.now c.site_at-site.result) a.words.now a.sizes.now (get_or a.starts.now a.t 0)
+    Worded a.object.now a.order.now a.addresses.now c.site_at-site.result (count a.object.now c.site_at-site.result) a.words.now a.sizes.now c.in-Some.rela.first
 worded c =
     let a = c.args in
     let i = rela_of a.object.now a.t in
     let there = c.requires.3.worded i (rela_there c) (rela_found a.object.now a.t (rela_there c)).0 in
-    subst (λ x. Worded a.object.now a.order.now a.addresses.now x (count a.object.now x) a.words.now a.sizes.now (get_or a.starts.now a.t 0)) (sym (site_is c))
-    (subst (Worded a.object.now a.order.now a.addresses.now (site_at a.object.now a.addresses.now i) (count a.object.now (site_at a.object.now a.addresses.now i)) a.words.now a.sizes.now) (sym (listed (goal.at.After-site_at-site c).Else-mark-eq0).2) there)
+    subst (λ x. Worded a.object.now a.order.now a.addresses.now x (count a.object.now x) a.words.now a.sizes.now c.in-Some.rela.first) (sym (site_is c))
+    (subst (Worded a.object.now a.order.now a.addresses.now (site_at a.object.now a.addresses.now i) (count a.object.now (site_at a.object.now a.addresses.now i)) a.words.now a.sizes.now) (sym (listed (goal.at.After-site_at-site c).In-Some).2) there)
 
 -- and that there is room for them
-room : (c : After-site_at-site) → let a = c.args in get_or a.starts.now a.t 0 + count a.object.now c.site_at-site.result ≤ relocation_count a.object.now
+room : (c : After-site_at-site) → let a = c.args in c.in-Some.rela.first + count a.object.now c.site_at-site.result ≤ relocation_count a.object.now
 room c =
     let a = c.args in
     let i = rela_of a.object.now a.t in
-    omega (arith, (listed (goal.at.After-site_at-site c).Else-mark-eq0).2, ap (count a.object.now) (site_is c), site_room a.object.now a.order.now a.addresses.now c.requires.0 i (rela_there c) (rela_found a.object.now a.t (rela_there c)).0)
+    omega (arith, (listed (goal.at.After-site_at-site c).In-Some).2, ap (count a.object.now) (site_is c), site_room a.object.now a.order.now a.addresses.now c.requires.0 i (rela_there c) (rela_found a.object.now a.t (rela_there c)).0)
 
 pub apply_all-requires : goal.apply_all-requires
 apply_all-requires c =
@@ -99,23 +75,31 @@ apply_all-requires c =
     let f = c.requires in
     let s = a.object.now in
     let i = rela_of s a.t in
-    let counts = rela_found s a.t (rela_there (goal.at.apply_all-requires c).After-site_at-site) in
+    let at = (goal.at.apply_all-requires c).After-site_at-site in
+    let counts = rela_found s a.t (rela_there at) in
     let fine : Checked s a.order.now a.addresses.now c.site_at-site.result =
-    subst (Checked s a.order.now a.addresses.now) (sym (site_is (goal.at.apply_all-requires c).After-site_at-site)) (checked s a.order.now a.addresses.now f.0 f.1 f.2 i (rela_there (goal.at.apply_all-requires c).After-site_at-site) counts.0) in
-    let held = c.copy_from_slice.ensures.after ∙ c.section_bytes.ensures ∙ ap (bytes_of s) c.read_section-h.ensures ∙ sym (found_target s a.addresses.now a.t (rela_there (goal.at.apply_all-requires c).After-site_at-site)) ∙ ap (found s) (sym (site_is (goal.at.apply_all-requires c).After-site_at-site)) in
+    subst (Checked s a.order.now a.addresses.now) (sym (site_is at)) (checked s a.order.now a.addresses.now f.0 f.1 f.2 i (rela_there at) counts.0) in
+    let held = c.copy_from_slice.ensures.after ∙ c.section_bytes.ensures ∙ ap (bytes_of s) c.read_section-h.ensures ∙ sym (found_target s a.addresses.now a.t (rela_there at)) ∙ ap (found s) (sym (site_is at)) in
     let size = ap length held ∙ found_length s c.site_at-site.result fine.site in (
       f.0.table.header,
-      omega (arith, room (goal.at.apply_all-requires c).After-site_at-site, f.3.words_room.room),
-      omega (arith, room (goal.at.apply_all-requires c).After-site_at-site, f.3.sizes_room.room),
+      omega (arith, room at, f.3.words_room.room),
+      omega (arith, room at, f.3.sizes_room.room),
       f.3.words_room.short,
-      storable s a.order.now a.addresses.now c.site_at-site.result a.words.now a.sizes.now (get_or a.starts.now a.t 0) _ fine (worded (goal.at.apply_all-requires c).After-site_at-site) (omega (arith, size)),
+      storable s a.order.now a.addresses.now c.site_at-site.result a.words.now a.sizes.now c.in-Some.rela.first _ fine (worded at) (omega (arith, size)),
       held,
     )
 
-pub returns : goal.returns
-returns c =
+pub returns-in-Some : goal.returns-in-Some
+returns-in-Some c =
     let a = c.args in
     let s = a.object.now in
-    c.apply_all.ensures.0 a.order.now a.addresses.now (worded (goal.at.returns c).After-site_at-site)
-    ∙ ap (λ x. after s a.order.now a.addresses.now x (count a.object.now x)) (site_is (goal.at.returns c).After-site_at-site)
-    ∙ sym (relocated_some s a.order.now a.addresses.now a.t (rela_there (goal.at.returns c).After-site_at-site))
+    let at = (goal.at.returns-in-Some c).After-site_at-site in
+    c.apply_all.ensures.0 a.order.now a.addresses.now (worded at)
+    ∙ ap (λ x. after s a.order.now a.addresses.now x (count a.object.now x)) (site_is at)
+    ∙ sym (relocated_some s a.order.now a.addresses.now a.t (rela_there at))
+
+pub returns-in_default : goal.returns-in_default
+returns-in_default c =
+    let a = c.args in
+    let s = a.object.now in
+    c.copy_from_slice.ensures.after ∙ c.section_bytes.ensures ∙ ap (bytes_of s) c.read_section-h.ensures ∙ sym (relocated_none s a.order.now a.addresses.now a.t (c.requires.8.none a.t c.requires.4 c.in_default.is))

@@ -1,10 +1,10 @@
 -- Laws of the search over the relocations of a site.
 use Rattle.placing_symbols.specs.Reasons.{State, SymbolValue}
-use Rattle.std.specs.Prelude.{None, Option, Some}
+use Rattle.std.specs.Prelude.{None, Option}
 use Rattle.std.specs.Option.{is_some}
 use Rattle.numbers_definitions.proofs.Laws.Tests.{never}
 use mathlib.Core.Path.{◌≡◌, refl, sym, ap, ◌∙◌, subst}
-use mathlib.Core.Bool.{Bool, true, false, cond}
+use mathlib.Core.Bool.{true, cond}
 use mathlib.Core.List.{List}
 use Prim.Native.Nat.{ℕ, suc, ◌+◌, ◌^◌, ◌≤◌, ◌<◌}
 use native.Mathlib.Omega.{arith}
@@ -14,7 +14,6 @@ use lib.Seq.{get_or-set_same, get_or-set_other}
 use Rattle.numbers_definitions.specs.Bytes.{le_at}
 use Rattle.elf_read.specs.declared.Relocation.{Relocation}
 use Rattle.elf_check.specs.Requires.{SoundObject}
-use Rattle.placing_symbols.specs.declared.Reason.{Reason}
 use Rattle.placing_symbols.specs.Values.{symbol_value}
 use Rattle.placing_symbols.specs.Arrays.{listed, Valued}
 use Rattle.placing_symbols.proofs.Laws.Arrays.{listed_is}
@@ -27,13 +26,8 @@ use Rattle.relocations_rela.specs.declared.shape.Trail.{Trail}
 use Rattle.relocations_rela.specs.Shape.{shape_well}
 use Rattle.relocations_rela.specs.Trails.{no_trail, advanced, trail_at, shares_by}
 use Rattle.relocations_rela.specs.Requires.{SoundSite}
-use Rattle.relocations_rules.specs.declared.Finding.{Finding}
-use Rattle.relocations_rules.specs.declared.Finding.TheVariants.{BadShape, BadSymbol, BadForm, NoPair, OutOfReach, OffBoundary}
-use Rattle.relocations_values.specs.Values.{value_at, target_at}
-use Rattle.relocations_rules.specs.Rules.{symbol_well, why, form_well, pair_well, distance_well, boundary_well}
-use Rattle.relocations_rules.specs.Search.{first_broken, finding}
-use Rattle.elf_read.specs.Headers.{class_of, has_rvc}
-use Rattle.relocations_rela.specs.Sites.{A, P}
+use Rattle.relocations_rules.specs.Search.{finding}
+use Rattle.relocations_rela.specs.Sites.{P}
 use Rattle.relocations_rules.proofs.Laws.Search.{kept_rules}
 use Rattle.relocations_bytes.specs.Sections.{after}
 use Rattle.relocations_bytes.specs.Words.{word_from, word_at, last_word}

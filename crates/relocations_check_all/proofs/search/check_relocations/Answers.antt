@@ -6,7 +6,6 @@ use mathlib.Core.Bool.{true}
 use Prim.Native.Nat.{◌+◌, ◌≤◌, ◌<◌}
 use native.Mathlib.Numerals.{add-one}
 use native.Mathlib.Omega.{arith}
-use lib.ListN.{length}
 use Rattle.elf_read.specs.Headers.{section_count}
 use Rattle.elf_read.specs.Sections.{counting_rela}
 use Rattle.elf_read.specs.Entries.{relocation_count}
@@ -34,6 +33,19 @@ counts c =
 site_is : (c : After-site_at-site) → c.site_at-site.result ≡ site_of c
 site_is c = c.site_at-site.ensures
 
+pub invariant_of-source : goal.invariant_of-source
+invariant_of-source c =
+    let a = c.args in
+    let f = c.requires in
+    record {
+      lookups = record {
+        sound = f.0;
+        symbols_are = f.1;
+        arrays = f.3.long.arrays;
+        tabled = λ k r some. resolved_there a.object.now a.order.now a.addresses k (ap is_resolved (sym (listed_is f.3 k)) ∙ r) some;
+      };
+    }
+
 pub search-init : goal.search-init
 search-init c = (below_start _ _ _ _ _, refl, refl, refl)
 
@@ -58,12 +70,6 @@ check_site-requires c =
     let a = c.args in
     let f = c.requires in
     let inv = c.search.invariant in (
-      record {
-        sound = f.0;
-        symbols_are = f.1;
-        arrays = f.3.long.arrays;
-        tabled = λ k r some. resolved_there a.object.now a.order.now a.addresses k (ap is_resolved (sym (listed_is f.3 k)) ∙ r) some;
-      },
       site_sound (goal.at.check_site-requires c).After-site_at-site,
       omega (arith, room (goal.at.check_site-requires c).After-site_at-site, inv.1, f.4.room),
       omega (arith, inv.1, f.4.short),

@@ -11,9 +11,9 @@ use Rattle.relocations_check_all.proofs.search.check_site.Given as goal
 
 abbrev pub invariant-loop-j : goal.invariant-loop-j
 invariant-loop-j l =
-    (l.trail ≡ trail_at l.object l.site l.j)
-    × Listing l.object l.site l.highs l.known
+    (l.trail ≡ trail_at l.source.object.now l.site l.j)
+    × Listing l.source.object.now l.site l.highs l.known
     × (length l.highs ≡ length l.initial.highs)
     × (length l.words ≡ length l.initial.words)
     × (length l.sizes ≡ length l.initial.sizes)
-    × ((o a : List ℕ) → Valued l.object o a l.values l.states → Searching l.object o a l.site l.base l.initial.words l.initial.sizes l.initial.highs l.words l.sizes l.highs l.trail l.last l.known l.j)
+    × ((o a : List ℕ) → Valued l.source.object.now o a l.source.values.now l.source.states.now → Searching l.source.object.now o a l.site l.base l.initial.words l.initial.sizes l.initial.highs l.words l.sizes l.highs l.trail l.last l.known l.j)

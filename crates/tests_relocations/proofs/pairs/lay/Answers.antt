@@ -2,15 +2,14 @@
 use Prim.Native.Nat.{◌≤◌}
 use native.Mathlib.Omega.{arith}
 use lib.ListN.{length}
-use Rattle.numbers_definitions.proofs.Laws.Lists.{zeros_at}
 use Rattle.elf_read.specs.Headers.{section_count, max_sections}
-use Rattle.relocations_apply.proofs.Laws.Relas.{blank}
+use Rattle.relocations_apply.proofs.Laws.Relas.{blank, nothing_at}
 use Rattle.tests_relocations.proofs.pairs.lay.Goals as goal
 
 pub index_relas-requires : goal.index_relas-requires
 index_relas-requires g c =
     let f = c.requires.0.sound in
-    (f, blank c.args.object.now max_sections f.table.few, zeros_at max_sections)
+    (f, blank c.args.object.now max_sections f.table.few, nothing_at max_sections)
 
 pub lay_section-requires : goal.lay_section-requires
 lay_section-requires g c =
