@@ -5,7 +5,6 @@ ghost use Rattle.std.specs.Prelude.{◌≡◌, true, ◌^◌, ◌≤◌, ◌<◌
 ghost use Rattle.elf_read.specs.Headers.{class_of};
 ghost use Rattle.elf_read.specs.Entries.{relocation_count};
 ghost use Rattle.elf_header.specs.Headers.{header_allowed};
-ghost use Rattle.order_format.specs.Orders.{reading};
 ghost use Rattle.order_lookup.specs.Addresses.{addresses_for};
 ghost use Rattle.journal_format.specs.Journals.{sound};
 ghost use Rattle.journal_history.specs.Calls.{files};
@@ -19,30 +18,29 @@ use calls_judge::{Refusal, judge_relocations, judge_sections};
 use elf_check::MAX_RELOCATIONS;
 use elf_read::MAX_SECTIONS;
 use journal_undo::RollbackRefusal;
-use order_format::OrderHeader;
+use order_format::Order;
 use order_lookup::Addresses;
 
 // Check 15. If it passes, the span's old bytes are recorded, and then the sections are laid.
 fn fit(
     object: &[u8],
-    order: &[u8],
-    counts: OrderHeader,
+    order: &Order<'_>,
     addresses: Addresses,
     words: &[u64],
     sizes: &[u8],
     image: &mut [u8],
     journal: &mut [u8],
 ) -> Result<(), Refusal>
-    requires { Fitting object.now order.now counts (length image.old) × Ready object.now order.now addresses words.now sizes.now × (sound journal.old (length image.old) ≡ true) }
+    requires { Fitting object.now order.now.bytes.now order.now.counts (length image.old) × Ready object.now order.now.bytes.now addresses words.now sizes.now × (sound journal.old (length image.old) ≡ true) }
     ensures { record { answer = answer_of result; after = files image.new journal.new }
-        ≡ our_install object.now order.now (files image.old journal.old) }
+        ≡ our_install object.now order.now.bytes.now (files image.old journal.old) }
 {
-    let span = placing_span::span_of(object, addresses, counts.base);
+    let span = placing_span::span_of(object, addresses, order.counts.base);
     if !journal_format::has_room(journal, span.size) {
         return Err(Refusal::JournalFull);
     }
     journal_undo::save(image, journal, span);
-    calls_lay::lay(object, order, counts, addresses, words, sizes, image);
+    calls_lay::lay(object, order, addresses, words, sizes, image);
     Ok(())
 }
 
@@ -55,15 +53,14 @@ const SOME_RELOCATIONS: usize = 4096;
 // Checks 9 to 15, and laying, with scratch arrays for N relocations.
 fn with_scratch<const N: usize>(
     object: &[u8],
-    order: &[u8],
-    counts: OrderHeader,
+    order: &Order<'_>,
     addresses: Addresses,
     image: &mut [u8],
     journal: &mut [u8],
 ) -> Result<(), Refusal>
-    requires { Placeable object.now order.now counts (length image.old) × (addresses ≡ addresses_for object.now order.now) × (relocation_count object.now ≤ N) × (N < 2 ^ 32) × (sound journal.old (length image.old) ≡ true) }
+    requires { Placeable object.now order.now.bytes.now order.now.counts (length image.old) × (order.now.class ≡ class_of object.now) × (addresses ≡ addresses_for object.now order.now.bytes.now) × (relocation_count object.now ≤ N) × (N < 2 ^ 32) × (sound journal.old (length image.old) ≡ true) }
     ensures { record { answer = answer_of result; after = files image.new journal.new }
-        ≡ our_install object.now order.now (files image.old journal.old) }
+        ≡ our_install object.now order.now.bytes.now (files image.old journal.old) }
 {
     let mut highs = [0u32; N];
     let mut words = [0u64; N];
@@ -71,39 +68,35 @@ fn with_scratch<const N: usize>(
     let placed = judge_relocations(
         object,
         order,
-        counts,
         image.len(),
         addresses,
         &mut highs,
         &mut words,
         &mut sizes,
     )?;
-    fit(
-        object, order, counts, placed, &words, &sizes, image, journal,
-    )
+    fit(object, order, placed, &words, &sizes, image, journal)
 }
 
 // Checks 9 to 15, and laying, with scratch arrays that are long enough.
 fn finish(
     object: &[u8],
-    order: &[u8],
-    counts: OrderHeader,
+    order: &Order<'_>,
     addresses: Addresses,
     image: &mut [u8],
     journal: &mut [u8],
 ) -> Result<(), Refusal>
-    requires { Placeable object.now order.now counts (length image.old) × (addresses ≡ addresses_for object.now order.now) × (sound journal.old (length image.old) ≡ true) }
+    requires { Placeable object.now order.now.bytes.now order.now.counts (length image.old) × (order.now.class ≡ class_of object.now) × (addresses ≡ addresses_for object.now order.now.bytes.now) × (sound journal.old (length image.old) ≡ true) }
     ensures { record { answer = answer_of result; after = files image.new journal.new }
-        ≡ our_install object.now order.now (files image.old journal.old) }
+        ≡ our_install object.now order.now.bytes.now (files image.old journal.old) }
 {
     let n = elf_read::section_count(object);
     if elf_read::relocations_within(object, n, FEW_RELOCATIONS) {
-        return with_scratch::<FEW_RELOCATIONS>(object, order, counts, addresses, image, journal);
+        return with_scratch::<FEW_RELOCATIONS>(object, order, addresses, image, journal);
     }
     if elf_read::relocations_within(object, n, SOME_RELOCATIONS) {
-        return with_scratch::<SOME_RELOCATIONS>(object, order, counts, addresses, image, journal);
+        return with_scratch::<SOME_RELOCATIONS>(object, order, addresses, image, journal);
     }
-    with_scratch::<MAX_RELOCATIONS>(object, order, counts, addresses, image, journal)
+    with_scratch::<MAX_RELOCATIONS>(object, order, addresses, image, journal)
 }
 
 // Installs an object by an order. Nothing is written before the last check has passed. The header is checked first, because the
@@ -124,9 +117,9 @@ pub fn install(
         return Err(Refusal::BadHeader);
     }
     let class = elf_read::class_of(object);
-    let counts = order_format::read_order(class, order).ok_or(Refusal::OrderMalformed)?;
-    let addresses = judge_sections(object, order, counts, image.len(), [0u64; MAX_SECTIONS])?;
-    finish(object, order, counts, addresses, image, journal)
+    let read = Order::read(class, order).ok_or(Refusal::OrderMalformed)?;
+    let addresses = judge_sections(object, &read, image.len(), [0u64; MAX_SECTIONS])?;
+    finish(object, &read, addresses, image, journal)
 }
 
 // The refusal of a call for that of a rollback.

@@ -4,7 +4,6 @@
 ghost use Rattle.std.specs.Prelude.{◌≡◌, true, Err, ◌^◌, ◌≤◌, ◌<◌};
 ghost use Rattle.elf_read.specs.Headers.{class_of};
 ghost use Rattle.elf_header.specs.Headers.{header_allowed};
-ghost use Rattle.order_format.specs.Orders.{reading};
 ghost use Rattle.placing_symbols.specs.Requires.{SymbolsOf};
 ghost use Rattle.placing_symbols.specs.Arrays.{Blank};
 ghost use Rattle.placing_match.specs.Placements.{placement_check};
@@ -16,8 +15,7 @@ ghost use Rattle.calls_judge.specs.Answers.{answer_of};
 ghost use Rattle.calls_judge.specs.Judged.{Lent, PlacedWell, JudgedWell};
 
 use elf_check::{MAX_SYMBOLS, check_sections};
-use elf_read::class_of;
-use order_format::OrderHeader;
+use order_format::Order;
 use order_lookup::{Addresses, fill_addresses};
 use placing_check::check_placing;
 use placing_match::{check_externals, check_placements};
@@ -69,8 +67,7 @@ const FEW_SYMBOLS: usize = 1024;
 // Checks 9 to 14. `values` and `states` come as they are before anything is stored: S is worked out for every symbol first.
 fn judge_by_values(
     object: &[u8],
-    order: &[u8],
-    counts: OrderHeader,
+    order: &Order<'_>,
     len: usize,
     addresses: Addresses,
     symbols: Symbols,
@@ -80,13 +77,21 @@ fn judge_by_values(
     words: &mut [u64],
     sizes: &mut [u8],
 ) -> Result<Addresses, Refusal>
-    requires { Placeable object.now order.now counts len × (addresses ≡ addresses_for object.now order.now) × SymbolsOf object.now symbols × Blank object.now values.old states.old
+    requires { Placeable object.now order.now.bytes.now order.now.counts len × (order.now.class ≡ class_of object.now) × (addresses ≡ addresses_for object.now order.now.bytes.now) × SymbolsOf object.now symbols × Blank object.now values.old states.old
         × Lent object.now highs.old words.old sizes.old }
-    ensures { JudgedWell object.now order.now len result words.new sizes.new }
+    ensures { JudgedWell object.now order.now.bytes.now len result words.new sizes.new }
 {
-    let placed = symbol_values(object, order, counts, symbols, addresses, values, states);
+    let placed = symbol_values(object, order, symbols, addresses, values, states);
     check_relocations(
-        object, order, symbols, placed, values, states, highs, words, sizes,
+        object,
+        order.bytes,
+        symbols,
+        placed,
+        values,
+        states,
+        highs,
+        words,
+        sizes,
     )?;
     Ok(placed)
 }
@@ -94,8 +99,7 @@ fn judge_by_values(
 // The same, with arrays for the values of N symbols.
 fn judge_with<const N: usize>(
     object: &[u8],
-    order: &[u8],
-    counts: OrderHeader,
+    order: &Order<'_>,
     len: usize,
     addresses: Addresses,
     symbols: Symbols,
@@ -103,16 +107,15 @@ fn judge_with<const N: usize>(
     words: &mut [u64],
     sizes: &mut [u8],
 ) -> Result<Addresses, Refusal>
-    requires { Placeable object.now order.now counts len × (addresses ≡ addresses_for object.now order.now) × SymbolsOf object.now symbols × (0 < N) × (N < 2 ^ 32) × (symbols.count ≤ N)
+    requires { Placeable object.now order.now.bytes.now order.now.counts len × (order.now.class ≡ class_of object.now) × (addresses ≡ addresses_for object.now order.now.bytes.now) × SymbolsOf object.now symbols × (0 < N) × (N < 2 ^ 32) × (symbols.count ≤ N)
         × Lent object.now highs.old words.old sizes.old }
-    ensures { JudgedWell object.now order.now len result words.new sizes.new }
+    ensures { JudgedWell object.now order.now.bytes.now len result words.new sizes.new }
 {
     let mut values = [0u64; N];
     let mut states = [Err(Reason::PastTable); N];
     judge_by_values(
         object,
         order,
-        counts,
         len,
         addresses,
         symbols,
@@ -128,49 +131,44 @@ fn judge_with<const N: usize>(
 // relocation stores, and `addresses` goes back as it came.
 pub fn judge_relocations(
     object: &[u8],
-    order: &[u8],
-    counts: OrderHeader,
+    order: &Order<'_>,
     len: usize,
     addresses: Addresses,
     highs: &mut [u32],
     words: &mut [u64],
     sizes: &mut [u8],
 ) -> Result<Addresses, Refusal>
-    requires { Placeable object.now order.now counts len × (addresses ≡ addresses_for object.now order.now) × Lent object.now highs.old words.old sizes.old }
-    ensures { JudgedWell object.now order.now len result words.new sizes.new }
+    requires { Placeable object.now order.now.bytes.now order.now.counts len × (order.now.class ≡ class_of object.now) × (addresses ≡ addresses_for object.now order.now.bytes.now) × Lent object.now highs.old words.old sizes.old }
+    ensures { JudgedWell object.now order.now.bytes.now len result words.new sizes.new }
 {
     let symbols = placing_symbols::symbols_of(object);
     if symbols.count <= FEW_SYMBOLS {
         return judge_with::<FEW_SYMBOLS>(
-            object, order, counts, len, addresses, symbols, highs, words, sizes,
+            object, order, len, addresses, symbols, highs, words, sizes,
         );
     }
-    judge_with::<MAX_SYMBOLS>(
-        object, order, counts, len, addresses, symbols, highs, words, sizes,
-    )
+    judge_with::<MAX_SYMBOLS>(object, order, len, addresses, symbols, highs, words, sizes)
 }
 
 // Check 3 and checks 5 to 8 for an image of `len` bytes, of an object whose header passes check 4, by an order that has been read.
 // `addresses` comes with zeros, and goes back filled if every check passes.
 pub fn judge_sections(
     object: &[u8],
-    order: &[u8],
-    counts: OrderHeader,
+    order: &Order<'_>,
     len: usize,
     addresses: Addresses,
 ) -> Result<Addresses, Refusal>
-    requires { (header_allowed object.now ≡ true) × (reading (class_of object.now) order.now ≡ Some counts) × (addresses ≡ no_addresses) }
-    ensures { PlacedWell object.now order.now counts len result }
+    requires { (header_allowed object.now ≡ true) × (order.now.class ≡ class_of object.now) × (addresses ≡ no_addresses) }
+    ensures { PlacedWell object.now order.now.bytes.now order.now.counts len result }
 {
-    let class = class_of(object);
-    if !order_format::window_allowed(class, counts.base, len) {
+    if !order_format::window_allowed(order.class, order.counts.base, len) {
         return Err(Refusal::WindowBroken);
     }
     check_sections(object).map_err(Refusal::BadSection)?;
-    check_placements(object, order, counts).map_err(Refusal::PlacementsDiffer)?;
-    check_externals(object, order, counts).map_err(Refusal::WrongExternal)?;
-    let filled = fill_addresses(class, addresses, order, counts);
-    check_placing(object, filled, counts.base, len).map_err(Refusal::Misplaced)
+    check_placements(object, order).map_err(Refusal::PlacementsDiffer)?;
+    check_externals(object, order).map_err(Refusal::WrongExternal)?;
+    let filled = fill_addresses(addresses, order);
+    check_placing(object, filled, order.counts.base, len).map_err(Refusal::Misplaced)
 }
 
 // A number and a place as one number: the number in the low eight bits, the place in the upper 32.

@@ -5,3 +5,4 @@ pub mod Sound
 pub mod Listed
 pub mod Encoding
 pub mod Bench
+pub mod Read

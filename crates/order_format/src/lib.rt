@@ -1,9 +1,9 @@
 // An order: the window's base, where each section goes, and the values of undefined symbols.
 #![tactic(auto)]
 
-ghost use Rattle.std.specs.Prelude.{◌≡◌, ℕ, MatchOption, ◌+◌, ◌*◌, ◌^◌, ◌≤◌, ◌<◌, length};
+ghost use Rattle.std.specs.Prelude.{◌≡◌, ℕ, Some, None, MatchOption, ◌+◌, ◌*◌, ◌^◌, ◌≤◌, ◌<◌, length};
 ghost use Rattle.numbers_definitions.specs.Classes.{bits, address_bytes};
-ghost use Rattle.order_format.specs.Orders.{entry_size, empty_size, placements_start, externals_at, max_placements, max_externals, reading, entry_at, ascending};
+ghost use Rattle.order_format.specs.Orders.{entry_size, empty_size, placements_start, externals_at, max_placements, max_externals, reading, entry_at, ascending, placement, external};
 ghost use Rattle.order_format.specs.Lists.{Listed};
 ghost use Rattle.order_format.specs.Windows.{length_allowed, window_allowed};
 
@@ -141,6 +141,46 @@ pub fn read_order(class: Class, order: &[u8]) -> Option<OrderHeader>
         placements,
         externals,
     })
+}
+
+// An order that was read: its bytes, the class by which they were read, and their base and counts.
+#[derive(Clone, Copy)]
+pub struct Order<'a> {
+    pub bytes: &'a [u8],
+    pub class: Class,
+    pub counts: OrderHeader,
+    pub ghost read_is: { reading class bytes.now ≡ Some counts },
+}
+
+impl<'a> Order<'a> {
+    // Check 2: the order that the bytes are, or nothing where they are no order.
+    pub fn read(class: Class, bytes: &'a [u8]) -> Option<Order<'a>>
+        ensures { MatchOption result (reading class bytes.now ≡ None) (λ o. (o.class ≡ class) × (o.bytes.now ≡ bytes.now)) }
+    {
+        let counts = read_order(class, bytes)?;
+        Some(Order {
+            bytes,
+            class,
+            counts,
+        })
+    }
+
+    // Placement i.
+    pub fn placement(&self, i: usize) -> Entry
+        requires { i < self.now.counts.placements }
+        ensures { result ≡ placement self.now.class self.now.bytes.now i }
+    {
+        read_entry(self.class, self.bytes, placements_start(self.class), i)
+    }
+
+    // External value i.
+    pub fn external(&self, i: usize) -> Entry
+        requires { i < self.now.counts.externals }
+        ensures { result ≡ external self.now.class self.now.bytes.now i }
+    {
+        let start = externals_start(self.class, self.counts.placements);
+        read_entry(self.class, self.bytes, start, i)
+    }
 }
 
 // Check 3 of a rollback: the image's length.

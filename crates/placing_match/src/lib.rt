@@ -5,32 +5,25 @@ ghost use Rattle.std.specs.Prelude.{◌≡◌, ◌^◌, not, ◌&&◌};
 ghost use Rattle.elf_read.specs.Headers.{class_of, section_count};
 ghost use Rattle.elf_read.specs.Sections.{is_allocated};
 ghost use Rattle.elf_check.specs.Requires.{SoundObject};
-ghost use Rattle.order_format.specs.Orders.{reading};
 ghost use Rattle.order_lookup.specs.Addresses.{placed_at};
 ghost use Rattle.placing_match.specs.Placements.{lowest, placement_check};
 ghost use Rattle.order_lookup.specs.Values.{is_given};
 ghost use Rattle.placing_symbols.specs.Requires.{SymbolsOf};
 ghost use Rattle.placing_match.specs.Externals.{is_undefined, external_check};
 
-use elf_read::{SHN_UNDEF, class_of};
-use numbers_definitions::Class;
-use order_format::OrderHeader;
+use elf_read::SHN_UNDEF;
+use order_format::Order;
 use placing_symbols::{Symbols, symbols_of};
 
 // Check 6, where it asks that each allocated section is placed: the lowest that is not.
-fn check_allocated(
-    class: Class,
-    object: &[u8],
-    order: &[u8],
-    counts: OrderHeader,
-) -> Result<(), u32>
-    requires { SoundObject object.now × (reading class order.now ≡ Some counts) }
-    ensures { result ≡ lowest (λ i. is_allocated object.now i && not (is_given (placed_at class order.now i))) (section_count object.now) }
+fn check_allocated(object: &[u8], order: &Order<'_>) -> Result<(), u32>
+    requires { SoundObject object.now }
+    ensures { result ≡ lowest (λ i. is_allocated object.now i && not (is_given (placed_at order.now.class order.now.bytes.now i))) (section_count object.now) }
 {
     let n = elf_read::section_count(object) as u32;
     'search: for i in 0..n {
         let allocated = elf_read::is_allocated_section(object, i);
-        let placed = order_lookup::placed_at(class, order, counts, i).is_some();
+        let placed = order_lookup::placed_at(order, i).is_some();
         if allocated & !placed {
             return Err(i);
         }
@@ -39,13 +32,12 @@ fn check_allocated(
 }
 
 // Check 6, where it asks that each section that is placed is allocated: the lowest number that is placed and names no allocated section.
-fn check_placed(class: Class, object: &[u8], order: &[u8], counts: OrderHeader) -> Result<(), u32>
-    requires { SoundObject object.now × (reading class order.now ≡ Some counts) }
-    ensures { result ≡ lowest (λ k. is_given (placed_at class order.now k) && not (is_allocated object.now k)) (2 ^ 32) }
+fn check_placed(object: &[u8], order: &Order<'_>) -> Result<(), u32>
+    requires { SoundObject object.now }
+    ensures { result ≡ lowest (λ k. is_given (placed_at order.now.class order.now.bytes.now k) && not (is_allocated object.now k)) (2 ^ 32) }
 {
-    let start = order_format::placements_start(class);
-    'search: for j in 0..counts.placements {
-        let e = order_format::read_entry(class, order, start, j);
+    'search: for j in 0..order.counts.placements {
+        let e = order.placement(j);
         if !elf_read::is_allocated_section(object, e.index) {
             return Err(e.index);
         }
@@ -54,13 +46,12 @@ fn check_placed(class: Class, object: &[u8], order: &[u8], counts: OrderHeader) 
 }
 
 // Check 6: the lowest number that is placed and not allocated, or allocated and not placed.
-pub fn check_placements(object: &[u8], order: &[u8], counts: OrderHeader) -> Result<(), u32>
-    requires { SoundObject object.now × (reading (class_of object.now) order.now ≡ Some counts) }
-    ensures { result ≡ placement_check object.now order.now }
+pub fn check_placements(object: &[u8], order: &Order<'_>) -> Result<(), u32>
+    requires { SoundObject object.now × (order.now.class ≡ class_of object.now) }
+    ensures { result ≡ placement_check object.now order.now.bytes.now }
 {
-    let class = class_of(object);
-    let unplaced = check_allocated(class, object, order, counts);
-    let extra = check_placed(class, object, order, counts);
+    let unplaced = check_allocated(object, order);
+    let extra = check_placed(object, order);
     match unplaced {
         Ok(()) => extra,
         Err(i) => match extra {
@@ -85,15 +76,13 @@ fn is_undefined(object: &[u8], symbols: Symbols, k: u32) -> bool
 }
 
 // Check 7: the lowest symbol that has an external value and is not undefined.
-pub fn check_externals(object: &[u8], order: &[u8], counts: OrderHeader) -> Result<(), u32>
-    requires { SoundObject object.now × (reading (class_of object.now) order.now ≡ Some counts) }
-    ensures { result ≡ external_check object.now order.now }
+pub fn check_externals(object: &[u8], order: &Order<'_>) -> Result<(), u32>
+    requires { SoundObject object.now × (order.now.class ≡ class_of object.now) }
+    ensures { result ≡ external_check object.now order.now.bytes.now }
 {
-    let class = class_of(object);
     let symbols = symbols_of(object);
-    let start = order_format::externals_start(class, counts.placements);
-    'search: for j in 0..counts.externals {
-        let e = order_format::read_entry(class, order, start, j);
+    'search: for j in 0..order.counts.externals {
+        let e = order.external(j);
         if !is_undefined(object, symbols, e.index) {
             return Err(e.index);
         }

@@ -4,7 +4,6 @@
 ghost use Rattle.std.specs.Prelude.{◌≡◌, List, ℕ};
 ghost use Rattle.elf_read.specs.Headers.{class_of};
 ghost use Rattle.elf_check.specs.Requires.{SoundObject};
-ghost use Rattle.order_format.specs.Orders.{reading};
 ghost use Rattle.placing_symbols.specs.Reasons.{reason_number, because};
 ghost use Rattle.placing_symbols.specs.Values.{is_wrong_type, of_entry};
 ghost use Rattle.placing_symbols.specs.Arrays.{listed, ValueArrays, Blank, Valued};
@@ -15,7 +14,7 @@ use elf_read::{
     Symbol, class_of,
 };
 use numbers_definitions::Address;
-use order_format::OrderHeader;
+use order_format::Order;
 use order_lookup::{Addresses, take_external};
 
 // Why a symbol has no value, in the order in which the reasons are looked at. The last is one of relocations that take a pair.
@@ -131,28 +130,26 @@ pub fn symbols_of(object: &[u8]) -> Symbols
 // Values and states are two arrays: one array of Results would need 57 KB more stack, which the C header does not allow.
 pub fn symbol_values(
     object: &[u8],
-    order: &[u8],
-    counts: OrderHeader,
+    order: &Order<'_>,
     symbols: Symbols,
     addresses: Addresses,
     values: &mut [u64],
     states: &mut [Result<(), Reason>],
 ) -> Addresses
-    requires { SoundObject object.now × (reading (class_of object.now) order.now ≡ Some counts) × SymbolsOf object.now symbols × Blank object.now values.old states.old }
-    ensures { (result ≡ addresses) × Valued object.now order.now addresses values.new states.new }
+    requires { SoundObject object.now × (order.now.class ≡ class_of object.now) × SymbolsOf object.now symbols × Blank object.now values.old states.old }
+    ensures { (result ≡ addresses) × Valued object.now order.now.bytes.now addresses values.new states.new }
 {
     let table = symbols.table;
     let count = symbols.count;
     // Symbol 0 resolves, to 0.
     states[0] = Ok(());
-    let class = class_of(object);
-    let first = take_external(class, order, counts, 0, 0);
+    let first = take_external(order, 0, 0);
     let mut next = first.next;
     for k in 1..count {
         let symbol = elf_read::read_symbol(object, table, k);
         let section = usize::from(symbol.section);
         let start = addresses.get(section).copied().unwrap_or(0);
-        let taken = take_external(class, order, counts, next, k as u32);
+        let taken = take_external(order, next, k as u32);
         let given = taken.value;
         let value = entry_value(object, given, start, symbol);
         next = taken.next;

@@ -5,13 +5,12 @@ ghost use Rattle.elf_read.specs.Headers.{class_of, max_sections};
 ghost use Rattle.elf_check.specs.Rules.{max_symbols};
 ghost use Rattle.elf_header.specs.Headers.{header_allowed};
 ghost use Rattle.elf_check.specs.Requires.{SoundObject};
-ghost use Rattle.order_format.specs.Orders.{reading};
 ghost use Rattle.order_format.specs.Windows.{max_image};
 ghost use Rattle.placing_symbols.specs.Arrays.{ValueArrays};
 
 use elf_check::MAX_SYMBOLS;
 use elf_read::{MAX_SECTIONS, class_of};
-use order_format::OrderHeader;
+use order_format::Order;
 use order_lookup::Addresses;
 use placing_symbols::{Reason, SymbolValue, reason_number};
 use std::io;
@@ -30,88 +29,63 @@ pub fn line(out: &mut impl Write, object: &[u8], order: &[u8], len: usize) -> io
 fn read(out: &mut impl Write, object: &[u8], order: &[u8], len: usize) -> io::Result<()>
     requires { header_allowed object.now ≡ true }
 {
-    match order_format::read_order(class_of(object), order) {
+    match Order::read(class_of(object), order) {
         None => tests_harness::answer(out, 2, 0),
-        Some(counts) => sections(out, object, order, counts, len),
+        Some(order) => sections(out, object, &order, len),
     }
 }
 
 // Checks 3 and 5.
-fn sections(
-    out: &mut impl Write,
-    object: &[u8],
-    order: &[u8],
-    counts: OrderHeader,
-    len: usize,
-) -> io::Result<()>
-    requires { (header_allowed object.now ≡ true) × (reading (class_of object.now) order.now ≡ Some counts) }
+fn sections(out: &mut impl Write, object: &[u8], order: &Order<'_>, len: usize) -> io::Result<()>
+    requires { (header_allowed object.now ≡ true) × (order.now.class ≡ class_of object.now) }
 {
-    if !order_format::window_allowed(class_of(object), counts.base, len) {
+    if !order_format::window_allowed(order.class, order.counts.base, len) {
         return tests_harness::answer(out, 3, 0);
     }
     match elf_check::check_sections(object) {
         Err(i) => tests_harness::answer(out, 5, u64::from(i)),
-        Ok(()) => placements(out, object, order, counts, len),
+        Ok(()) => placements(out, object, order, len),
     }
 }
 
 // Check 6.
-fn placements(
-    out: &mut impl Write,
-    object: &[u8],
-    order: &[u8],
-    counts: OrderHeader,
-    len: usize,
-) -> io::Result<()>
-    requires { SoundObject object.now × (reading (class_of object.now) order.now ≡ Some counts) × (len ≤ max_image) }
+fn placements(out: &mut impl Write, object: &[u8], order: &Order<'_>, len: usize) -> io::Result<()>
+    requires { SoundObject object.now × (order.now.class ≡ class_of object.now) × (len ≤ max_image) }
 {
-    match placing_match::check_placements(object, order, counts) {
+    match placing_match::check_placements(object, order) {
         Err(i) => tests_harness::answer(out, 6, u64::from(i)),
-        Ok(()) => externals(out, object, order, counts, len),
+        Ok(()) => externals(out, object, order, len),
     }
 }
 
 // Check 7.
-fn externals(
-    out: &mut impl Write,
-    object: &[u8],
-    order: &[u8],
-    counts: OrderHeader,
-    len: usize,
-) -> io::Result<()>
-    requires { SoundObject object.now × (reading (class_of object.now) order.now ≡ Some counts) × (len ≤ max_image) }
+fn externals(out: &mut impl Write, object: &[u8], order: &Order<'_>, len: usize) -> io::Result<()>
+    requires { SoundObject object.now × (order.now.class ≡ class_of object.now) × (len ≤ max_image) }
 {
-    match placing_match::check_externals(object, order, counts) {
+    match placing_match::check_externals(object, order) {
         Err(k) => tests_harness::answer(out, 7, u64::from(k)),
-        Ok(()) => placing(out, object, order, counts, len),
+        Ok(()) => placing(out, object, order, len),
     }
 }
 
 // Check 8.
-fn placing(
-    out: &mut impl Write,
-    object: &[u8],
-    order: &[u8],
-    counts: OrderHeader,
-    len: usize,
-) -> io::Result<()>
-    requires { SoundObject object.now × (reading (class_of object.now) order.now ≡ Some counts) × (len ≤ max_image) }
+fn placing(out: &mut impl Write, object: &[u8], order: &Order<'_>, len: usize) -> io::Result<()>
+    requires { SoundObject object.now × (order.now.class ≡ class_of object.now) × (len ≤ max_image) }
 {
-    let given = order_lookup::fill_addresses(class_of(object), [0u64; MAX_SECTIONS], order, counts);
-    match placing_check::check_placing(object, given, counts.base, len) {
+    let given = order_lookup::fill_addresses([0u64; MAX_SECTIONS], order);
+    match placing_check::check_placing(object, given, order.counts.base, len) {
         Err(i) => tests_harness::answer(out, 8, u64::from(i)),
-        Ok(array) => passed(out, object, order, counts, array),
+        Ok(array) => passed(out, object, order, array),
     }
 }
 
 fn passed(
     out: &mut impl Write,
     object: &[u8],
-    order: &[u8],
-    counts: OrderHeader,
+    order: &Order<'_>,
     array: Addresses,
 ) -> io::Result<()>
-    requires { SoundObject object.now × (reading (class_of object.now) order.now ≡ Some counts) }
+    requires { SoundObject object.now × (order.now.class ≡ class_of object.now) }
 {
     let symbols = placing_symbols::symbols_of(object);
     let mut numbers = [0u64; MAX_SYMBOLS];
@@ -119,7 +93,6 @@ fn passed(
     let known = placing_symbols::symbol_values(
         object,
         order,
-        counts,
         symbols,
         array,
         &mut numbers,

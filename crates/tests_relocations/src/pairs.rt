@@ -4,7 +4,6 @@ ghost use Rattle.std.specs.Prelude.{◌≡◌, true, ◌<◌, length};
 ghost use Rattle.elf_read.specs.Headers.{class_of, section_count};
 ghost use Rattle.elf_read.specs.Sections.{section_at, loaded};
 ghost use Rattle.elf_header.specs.Headers.{header_allowed, max_object};
-ghost use Rattle.order_format.specs.Orders.{reading};
 ghost use Rattle.order_lookup.specs.Addresses.{addresses_for};
 ghost use Rattle.calls_judgement.specs.Requires.{Placeable};
 ghost use Rattle.tests_relocations.specs.Requires.{Layable};
@@ -14,7 +13,7 @@ use calls_judge::Refusal;
 use elf_check::MAX_RELOCATIONS;
 use elf_header::MAX_OBJECT;
 use elf_read::MAX_SECTIONS;
-use order_format::OrderHeader;
+use order_format::Order;
 use order_lookup::Addresses;
 use std::io;
 use std::io::Write;
@@ -32,9 +31,9 @@ pub fn line(out: &mut impl Write, object: &[u8], order: &[u8], len: usize) -> io
 fn read(out: &mut impl Write, object: &[u8], order: &[u8], len: usize) -> io::Result<()>
     requires { header_allowed object.now ≡ true }
 {
-    match order_format::read_order(elf_read::class_of(object), order) {
+    match Order::read(elf_read::class_of(object), order) {
         None => write(out, Err(Refusal::OrderMalformed)),
-        Some(counts) => judged(out, object, order, counts, len),
+        Some(order) => judged(out, object, &order, len),
     }
 }
 
@@ -45,17 +44,11 @@ fn write(out: &mut impl Write, answer: Result<(), Refusal>) -> io::Result<()> {
     write!(out, " {reason}")
 }
 
-fn judged(
-    out: &mut impl Write,
-    object: &[u8],
-    order: &[u8],
-    counts: OrderHeader,
-    len: usize,
-) -> io::Result<()>
-    requires { (header_allowed object.now ≡ true) × (reading (class_of object.now) order.now ≡ Some counts) }
+fn judged(out: &mut impl Write, object: &[u8], order: &Order<'_>, len: usize) -> io::Result<()>
+    requires { (header_allowed object.now ≡ true) × (order.now.class ≡ class_of object.now) }
 {
-    match calls_judge::judge_sections(object, order, counts, len, [0u64; MAX_SECTIONS]) {
-        Ok(array) => relocations(out, object, order, counts, len, array),
+    match calls_judge::judge_sections(object, order, len, [0u64; MAX_SECTIONS]) {
+        Ok(array) => relocations(out, object, order, len, array),
         Err(refusal) => write(out, Err(refusal)),
     }
 }
@@ -64,22 +57,21 @@ fn judged(
 fn relocations(
     out: &mut impl Write,
     object: &[u8],
-    order: &[u8],
-    counts: OrderHeader,
+    order: &Order<'_>,
     len: usize,
     array: Addresses,
 ) -> io::Result<()>
-    requires { Placeable object.now order.now counts len × (array ≡ addresses_for object.now order.now) }
+    requires { Placeable object.now order.now.bytes.now order.now.counts len × (order.now.class ≡ class_of object.now) × (array ≡ addresses_for object.now order.now.bytes.now) }
 {
     let mut highs = [0u32; MAX_RELOCATIONS];
     let mut words = [0u64; MAX_RELOCATIONS];
     let mut sizes = [0u8; MAX_RELOCATIONS];
     match calls_judge::judge_relocations(
-        object, order, counts, len, array, &mut highs, &mut words, &mut sizes,
+        object, order, len, array, &mut highs, &mut words, &mut sizes,
     ) {
         Ok(array) => {
             write(out, Ok(()))?;
-            passed(out, object, order, array, &words, &sizes)
+            passed(out, object, order.bytes, array, &words, &sizes)
         }
         Err(refusal) => write(out, Err(refusal)),
     }

@@ -31,7 +31,7 @@ relocations_within-requires c = ((is_sound (goal.at.relocations_within-requires 
 
 pub with_scratch-requires : goal.with_scratch-requires
 with_scratch-requires c =
-    (c.requires.0, c.requires.1, all_of (goal.at.with_scratch-requires c).After-section_count-n 256 _ c.relocations_within.ensures c.if-relocations_within.true, omega arith, c.requires.2)
+    (c.requires.0, c.requires.1, c.requires.2, all_of (goal.at.with_scratch-requires c).After-section_count-n 256 _ c.relocations_within.ensures c.if-relocations_within.true, omega arith, c.requires.3)
 
 pub relocations_within-requires-2 : goal.relocations_within-requires-2
 relocations_within-requires-2 c =
@@ -39,8 +39,8 @@ relocations_within-requires-2 c =
 
 pub with_scratch-requires-then-relocations_within-2 : goal.with_scratch-requires-then-relocations_within-2
 with_scratch-requires-then-relocations_within-2 c =
-    (c.requires.0, c.requires.1, all_of (goal.at.with_scratch-requires-then-relocations_within-2 c).After-section_count-n 4096 _ c.relocations_within-2.ensures c.if-relocations_within-2.true, omega arith, c.requires.2)
+    (c.requires.0, c.requires.1, c.requires.2, all_of (goal.at.with_scratch-requires-then-relocations_within-2 c).After-section_count-n 4096 _ c.relocations_within-2.ensures c.if-relocations_within-2.true, omega arith, c.requires.3)
 
 pub with_scratch-requires-2 : goal.with_scratch-requires-2
 with_scratch-requires-2 c =
-    (c.requires.0, c.requires.1, relocations_few _ (is_sound (goal.at.with_scratch-requires-2 c).Start), omega arith, c.requires.2)
+    (c.requires.0, c.requires.1, c.requires.2, relocations_few _ (is_sound (goal.at.with_scratch-requires-2 c).Start), omega arith, c.requires.3)

@@ -25,7 +25,7 @@ abbrev S : Start → List ℕ
 S c = c.args.object.now
 
 abbrev O : Start → List ℕ
-O c = c.args.order.now
+O c = c.args.order.now.bytes.now
 
 abbrev Len : Start → ℕ
 Len c = length c.args.image.now
@@ -36,18 +36,18 @@ files c = record { image = c.args.image.now; journal = c.args.journal.now }
 abbrev pieces : Start → List Piece
 pieces c = plan_of (S c) (O c)
 
-base_is : (c : Start) → c.args.counts.base.0 ≡ base_for (S c) (O c)
-base_is c = (reading_sound (class_of (S c)) (O c) c.args.counts c.requires.0.placeable.named.readable.reading_is).base_is
+base_is : (c : Start) → c.args.order.now.counts.base.0 ≡ base_for (S c) (O c)
+base_is c = (reading_sound (class_of (S c)) (O c) c.args.order.now.counts c.requires.0.placeable.named.readable.reading_is).base_is
 
-low : (c : Start) → highest (S c) (addresses_for (S c) (O c)) c.args.counts.base.0 (section_count (S c)) < 4294967296
-low c = subst (λ b. highest (S c) (addresses_for (S c) (O c)) b (section_count (S c)) < 4294967296) (sym (base_is c)) (ends_low (S c) (O c) c.args.counts (Len c) c.requires.0)
+low : (c : Start) → highest (S c) (addresses_for (S c) (O c)) c.args.order.now.counts.base.0 (section_count (S c)) < 4294967296
+low c = subst (λ b. highest (S c) (addresses_for (S c) (O c)) b (section_count (S c)) < 4294967296) (sym (base_is c)) (ends_low (S c) (O c) c.args.order.now.counts (Len c) c.requires.0)
 
 plan_is : (c : Start) → judgement (S c) (O c) (Len c) ≡ plan (pieces c)
-plan_is c = gives_plan (S c) (O c) (Len c) c.args.counts c.requires.0
+plan_is c = gives_plan (S c) (O c) (Len c) c.args.order.now.counts c.requires.0
 
 span_taken : (c : After-span_of-span) → c.span_of-span.result ≡ spanOfPieces (pieces (goal.at.After-span_of-span c).Start)
 span_taken c =
-    c.span_of-span.ensures ∙ ap (λ l. span_of (S (goal.at.After-span_of-span c).Start) l c.args.counts.base.0) c.requires.1.addresses_are ∙ ap (span_of (S (goal.at.After-span_of-span c).Start) (addresses_for (S (goal.at.After-span_of-span c).Start) (O (goal.at.After-span_of-span c).Start))) (base_is (goal.at.After-span_of-span c).Start) ∙ span_is (S (goal.at.After-span_of-span c).Start) (O (goal.at.After-span_of-span c).Start) c.args.counts (Len (goal.at.After-span_of-span c).Start) c.requires.0
+    c.span_of-span.ensures ∙ ap (λ l. span_of (S (goal.at.After-span_of-span c).Start) l c.args.order.now.counts.base.0) c.requires.1.addresses_are ∙ ap (span_of (S (goal.at.After-span_of-span c).Start) (addresses_for (S (goal.at.After-span_of-span c).Start) (O (goal.at.After-span_of-span c).Start))) (base_is (goal.at.After-span_of-span c).Start) ∙ span_is (S (goal.at.After-span_of-span c).Start) (O (goal.at.After-span_of-span c).Start) c.args.order.now.counts (Len (goal.at.After-span_of-span c).Start) c.requires.0
 
 -- check 15 of the plan's span
 abbrev lacks : Start → Bool
@@ -62,7 +62,7 @@ room c = not-true _ (sym (room_asked (goal.at.Else-not-has_room c).After-has_roo
 
 pub span_of-span-requires : goal.span_of-span-requires
 span_of-span-requires c =
-    (is_sound _ _ _ _ c.requires.0, subst (λ l. highest (S (goal.at.span_of-span-requires c).Start) l c.args.counts.base.0 (section_count (S (goal.at.span_of-span-requires c).Start)) < 4294967296) (sym c.requires.1.addresses_are) (low (goal.at.span_of-span-requires c).Start))
+    (is_sound _ _ _ _ c.requires.0, subst (λ l. highest (S (goal.at.span_of-span-requires c).Start) l c.args.order.now.counts.base.0 (section_count (S (goal.at.span_of-span-requires c).Start)) < 4294967296) (sym c.requires.1.addresses_are) (low (goal.at.span_of-span-requires c).Start))
 
 pub returns-then-not-has_room : goal.returns-then-not-has_room
 returns-then-not-has_room c =
@@ -70,7 +70,7 @@ returns-then-not-has_room c =
 
 pub save-requires : goal.save-requires
 save-requires c =
-    subst (Savable c.args.image.now c.args.journal.now) (sym (span_taken (goal.at.save-requires c).After-span_of-span)) (plan_savable c.args.image.now c.args.journal.now (pieces (goal.at.save-requires c).Start) c.requires.2 (length_fits (S (goal.at.save-requires c).Start) (O (goal.at.save-requires c).Start) c.args.counts (Len (goal.at.save-requires c).Start) c.requires.0) (room (goal.at.save-requires c).Else-not-has_room) (plan_inside (S (goal.at.save-requires c).Start) (O (goal.at.save-requires c).Start) c.args.counts (Len (goal.at.save-requires c).Start) c.requires.0))
+    subst (Savable c.args.image.now c.args.journal.now) (sym (span_taken (goal.at.save-requires c).After-span_of-span)) (plan_savable c.args.image.now c.args.journal.now (pieces (goal.at.save-requires c).Start) c.requires.2 (length_fits (S (goal.at.save-requires c).Start) (O (goal.at.save-requires c).Start) c.args.order.now.counts (Len (goal.at.save-requires c).Start) c.requires.0) (room (goal.at.save-requires c).Else-not-has_room) (plan_inside (S (goal.at.save-requires c).Start) (O (goal.at.save-requires c).Start) c.args.order.now.counts (Len (goal.at.save-requires c).Start) c.requires.0))
 
 pub lay-requires : goal.lay-requires
 lay-requires c = (c.requires.0, c.requires.1.addresses_are, c.requires.1.worked)

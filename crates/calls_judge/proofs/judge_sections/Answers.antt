@@ -1,4 +1,5 @@
 -- `calls_judge::judge_sections` meets its contract.
+use Rattle.std.specs.Prelude.{Some}
 use mathlib.Core.Path.{◌≡◌, sym, ap, ◌∙◌}
 use mathlib.Core.Bool.{true}
 use mathlib.Core.List.{List}
@@ -7,7 +8,6 @@ use borrow.Author.Tests.{leb-true}
 use Rattle.numbers_definitions.proofs.Laws.Tests.{and_left}
 use Rattle.numbers_definitions.specs.Classes.{bits}
 use Rattle.elf_read.specs.Headers.{class_of, address_width}
-use Rattle.elf_read.proofs.Laws.Headers.{header_there}
 use Rattle.elf_header.proofs.Laws.Headers.{header_long}
 use Rattle.order_format.specs.Orders.{reading}
 use Rattle.order_format.specs.Windows.{length_allowed, window_allowed}
@@ -27,25 +27,25 @@ abbrev S : Start → List ℕ
 S c = c.args.object.now
 
 abbrev O : Start → List ℕ
-O c = c.args.order.now
+O c = c.args.order.now.bytes.now
 
-base_is : (c : Start) → base_for (S c) (O c) ≡ c.args.counts.base.0
-base_is c = sym (reading_sound (class_of (S c)) (O c) c.args.counts c.requires.1).base_is
+reading_is : (c : Start) → reading (class_of (S c)) (O c) ≡ Some c.args.order.now.counts
+reading_is c = ap (λ k. reading k (O c)) (sym c.requires.1) ∙ c.args.order.now.read_is
 
-pub class_of-class-requires : goal.class_of-class-requires
-class_of-class-requires c = header_there _ (header_long _ c.requires.0)
+base_is : (c : Start) → base_for (S c) (O c) ≡ c.args.order.now.counts.base.0
+base_is c = sym (reading_sound (class_of (S c)) (O c) c.args.order.now.counts (reading_is c)).base_is
 
 asked : (c : After-window_allowed) → let s = (goal.at.After-window_allowed c).Start in window_allowed (address_width (S s)) (base_for (S s) (O s)) c.args.len ≡ c.window_allowed.result
 asked c =
     let s = (goal.at.After-window_allowed c).Start in
     ap (λ b. window_allowed (address_width (S s)) b c.args.len) (base_is s)
-    ∙ ap (λ k. window_allowed (bits k) c.args.counts.base.0 c.args.len) (sym c.class_of-class.ensures)
+    ∙ ap (λ k. window_allowed (bits k) c.args.order.now.counts.base.0 c.args.len) (sym c.requires.1)
     ∙ sym c.window_allowed.ensures
 
 pub returns-then-not-window_allowed : goal.returns-then-not-window_allowed
 returns-then-not-window_allowed c =
     let a = c.args in
-    gives_3 a.object.now a.order.now a.len a.counts c.requires.0 c.requires.1 (asked (goal.at.returns-then-not-window_allowed c).After-window_allowed ∙ c.if-not-window_allowed.true)
+    gives_3 a.object.now a.order.now.bytes.now a.len a.order.now.counts c.requires.0 (reading_is (goal.at.returns-then-not-window_allowed c).Start) (asked (goal.at.returns-then-not-window_allowed c).After-window_allowed ∙ c.if-not-window_allowed.true)
 
 pub check_sections-requires : goal.check_sections-requires
 check_sections-requires c = header_long _ c.requires.0
@@ -54,11 +54,11 @@ window : (c : Else-not-window_allowed) → let s = (goal.at.Else-not-window_allo
 window c = asked (goal.at.Else-not-window_allowed c).After-window_allowed ∙ c.if-not-window_allowed.false
 
 -- an object that passes checks 4, 2, 3 and 5, and what check 6 finds
-readable : (c : After-check_placements) → let s = (goal.at.After-check_placements c).Start in Readable (S s) (O s) c.args.counts c.args.len
+readable : (c : After-check_placements) → let s = (goal.at.After-check_placements c).Start in Readable (S s) (O s) c.args.order.now.counts c.args.len
 readable c =
     record {
       header = c.requires.0;
-      reading_is = c.requires.1;
+      reading_is = reading_is (goal.at.After-check_placements c).Start;
       window = window (goal.at.After-check_placements c).Else-not-window_allowed;
       sections = sym c.check_sections.ensures ∙ passed BadSection _ _ c.map_err.ensures.cases _ c.in_ok-map_err.was;
     }
@@ -66,8 +66,8 @@ readable c =
 pub returns-in_err-map_err : goal.returns-in_err-map_err
 returns-in_err-map_err c =
     let a = c.args in
-    handed_on BadSection _ _ c.map_err.ensures.cases _ c.in_err-map_err.was (PlacedWell a.object.now a.order.now a.counts a.len)
-    (λ i e. gives_5 a.object.now a.order.now a.len a.counts i c.requires.0 c.requires.1 (window (goal.at.returns-in_err-map_err c).Else-not-window_allowed) (sym c.check_sections.ensures ∙ e))
+    handed_on BadSection _ _ c.map_err.ensures.cases _ c.in_err-map_err.was (PlacedWell a.object.now a.order.now.bytes.now a.order.now.counts a.len)
+    (λ i e. gives_5 a.object.now a.order.now.bytes.now a.len a.order.now.counts i c.requires.0 (reading_is (goal.at.returns-in_err-map_err c).Start) (window (goal.at.returns-in_err-map_err c).Else-not-window_allowed) (sym c.check_sections.ensures ∙ e))
     _ c.from_residual.ensures.1
 
 pub check_placements-requires : goal.check_placements-requires
@@ -76,23 +76,20 @@ check_placements-requires c = (sound_object _ c.requires.0 (sym c.check_sections
 pub returns-in_err-map_err-2 : goal.returns-in_err-map_err-2
 returns-in_err-map_err-2 c =
     let a = c.args in
-    handed_on PlacementsDiffer _ _ c.map_err-2.ensures.cases _ c.in_err-map_err-2.was (PlacedWell a.object.now a.order.now a.counts a.len)
-    (λ i e. gives_6 a.object.now a.order.now a.len a.counts i (readable (goal.at.returns-in_err-map_err-2 c).After-check_placements) (sym c.check_placements.ensures ∙ e))
+    handed_on PlacementsDiffer _ _ c.map_err-2.ensures.cases _ c.in_err-map_err-2.was (PlacedWell a.object.now a.order.now.bytes.now a.order.now.counts a.len)
+    (λ i e. gives_6 a.object.now a.order.now.bytes.now a.len a.order.now.counts i (readable (goal.at.returns-in_err-map_err-2 c).After-check_placements) (sym c.check_placements.ensures ∙ e))
     _ c.from_residual-in_err-map_err-2.ensures.1
 
 pub check_externals-requires : goal.check_externals-requires
-check_externals-requires c = let r = readable (goal.at.check_externals-requires c).After-check_placements in (sound_object _ r.header r.sections, r.reading_is)
+check_externals-requires c = let r = readable (goal.at.check_externals-requires c).After-check_placements in (sound_object _ r.header r.sections, c.requires.1)
 
 pub returns-in_err-map_err-3 : goal.returns-in_err-map_err-3
 returns-in_err-map_err-3 c =
     let a = c.args in
-    handed_on WrongExternal _ _ c.map_err-3.ensures.cases _ c.in_err-map_err-3.was (PlacedWell a.object.now a.order.now a.counts a.len)
-    (λ k e. gives_7 a.object.now a.order.now a.len a.counts k (readable (goal.at.returns-in_err-map_err-3 c).After-check_placements)
+    handed_on WrongExternal _ _ c.map_err-3.ensures.cases _ c.in_err-map_err-3.was (PlacedWell a.object.now a.order.now.bytes.now a.order.now.counts a.len)
+    (λ k e. gives_7 a.object.now a.order.now.bytes.now a.len a.order.now.counts k (readable (goal.at.returns-in_err-map_err-3 c).After-check_placements)
     (sym c.check_placements.ensures ∙ passed PlacementsDiffer _ _ c.map_err-2.ensures.cases _ c.in_ok-map_err-2.was) (sym c.check_externals.ensures ∙ e))
     _ c.from_residual-in_err-map_err-3.ensures.1
-
-pub fill_addresses-filled-requires : goal.fill_addresses-filled-requires
-fill_addresses-filled-requires c = (c.requires.2, ap (λ k. reading k c.args.order.now) c.class_of-class.ensures ∙ c.requires.1)
 
 pub check_placing-requires : goal.check_placing-requires
 unfolding window_allowed length_allowed
@@ -101,7 +98,7 @@ check_placing-requires c =
     (sound_object _ f.header f.sections, leb-true _ _ (and_left (length_allowed c.args.len) _ f.window))
 
 -- checks 2 to 7 have passed, and check 8 is asked of the order's addresses
-named : (c : After-check_placing) → let s = (goal.at.After-check_placing c).Start in Named (S s) (O s) c.args.counts c.args.len
+named : (c : After-check_placing) → let s = (goal.at.After-check_placing c).Start in Named (S s) (O s) c.args.order.now.counts c.args.len
 named c =
     record {
       readable = readable (goal.at.After-check_placing c).After-check_placements;
@@ -110,19 +107,19 @@ named c =
     }
 
 array_is : (c : After-check_placing) → let s = (goal.at.After-check_placing c).Start in c.fill_addresses-filled.result ≡ addresses_for (S s) (O s)
-array_is c = c.fill_addresses-filled.ensures ∙ ap (λ k. addresses k (O (goal.at.After-check_placing c).Start)) c.class_of-class.ensures
+array_is c = c.fill_addresses-filled.ensures ∙ ap (λ k. addresses k (O (goal.at.After-check_placing c).Start)) c.requires.1
 
 asked_placing : (c : After-check_placing) → let s = (goal.at.After-check_placing c).Start in
-    placing_check (S s) (addresses_for (S s) (O s)) (base_for (S s) (O s)) c.args.len ≡ placing_check (S s) c.fill_addresses-filled.result c.args.counts.base.0 c.args.len
+    placing_check (S s) (addresses_for (S s) (O s)) (base_for (S s) (O s)) c.args.len ≡ placing_check (S s) c.fill_addresses-filled.result c.args.order.now.counts.base.0 c.args.len
 asked_placing c =
     let s = (goal.at.After-check_placing c).Start in
     ap (λ b. placing_check (S s) (addresses_for (S s) (O s)) b c.args.len) (base_is s)
-    ∙ ap (λ l. placing_check (S s) l c.args.counts.base.0 c.args.len) (sym (array_is c))
+    ∙ ap (λ l. placing_check (S s) l c.args.order.now.counts.base.0 c.args.len) (sym (array_is c))
 
 pub returns : goal.returns
 returns c =
     let a = c.args in
     let p = (goal.at.returns c).After-check_placing in
-    ended Misplaced _ _ c.map_err-4.ensures.cases _ _ c.check_placing.ensures (PlacedWell a.object.now a.order.now a.counts a.len)
+    ended Misplaced _ _ c.map_err-4.ensures.cases _ _ c.check_placing.ensures (PlacedWell a.object.now a.order.now.bytes.now a.order.now.counts a.len)
     (λ handed f. (record { named = named p; placing = asked_placing p ∙ f.0 }, f.1 ∙ array_is p))
-    (λ i f. gives_8 a.object.now a.order.now a.len a.counts i (named p) (asked_placing p ∙ f))
+    (λ i f. gives_8 a.object.now a.order.now.bytes.now a.len a.order.now.counts i (named p) (asked_placing p ∙ f))

@@ -5,4 +5,4 @@ use Rattle.calls_judgement.proofs.Laws.Laying.{laid_below}
 use Rattle.calls_lay.proofs.lay_all.Given as goal
 
 abbrev pub invariant-loop-t : goal.invariant-loop-t
-invariant-loop-t l = (length l.image ≡ length l.initial.image) × (l.image ≡ laid_below l.object l.order l.initial.image l.t)
+invariant-loop-t l = (length l.image ≡ length l.initial.image) × (l.image ≡ laid_below l.object l.order.bytes.now l.initial.image l.t)

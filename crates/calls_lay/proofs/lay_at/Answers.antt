@@ -18,7 +18,7 @@ abbrev S : Start → List ℕ
 S c = c.args.object.now
 
 abbrev O : Start → List ℕ
-O c = c.args.order.now
+O c = c.args.order.now.bytes.now
 
 abbrev Image : Start → List ℕ
 Image c = c.args.image.now
@@ -38,7 +38,7 @@ lay_section-requires c =
     let f = c.requires in
     let end = c.args.at + c.read_section-h.result.size in
     let whole : length (take (end - c.args.at) (drop c.args.at (Image (goal.at.lay_section-requires c).Start))) ≡ end - c.args.at = mid_len c.args.at end (Image (goal.at.lay_section-requires c).Start) (omega (arith, inside (goal.at.lay_section-requires c).After-read_section-h)) in
-    (is_sound _ _ _ _ f.0, subst (Placed (S (goal.at.lay_section-requires c).Start)) (sym f.1) (is_placed (S (goal.at.lay_section-requires c).Start) (O (goal.at.lay_section-requires c).Start) c.args.counts (length (Image (goal.at.lay_section-requires c).Start)) f.0), ap (relocation_check (S (goal.at.lay_section-requires c).Start) (O (goal.at.lay_section-requires c).Start)) f.1 ∙ f.0.relocations, f.2, f.3, f.4, omega (arith, size_is (goal.at.lay_section-requires c).After-read_section-h), f.6, f.7)
+    (is_sound _ _ _ _ f.0, subst (Placed (S (goal.at.lay_section-requires c).Start)) (sym f.1) (is_placed (S (goal.at.lay_section-requires c).Start) (O (goal.at.lay_section-requires c).Start) c.args.order.now.counts (length (Image (goal.at.lay_section-requires c).Start)) f.0), ap (relocation_check (S (goal.at.lay_section-requires c).Start) (O (goal.at.lay_section-requires c).Start)) f.1 ∙ f.0.relocations, f.2, f.3, f.4, omega (arith, size_is (goal.at.lay_section-requires c).After-read_section-h), f.6, f.7)
 
 pub returns : goal.returns
 returns c =
@@ -46,6 +46,6 @@ returns c =
     let at = c.args.at in
     let end = at + c.read_section-h.result.size in
     let bytes = relocated (S (goal.at.returns c).Start) (O (goal.at.returns c).Start) (addresses_for (S (goal.at.returns c).Start) (O (goal.at.returns c).Start)) c.args.t in
-    let long : length bytes ≡ (section_at (S (goal.at.returns c).Start) c.args.t).size = relocated_length (S (goal.at.returns c).Start) (O (goal.at.returns c).Start) c.args.counts (length (Image (goal.at.returns c).Start)) f.0 c.args.t f.3 f.4 in
+    let long : length bytes ≡ (section_at (S (goal.at.returns c).Start) c.args.t).size = relocated_length (S (goal.at.returns c).Start) (O (goal.at.returns c).Start) c.args.order.now.counts (length (Image (goal.at.returns c).Start)) f.0 c.args.t f.3 f.4 in
     ap (λ y. put_mid at (end - at) (Image (goal.at.returns c).Start) y) (c.lay_section.ensures ∙ ap (λ l. relocated (S (goal.at.returns c).Start) (O (goal.at.returns c).Start) l c.args.t) f.1)
     ∙ put_part at end (Image (goal.at.returns c).Start) bytes (omega arith) (omega (arith, inside (goal.at.returns c).After-read_section-h)) (omega (arith, size_is (goal.at.returns c).After-read_section-h))

@@ -20,13 +20,13 @@ abbrev S : Start → List ℕ
 S c = c.args.object.now
 
 abbrev O : Start → List ℕ
-O c = c.args.order.now
+O c = c.args.order.now.bytes.now
 
 abbrev Len : Start → ℕ
 Len c = length c.args.image.now
 
-base_is : (c : Start) → c.args.counts.base.0 ≡ base_for (S c) (O c)
-base_is c = (reading_sound (class_of (S c)) (O c) c.args.counts c.requires.0.placeable.named.readable.reading_is).base_is
+base_is : (c : Start) → c.args.order.now.counts.base.0 ≡ base_for (S c) (O c)
+base_is c = (reading_sound (class_of (S c)) (O c) c.args.order.now.counts c.requires.0.placeable.named.readable.reading_is).base_is
 
 address : (c : Start) → get_or c.args.addresses.now c.args.t 0 ≡ get_or (addresses_for (S c) (O c)) c.args.t 0
 address c = ap (λ l. get_or l c.args.t 0) c.requires.1
@@ -41,7 +41,7 @@ some : (c : Else-not-has_bytes) → has_bytes (section_at (S (goal.at.Else-not-h
 some c = has_bytes_is (goal.at.Else-not-has_bytes c).After-has_bytes ∙ c.if-not-has_bytes.false
 
 inside : (c : Else-not-has_bytes) → (base_for (S (goal.at.Else-not-has_bytes c).Start) (O (goal.at.Else-not-has_bytes c).Start) ≤ get_or (addresses_for (S (goal.at.Else-not-has_bytes c).Start) (O (goal.at.Else-not-has_bytes c).Start)) (T c) 0) × (get_or (addresses_for (S (goal.at.Else-not-has_bytes c).Start) (O (goal.at.Else-not-has_bytes c).Start)) (T c) 0 - base_for (S (goal.at.Else-not-has_bytes c).Start) (O (goal.at.Else-not-has_bytes c).Start) + (section_at (S (goal.at.Else-not-has_bytes c).Start) (T c)).size ≤ Len (goal.at.Else-not-has_bytes c).Start)
-inside c = bytes_inside (S (goal.at.Else-not-has_bytes c).Start) (O (goal.at.Else-not-has_bytes c).Start) c.args.counts (Len (goal.at.Else-not-has_bytes c).Start) c.requires.0 (T c) c.requires.3 (some c)
+inside c = bytes_inside (S (goal.at.Else-not-has_bytes c).Start) (O (goal.at.Else-not-has_bytes c).Start) c.args.order.now.counts (Len (goal.at.Else-not-has_bytes c).Start) c.requires.0 (T c) c.requires.3 (some c)
 
 pub read_section-h-requires : goal.read_section-h-requires
 read_section-h-requires c =
@@ -57,9 +57,9 @@ overflow_sub-at c = omega (arith, (inside (goal.at.overflow_sub-at c).Else-not-h
 pub lay_at-requires : goal.lay_at-requires
 lay_at-requires c =
     let f = c.requires in
-    (f.0, f.1, f.2, f.3, bytes_loaded (S (goal.at.lay_at-requires c).Start) (O (goal.at.lay_at-requires c).Start) c.args.counts (Len (goal.at.lay_at-requires c).Start) f.0 c.args.t (some (goal.at.lay_at-requires c).Else-not-has_bytes), omega (arith, (inside (goal.at.lay_at-requires c).Else-not-has_bytes).0, (inside (goal.at.lay_at-requires c).Else-not-has_bytes).1, base_is (goal.at.lay_at-requires c).Start, address (goal.at.lay_at-requires c).Start), f.4, f.5)
+    (f.0, f.1, f.2, f.3, bytes_loaded (S (goal.at.lay_at-requires c).Start) (O (goal.at.lay_at-requires c).Start) c.args.order.now.counts (Len (goal.at.lay_at-requires c).Start) f.0 c.args.t (some (goal.at.lay_at-requires c).Else-not-has_bytes), omega (arith, (inside (goal.at.lay_at-requires c).Else-not-has_bytes).0, (inside (goal.at.lay_at-requires c).Else-not-has_bytes).1, base_is (goal.at.lay_at-requires c).Start, address (goal.at.lay_at-requires c).Start), f.4, f.5)
 
 pub returns : goal.returns
 returns c =
-    let at : get_or c.args.addresses.now c.args.t 0 - c.args.counts.base.0 ≡ get_or (addresses_for (S (goal.at.returns c).Start) (O (goal.at.returns c).Start)) c.args.t 0 - base_for (S (goal.at.returns c).Start) (O (goal.at.returns c).Start) = omega (arith, base_is (goal.at.returns c).Start, address (goal.at.returns c).Start) in
+    let at : get_or c.args.addresses.now c.args.t 0 - c.args.order.now.counts.base.0 ≡ get_or (addresses_for (S (goal.at.returns c).Start) (O (goal.at.returns c).Start)) c.args.t 0 - base_for (S (goal.at.returns c).Start) (O (goal.at.returns c).Start) = omega (arith, base_is (goal.at.returns c).Start, address (goal.at.returns c).Start) in
     c.lay_at.ensures ∙ ap (λ k. sets c.args.image.now k (relocated (S (goal.at.returns c).Start) (O (goal.at.returns c).Start) (addresses_for (S (goal.at.returns c).Start) (O (goal.at.returns c).Start)) c.args.t)) at ∙ sym (with_some (S (goal.at.returns c).Start) (O (goal.at.returns c).Start) c.args.image.now c.args.t (some (goal.at.returns c).Else-not-has_bytes))

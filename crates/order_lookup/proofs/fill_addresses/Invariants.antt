@@ -5,4 +5,4 @@ use Rattle.order_lookup.proofs.fill_addresses.Given as goal
 
 abbrev pub invariant-loop-i : goal.invariant-loop-i
 invariant-loop-i l =
-    l.array ≡ filled l.class l.order l.i
+    l.array ≡ filled l.order.class l.order.bytes.now l.i

@@ -14,7 +14,7 @@ pub returns-then-allocated-placed : goal.returns-then-allocated-placed
 returns-then-allocated-placed c =
     let s = c.args.object.now in
     let i = c.search.i in
-    let found : (is_allocated s i && not (is_given (placed_at c.args.class c.args.order.now i))) ≡ true = search rules in
+    let found : (is_allocated s i && not (is_given (placed_at c.args.order.now.class c.args.order.now.bytes.now i))) ≡ true = search rules in
     sym (lowest_at _ (section_count s) i (omega (arith, c.section_count-n.ensures)) c.search.invariant found)
 
 pub returns : goal.returns

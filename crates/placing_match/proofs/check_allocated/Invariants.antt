@@ -8,4 +8,4 @@ use Rattle.order_lookup.specs.Values.{is_given}
 use Rattle.placing_match.proofs.check_allocated.Given as goal
 
 abbrev pub invariant-search : goal.invariant-search
-invariant-search l = (j : ℕ) → j < l.i → (is_allocated l.object j && not (is_given (placed_at l.class l.order j))) ≡ false
+invariant-search l = (j : ℕ) → j < l.i → (is_allocated l.object j && not (is_given (placed_at l.order.class l.order.bytes.now j))) ≡ false

@@ -7,4 +7,4 @@ use Rattle.order_format.specs.Orders.{placement}
 use Rattle.placing_match.proofs.check_placed.Given as goal
 
 abbrev pub invariant-search : goal.invariant-search
-invariant-search l = (k : ℕ) → k < l.j → not (is_allocated l.object (placement l.class l.order k).index) ≡ false
+invariant-search l = (k : ℕ) → k < l.j → not (is_allocated l.object (placement l.order.class l.order.bytes.now k).index) ≡ false

@@ -15,15 +15,15 @@ use Rattle.placing_match.proofs.check_placements.Goals.{After-check_placed-extra
 few : (c : After-check_placed-extra) → section_count c.args.object.now ≤ 2 ^ 32
 few c = omega (arith, c.requires.0.table.few)
 
-unplaced_is : (c : After-check_placed-extra) → c.check_allocated-unplaced.result ≡ unplaced_check c.args.object.now c.args.order.now
+unplaced_is : (c : After-check_placed-extra) → c.check_allocated-unplaced.result ≡ unplaced_check c.args.object.now c.args.order.now.bytes.now
 unplaced_is c =
     c.check_allocated-unplaced.ensures
-    ∙ ap (λ k. lowest (λ i. is_allocated c.args.object.now i && not (is_given (placed_at k c.args.order.now i))) (section_count c.args.object.now)) c.class_of-class.ensures
+    ∙ ap (λ k. lowest (λ i. is_allocated c.args.object.now i && not (is_given (placed_at k c.args.order.now.bytes.now i))) (section_count c.args.object.now)) c.requires.1
 
-extra_is : (c : After-check_placed-extra) → c.check_placed-extra.result ≡ extra_check c.args.object.now c.args.order.now
+extra_is : (c : After-check_placed-extra) → c.check_placed-extra.result ≡ extra_check c.args.object.now c.args.order.now.bytes.now
 extra_is c =
     c.check_placed-extra.ensures
-    ∙ ap (λ k. lowest (λ i. is_given (placed_at k c.args.order.now i) && not (is_allocated c.args.object.now i)) (2 ^ 32)) c.class_of-class.ensures
+    ∙ ap (λ k. lowest (λ i. is_given (placed_at k c.args.order.now.bytes.now i) && not (is_allocated c.args.object.now i)) (2 ^ 32)) c.requires.1
 
 pub returns-in-Ok : goal.returns-in-Ok
 returns-in-Ok c =

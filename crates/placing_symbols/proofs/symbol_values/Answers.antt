@@ -1,5 +1,4 @@
 -- `placing_symbols::symbol_values` meets its contract.
-use Rattle.std.specs.Prelude.{Some}
 use Rattle.std.specs.Option.{unwrap_or}
 use mathlib.Core.Path.{◌≡◌, refl, sym, ap, ◌∙◌}
 use Prim.Native.Nat.{◌≤◌, ◌<◌}
@@ -9,17 +8,12 @@ use Rattle.elf_read.specs.Sections.{section_at, symbol_table}
 use Rattle.elf_read.specs.Entries.{symbol_at, symbol_count}
 use Rattle.elf_check.specs.Rules.{max_symbols}
 use Rattle.elf_check.proofs.Laws.Bounds.{symbol_inside, symbols_few}
-use Rattle.order_format.specs.Orders.{reading}
 use Rattle.order_lookup.specs.Values.{external_value}
 use Rattle.placing_symbols.specs.Values.{of_entry, symbol_value}
 use Rattle.placing_symbols.proofs.Laws.Values.{value_read}
 use Rattle.placing_symbols.proofs.Laws.Arrays.{below_one, below_resolved, below_unresolved, below_all}
 use Rattle.placing_symbols.proofs.symbol_values.Goals as goal
-use Rattle.placing_symbols.proofs.symbol_values.Goals.{in-Ok, in-Err, After-class_of-class, In-loop-k, After-unwrap_or-start}
-
--- the order was read by the class that the code has
-reads : (c : After-class_of-class) → reading c.class_of-class.result c.args.order.now ≡ Some c.args.counts
-reads c = ap (λ k. reading k c.args.order.now) c.class_of-class.ensures ∙ c.requires.1
+use Rattle.placing_symbols.proofs.symbol_values.Goals.{in-Ok, in-Err, In-loop-k, After-unwrap_or-start}
 
 -- the symbol is one of the table, and both arrays have room for it
 in_table : (c : In-loop-k) → let h = c.loop-k in let s = c.args.object.now in
@@ -51,10 +45,10 @@ loop-k-preserved c =
     let k = c.loop-k.k in
     let symbol : c.read_symbol-symbol.result ≡ symbol_at s (section_at s (symbol_table s)) k =
     c.read_symbol-symbol.ensures ∙ ap (λ h. symbol_at s h k) (c.requires.2.table (omega arith)) in
-    let is : c.entry_value-value.result ≡ symbol_value s c.args.order.now c.args.addresses k =
+    let is : c.entry_value-value.result ≡ symbol_value s c.args.order.now.bytes.now c.args.addresses k =
     c.entry_value-value.ensures
-    ∙ ap (λ g. of_entry s g c.unwrap_or-start.result c.read_symbol-symbol.result) (c.take_external-taken.ensures.0 ∙ ap (λ n. external_value n c.args.order.now k) c.class_of-class.ensures)
-    ∙ value_read s c.args.order.now c.args.addresses k (omega arith) (in_table (goal.at.loop-k-preserved c).In-loop-k).0 _ symbol _ (start_is (goal.at.loop-k-preserved c).After-unwrap_or-start) in
+    ∙ ap (λ g. of_entry s g c.unwrap_or-start.result c.read_symbol-symbol.result) (c.take_external-taken.ensures.0 ∙ ap (λ n. external_value n c.args.order.now.bytes.now k) c.requires.1)
+    ∙ value_read s c.args.order.now.bytes.now c.args.addresses k (omega arith) (in_table (goal.at.loop-k-preserved c).In-loop-k).0 _ symbol _ (start_is (goal.at.loop-k-preserved c).After-unwrap_or-start) in
     let room = (in_table (goal.at.loop-k-preserved c).In-loop-k).2 in (
       elim c.match-value.branch [
         | in-Ok w ↦ rw (w.values-is, w.states-is) (below_resolved _ _ _ _ _ _ c.loop-k.invariant.0 room _ (sym w.in-Ok.is ∙ is))

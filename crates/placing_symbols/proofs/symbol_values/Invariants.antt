@@ -5,5 +5,5 @@ use Rattle.placing_symbols.proofs.symbol_values.Given as goal
 
 abbrev pub invariant-loop-k : goal.invariant-loop-k
 invariant-loop-k l =
-    ValuedBelow l.object l.order l.addresses l.values l.states l.k
-    × Reached l.class l.order l.next l.k
+    ValuedBelow l.object l.order.bytes.now l.addresses l.values l.states l.k
+    × Reached l.order.class l.order.bytes.now l.next l.k

@@ -1,13 +1,11 @@
 -- `tests_placings::pairs::read` is safe and ends: an object that passes check 4 has a header.
-use mathlib.Core.Path.{sym, ap, ◌∙◌}
+use mathlib.Core.Path.{◌∙◌}
 use Rattle.elf_read.proofs.Laws.Headers.{header_there}
 use Rattle.elf_header.proofs.Laws.Headers.{header_long}
-use Rattle.order_format.specs.Orders.{reading}
 use Rattle.tests_placings.proofs.pairs.read.Goals as goal
 
 pub class_of-requires : goal.class_of-requires
 class_of-requires g c = header_there _ (header_long _ c.requires)
 
 pub sections-requires : goal.sections-requires
-sections-requires g c =
-    (c.requires, ap (λ k. reading k c.args.order.now) (sym c.class_of.ensures) ∙ sym c.read_order.ensures ∙ c.in-Some.is)
+sections-requires g c = (c.requires, c.in-Some.ensures.0 ∙ c.class_of.ensures)

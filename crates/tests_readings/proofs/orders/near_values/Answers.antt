@@ -5,4 +5,4 @@ use Rattle.tests_readings.proofs.orders.near_values.Goals as goal
 
 pub read_entry-e-requires : goal.read_entry-e-requires
 read_entry-e-requires c =
-    omega (arith, c.requires.1, entry_inside c.args.class c.loop-i.i c.args.n c.loop-i-test.true)
+    omega (arith, c.requires, entry_inside c.args.order.now.class c.loop-i.i c.args.n c.loop-i-test.true)

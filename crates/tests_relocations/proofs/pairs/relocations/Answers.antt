@@ -12,12 +12,12 @@ use Rattle.tests_relocations.proofs.pairs.relocations.Goals as goal
 pub judge_relocations-requires : goal.judge_relocations-requires
 judge_relocations-requires g c =
     let r = c.requires.0.named.readable in
-    (c.requires.0, c.requires.1, lent c.args.object.now max_relocations (relocations_few _ (sound_object _ r.header r.sections)) (omega arith))
+    (c.requires.0, c.requires.1, c.requires.2, lent c.args.object.now max_relocations (relocations_few _ (sound_object _ r.header r.sections)) (omega arith))
 
 pub passed-requires : goal.passed-requires
 passed-requires g c =
     let a = c.args in
     let done = c.in-Ok.ensures in
-    let f = done_fits a.object.now a.order.now a.len _ done.0 c.requires.0.named.readable.reading_is in
+    let f = done_fits a.object.now a.order.now.bytes.now a.len _ done.0 c.requires.0.named.readable.reading_is in
     let same = sym done.1.addresses_are in
-    record { sound = is_sound a.object.now a.order.now _ _ f; placed = rw same at (is_placed a.object.now a.order.now _ _ f); passed = rw same at f.relocations; worked = done.1.worked }
+    record { sound = is_sound a.object.now a.order.now.bytes.now _ _ f; placed = rw same at (is_placed a.object.now a.order.now.bytes.now _ _ f); passed = rw same at f.relocations; worked = done.1.worked }
