@@ -1,4 +1,5 @@
--- That an alignment is allowed has one proof at most: it is 0, or has one bit.
+-- That an alignment is allowed has one proof at most: it is 0, or has one bit, and 0 has none. The ghost field of Source needs it, and a
+-- ghost field may cite only specs/: nothing is defined here.
 use mathlib.Core.Path.{◌≡◌, refl, sym, ap, ◌∙◌}
 use mathlib.Core.Bool.{true, false, Bool-set}
 use mathlib.Core.Logic.{◌⊎◌, inl, inr}
@@ -8,6 +9,7 @@ use Rattle.numbers_definitions.specs.First.{first}
 use Rattle.numbers_definitions.specs.Powers.{one_bit}
 use Rattle.numbers_definitions.proofs.Laws.Tests.{never}
 
+-- no power of two is 0
 no_bit : one_bit 64 0 ≡ false
 unfolding one_bit first
 no_bit = refl

@@ -78,7 +78,7 @@ fn found_bytes(object: &[u8], site: Site, rule: Rule, here: Relocation, j: usize
 }
 
 // How many high halves a site has. They are listed, unless they are listed already.
-// `highs` and `known` stay two parameters: of a struct that holds a `&mut`, each contract would say that the reference stays the same one.
+// `highs` and `known` stay two parameters: where a struct holds the `&mut`, only its length is known once pair_at was lent it.
 fn listed_highs(object: &[u8], site: Site, highs: &mut [u32], known: &mut Option<usize>) -> usize
     requires { SoundSite object.now site × Listing object.now site highs.old known.old }
     ensures { Listed object.now site highs.new result × Relisted object.now site highs.old highs.new known.new }
