@@ -122,7 +122,7 @@ pub fn install(
     finish(object, &read, addresses, image, journal)
 }
 
-// The refusal of a call for that of a rollback.
+// The refusal of a call for that of a rollback. It is no `From`: neither type is of this crate.
 fn refusal_of(refusal: RollbackRefusal) -> Refusal
     ensures { answer_of (Err result) ≡ undo_answer_of (Err refusal) }
 {

@@ -1,4 +1,6 @@
 // An ELF object of either class: its header, sections, symbols and relocations. Everything is read out of the caller's bytes.
+// An object stays a slice, and what is known of it a clause of one word (`HeaderInside`, `TableInside`): a struct that says so would put
+// `.bytes` into each equation with a definition over bytes, and an object becomes sound in the middle of the judgement.
 #![tactic(auto)]
 
 ghost use Rattle.std.specs.Prelude.{◌≡◌, ◌&&◌, ◌+◌, ◌*◌, ◌/◌, ◌^◌, ◌≤◌, ◌<◌, length, leb, eqb};
@@ -41,7 +43,8 @@ pub const STT_TLS: u8 = 6;
 
 pub const STT_GNU_IFUNC: u8 = 10;
 
-// A section header.
+// A section header. Types of sections, symbols and relocations are the file's own numbers: any number may stand there, and the
+// definitions compare it.
 #[derive(Clone, Copy)]
 pub struct Section {
     pub kind: u32,

@@ -57,7 +57,8 @@ fn make_calls(calls: &[u8], n: usize, image: &mut [u8], ledger: &mut [u8], answe
     }
 }
 
-// Runs a list of n calls if there are enough places for their answers. It returns 1 if it ran them, otherwise 0.
+// Runs a list of n calls if there are enough places for their answers. It returns 1 if it ran them, otherwise 0, the
+// numbers of the C interface.
 fn replay_list(
     calls: &[u8],
     n: usize,

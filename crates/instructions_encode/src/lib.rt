@@ -85,7 +85,7 @@ pub fn put_cj(word: u64, value: u64) -> u64
     word % 4 + cj_field(half as usize) as u64 + word / 0x2000 % 8 * 0x2000
 }
 
-// A data field: all of its bytes, or the low six bits of one.
+// A data field: all of its bytes, or the low six bits of one. Every width is named, so that a new one has to be placed.
 #[tactic(auto, unfolding(instructions_fields::specs::Layouts::put))]
 pub fn put_data(width: Width, word: u64, value: u64) -> u64
     ensures { result ≡ put (data_layout width) word value }

@@ -32,6 +32,7 @@ fn check_allocated(object: &[u8], order: &Order<'_>) -> Result<(), u32>
 }
 
 // Check 6, where it asks that each section that is placed is allocated: the lowest number that is placed and names no allocated section.
+// The loop is that of `check_externals` over another list: one for both would take the list, the test and what each says of the other.
 fn check_placed(object: &[u8], order: &Order<'_>) -> Result<(), u32>
     requires { SoundObject object.now }
     ensures { result ≡ lowest (λ k. is_given (placed_at order.now.class order.now.bytes.now k) && not (is_allocated object.now k)) (2 ^ 32) }

@@ -32,7 +32,7 @@ pub enum Reason {
 // The value of a symbol, or why it has none.
 pub type SymbolValue = Result<Address, Reason>;
 
-// The number of a reason.
+// The number of a reason, which the C interface has. Every reason is named, so that a new one has to be given a number.
 pub fn reason_number(reason: Reason) -> u8
     ensures { result ≡ reason_number reason }
 {

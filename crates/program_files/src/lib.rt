@@ -113,7 +113,8 @@ pub fn look(rt: HostRuntime, path: &[u8]) -> Option<Seen> {
     ask(rt, path).ok()
 }
 
-// Reads until the file ends or buf is full. So an endless file counts as too long, and the program does not hang.
+// Reads until the file ends or buf is full. So an endless file counts as too long, and the program does not hang. The loop goes on by as
+// many bytes as a read gave.
 fn read_all(file: &mut fs::File, buf: &mut [u8]) -> io::Result<usize>
     ensures { ReadsAtMost result buf.new }
 {

@@ -19,7 +19,8 @@ use relocations_rules::Broken;
 use relocations_types::decide;
 
 // Checks the relocations of a site in file order, each through all rules before the next, and stores what they leave from
-// `base` on, which is the number of the first of them.
+// `base` on, which is the number of the first of them. Words and sizes are two lists: one list of both would need 224 KB more stack,
+// which the C header does not allow.
 fn check_site(
     source: &Source,
     site: Site,

@@ -44,6 +44,7 @@ fn low_part(x: u64) -> u64
     lo12(x)
 }
 
+// Every operand is named here, and every form below, so that a new one has to be placed.
 // What T is counted from: P where the operand is T - P, and 0 where it is T itself. A paired operand has no T of its own.
 fn origin(operand: Operand, p: Address) -> u64
     ensures { (w t d : ℕ) → t < 2 ^ w → is_paired operand ≡ false → minus w t result ≡ operand_of w operand t p.0 d }

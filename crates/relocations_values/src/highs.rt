@@ -48,7 +48,7 @@ fn key_of(object: &[u8], site: Site, k: u32) -> u64
 }
 
 // Lists the high halves of a site, in the order of their offsets. Returns how many there are. They are sorted only where
-// an offset falls, in an object that is refused.
+// an offset falls, in an object that is refused. `highs` is a scratch array, with a count of those that are listed: there is no heap.
 pub fn list_highs(object: &[u8], site: Site, highs: &mut [u32]) -> usize
     requires { SoundSite object.now site × (count object.now site ≤ length highs.old) × (length highs.old < 2 ^ 32) }
     ensures { Listed object.now site highs.new result × (length highs.new ≡ length highs.old) }

@@ -110,7 +110,7 @@ fn rolled_back(image: &mut [u8], book: &mut [u8]) -> u64 {
     }
 }
 
-// The number of a save's answer, after the checks of an install. 255 stands for a span outside the image.
+// The number of a save's answer, as the output has it, after the checks of an install. 255 stands for a span outside the image.
 fn saved(image: &[u8], book: &mut [u8], span: Span) -> u64 {
     if !journal_format::is_sound(book, image.len()) {
         return 1;
