@@ -168,7 +168,10 @@ pub fn judge_sections(
     check_placements(object, order).map_err(Refusal::PlacementsDiffer)?;
     check_externals(object, order).map_err(Refusal::WrongExternal)?;
     let filled = fill_addresses(addresses, order);
-    check_placing(object, filled, order.counts.base, len).map_err(Refusal::Misplaced)
+    match check_placing(object, filled, order.counts.base, len) {
+        Ok(placed) => Ok(placed),
+        Err(found) => Err(Refusal::Misplaced(found.section)),
+    }
 }
 
 // A number and a place as one number: the number in the low eight bits, the place in the upper 32.

@@ -12,7 +12,7 @@ use order_format::Order;
 use std::cmp::Ordering;
 
 // The value that the n entries from `at` on give to number k, if they give one. They ascend strictly, so this is a binary search.
-// It is a loop of its own: the library searches slices of elements, and an entry is as many bytes as the class says.
+// It is a loop of its own: `std` searches slices of elements, and an entry is as many bytes as the class says.
 fn find(order: &Order<'_>, at: usize, n: usize, k: u32) -> Option<Address>
     requires { Searchable order.now.class order.now.bytes.now at n }
     ensures { result ≡ value_in order.now.class order.now.bytes.now at n k }

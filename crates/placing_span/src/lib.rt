@@ -39,7 +39,7 @@ pub fn span_of(object: &[u8], addresses: Addresses, base: Address) -> Span
             end = end_from(address, h.size, base.0).max(end);
         }
     }
-    // With none laid it is start 0, length 0.
+    // If none is laid, the span has start 0 and size 0.
     let start = lowest.min(end);
     Span {
         start: start as u32,

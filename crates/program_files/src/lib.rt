@@ -33,7 +33,7 @@ const ENAMETOOLONG: i32 = 36;
 const EILSEQ: i32 = 84;
 
 // A file as it was read: the number of its argument, how many bytes of it were read, at most one more than the limit, and
-// what was seen of it before. The bytes stay apart, in the caller's buffer, since a call changes them.
+// what was seen of it before. The bytes are apart, in the caller's buffer, since a call changes them.
 #[derive(Clone, Copy)]
 pub struct File {
     pub at: usize,
@@ -108,7 +108,7 @@ fn ask(rt: HostRuntime, path: &[u8]) -> io::Result<Seen> {
     program_modes::ask(rt, text(path)?)
 }
 
-// What is seen of the file at a path, where the reason for nothing does not matter.
+// What is seen of the file at a path, if anything is. Why nothing is seen does not matter.
 pub fn look(rt: HostRuntime, path: &[u8]) -> Option<Seen> {
     ask(rt, path).ok()
 }

@@ -78,7 +78,7 @@ fn found_bytes(object: &[u8], site: Site, rule: Rule, here: Relocation, j: usize
 }
 
 // How many high halves a site has. They are listed, unless they are listed already.
-// `highs` and `known` stay two parameters: where a struct holds the `&mut`, only its length is known once pair_at was lent it.
+// `highs` and `known` are two parameters: where a struct holds the `&mut`, only its length is known once pair_at was lent it.
 fn listed_highs(object: &[u8], site: Site, highs: &mut [u32], known: &mut Option<usize>) -> usize
     requires { SoundSite object.now site × Listing object.now site highs.old known.old }
     ensures { Listed object.now site highs.new result × Relisted object.now site highs.old highs.new known.new }
@@ -238,7 +238,7 @@ impl Source<'_> {
             place_of(site, here),
             high.unwrap_or(0),
         );
-        // The form is looked at before the pair: check 11 comes before check 12. The distance was needed before both, by the calculation.
+        // The form is looked at before the pair: check 11 comes before check 12. The calculation needs the distance before both.
         if !applied.stands {
             return Err(Finding::BadForm);
         }

@@ -8,7 +8,7 @@ ghost use Rattle.relocations_decisions.specs.Decisions.{is_store, is_refused, to
 use instructions_fields::{Field, Width};
 use relocations_types::{Calculation, Decision, Operand, Role, Rule};
 
-// Whether bytes are stored: it is no marker. The matches of this crate name every case on purpose, so that a new one has to be
+// Whether bytes are stored, so that it is neither a marker nor refused. The matches of this crate name every case on purpose, so that a new one has to be
 // placed in each.
 pub fn is_store(decision: Decision) -> bool
     ensures { result ≡ is_store decision }

@@ -130,7 +130,7 @@ pub struct Applied {
 
 // A rule at a place. `found` is the touched bytes as the object has them, and w as the relocation finds them; x is S + A in two's
 // complement, p is P, and d is the paired high half's T - P. `rvc` says that bit 0 of e_flags is set. One match on the field decides
-// everything: what goes into the field and which form is asked for are then known. The arms of the jumps stay apart, so that each
+// everything: what goes into the field and which form is asked for are then known. The arms of the jumps are apart, so that each
 // asks for one form and one range that are constants.
 pub fn apply_rule(
     class: Class,

@@ -14,7 +14,7 @@ pub type Lines<'a> = BufWriter<Printer<'a, HostRuntime>>;
 // Where the order of a pair is in the space.
 const ORDER: usize = 1_048_640;
 
-// The space that an object and an order take: as many bytes as the longest object has come before the order.
+// The space that an object and an order take: the longest object and 64 bytes more, and then 102,400 bytes for the order.
 pub const PAIR: usize = 1_151_040;
 
 #[derive(Clone, Copy)]

@@ -74,7 +74,7 @@ fn placing(out: &mut impl Write, object: &[u8], order: &Order<'_>, len: usize) -
 {
     let given = order_lookup::fill_addresses([0u64; MAX_SECTIONS], order);
     match placing_check::check_placing(object, given, order.counts.base, len) {
-        Err(i) => tests_harness::answer(out, 8, u64::from(i)),
+        Err(found) => tests_harness::answer(out, 8, u64::from(found.section)),
         Ok(array) => passed(out, object, order, array),
     }
 }

@@ -29,10 +29,3 @@ module _ (refusal : ℕ → Refusal) where
       → (out : Result (List ℕ) Refusal) → IsErrAnd out (λ y. y ≡ d) → W out
   handed_on r m h d e W w (Ok y) o = absurd o
   handed_on r m h d e W w (Err y) o = let f = found r m h d e in subst (λ y. W (Err y)) (sym (o ∙ f.2)) (w f.0 f.1)
-
-  -- where it is the caller's own result, what follows of each case of the check is said of what goes back
-  pub ended : (r : Result (List ℕ) ℕ) (m : Result (List ℕ) Refusal) → MatchResult r (λ y. m ≡ Ok y) (λ i. IsErrAnd m (λ d. d ≡ refusal i)) → (P : List ℕ → Type 0) (Q : ℕ → Type 0)
-      → MatchResult r P Q → (W : Result (List ℕ) Refusal → Type 0) → ((y : List ℕ) → P y → W (Ok y)) → ((i : ℕ) → Q i → W (Err (refusal i))) → W m
-  ended (Ok y) m h P Q f W p q = subst W (sym h) (p y f)
-  ended (Err i) (Ok y) h P Q f W p q = absurd h
-  ended (Err i) (Err d) h P Q f W p q = subst (λ d. W (Err d)) (sym h) (q i f)

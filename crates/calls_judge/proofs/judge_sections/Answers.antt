@@ -17,9 +17,9 @@ use Rattle.elf_check.proofs.Laws.Objects.{sound_object}
 use Rattle.placing_check.specs.Placing.{placing_check}
 use Rattle.calls_judgement.specs.Requires.{Readable, Named}
 use Rattle.calls_judgement.proofs.Laws.Judgement.{gives_3, gives_5, gives_6, gives_7, gives_8}
-use Rattle.calls_judge.proofs.Laws.Mapped.{passed, handed_on, ended}
+use Rattle.calls_judge.proofs.Laws.Mapped.{passed, handed_on}
 use Rattle.calls_judge.specs.Judged.{PlacedWell}
-use Rattle.calls_judge.specs.declared.Refusal.TheVariants.{BadSection, PlacementsDiffer, WrongExternal, Misplaced}
+use Rattle.calls_judge.specs.declared.Refusal.TheVariants.{BadSection, PlacementsDiffer, WrongExternal}
 use Rattle.calls_judge.proofs.judge_sections.Goals as goal
 use Rattle.calls_judge.proofs.judge_sections.Goals.{After-window_allowed, Else-not-window_allowed, After-check_sections, After-check_placements, After-check_externals, After-check_placing, Start}
 
@@ -116,10 +116,13 @@ asked_placing c =
     ap (λ b. placing_check (S s) (addresses_for (S s) (O s)) b c.args.len) (base_is s)
     ∙ ap (λ l. placing_check (S s) l c.args.order.now.counts.base.0 c.args.len) (sym (array_is c))
 
-pub returns : goal.returns
-returns c =
+pub returns-in-Ok : goal.returns-in-Ok
+returns-in-Ok c =
+    let p = (goal.at.returns-in-Ok c).After-check_placing in
+    (record { named = named p; placing = asked_placing p ∙ c.in-Ok.ensures.0 }, c.in-Ok.ensures.1 ∙ array_is p)
+
+pub returns-in-Err : goal.returns-in-Err
+returns-in-Err c =
     let a = c.args in
-    let p = (goal.at.returns c).After-check_placing in
-    ended Misplaced _ _ c.map_err-4.ensures.cases _ _ c.check_placing.ensures (PlacedWell a.object.now a.order.now.bytes.now a.order.now.counts a.len)
-    (λ handed f. (record { named = named p; placing = asked_placing p ∙ f.0 }, f.1 ∙ array_is p))
-    (λ i f. gives_8 a.object.now a.order.now.bytes.now a.len a.order.now.counts i (named p) (asked_placing p ∙ f))
+    let p = (goal.at.returns-in-Err c).After-check_placing in
+    gives_8 a.object.now a.order.now.bytes.now a.len a.order.now.counts c.in-Err.found.section (named p) (asked_placing p ∙ c.in-Err.ensures.0)
