@@ -15,6 +15,15 @@ no_values n = replicate n 0
 abbrev pub no_states : ℕ → List State
 no_states n = replicate n (Err PastTable)
 
+-- the state and the value that are stored for S
+abbrev pub state_of : SymbolValue → State
+state_of (Ok a) = Ok tt
+state_of (Err reason) = Err reason
+
+abbrev pub number_of : SymbolValue → ℕ
+number_of (Ok a) = a.0
+number_of (Err reason) = 0
+
 -- S, from a state and a value
 abbrev pub decoded : State → ℕ → SymbolValue
 decoded (Ok _) value = Ok (address value)

@@ -16,10 +16,15 @@ use Rattle.numbers_definitions.proofs.Laws.Lists.{zeros_length, zeros_at}
 use Rattle.elf_read.specs.Entries.{symbol_count}
 use Rattle.placing_symbols.specs.declared.Reason.{Reason}
 use Rattle.placing_symbols.specs.declared.Reason.TheVariants.{PastTable}
-use Rattle.placing_symbols.specs.Reasons.{State}
+use Rattle.placing_symbols.specs.Reasons.{State, SymbolValue}
 use Rattle.placing_symbols.specs.Values.{symbol_value}
-use Rattle.placing_symbols.specs.Arrays.{no_values, no_states, decoded, state_at, listed, Long, Blank, Valued}
+use Rattle.placing_symbols.specs.Arrays.{no_values, no_states, state_of, number_of, decoded, state_at, listed, Long, Blank, Valued}
 use Rattle.placing_symbols.proofs.Laws.Values.{value_past}
+
+-- what is stored for S gives S back
+decoded_stored : (v : SymbolValue) → decoded (state_of v) (number_of v) ≡ v
+decoded_stored (Ok a) = refl
+decoded_stored (Err reason) = refl
 
 zero_at : (l : List ℕ) → l ≡ no_values (length l) → (k : ℕ) → get_or l k 0 ≡ 0
 zero_at l e k = ap (λ s. get_or s k 0) e ∙ zeros_at (length l) k
