@@ -19,6 +19,7 @@ use std::io::Write;
 use std::rt::Env;
 
 // The code of a call that was done.
+// The calls of `fitter` answer by a code, as the C interface does.
 const DONE: u64 = 0;
 
 fn main(rt: HostRuntime) {

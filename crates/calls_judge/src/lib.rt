@@ -65,6 +65,7 @@ impl From<Broken> for Refusal {
 const FEW_SYMBOLS: usize = 1024;
 
 // Checks 9 to 14. `values` and `states` come as they are before anything is stored: S is worked out for every symbol first.
+// `Placeable`, `SymbolsOf`, `Blank` and `Lent` are records of one word each, of what the steps before have shown.
 fn judge_by_values(
     object: &[u8],
     order: &Order<'_>,
@@ -129,6 +130,7 @@ fn judge_with<const N: usize>(
 
 // Checks 9 to 14, of an object and an order that pass the others. If every check passes, `words` and `sizes` say what each
 // relocation stores, and `addresses` goes back as it came.
+// `highs`, `words` and `sizes` are three parameters: where a struct holds a `&mut`, only its length is known once it was lent.
 pub fn judge_relocations(
     object: &[u8],
     order: &Order<'_>,
@@ -178,7 +180,7 @@ pub fn judge_sections(
 fn pack(number: u8, place: u32) -> u64
     ensures { result ≡ packed (says number place) }
 {
-    number as u64 + 4294967296 * place as u64
+    pack_reason(number, place, 0)
 }
 
 // The same with a reason, which stands in the eight bits above the number.
@@ -189,6 +191,7 @@ fn pack_reason(number: u8, place: u32, reason: u8) -> u64
 }
 
 // Number, place and reason of an answer, as one number.
+// The C interface has these numbers.
 pub fn code_of(answer: Result<(), Refusal>) -> u64
     ensures { result ≡ packed (answer_of answer) }
 {

@@ -14,6 +14,7 @@ pub enum Call<'a> {
 }
 
 // The numbers of the kinds of calls.
+// The bytes of a list have these numbers.
 const FIT: u32 = 1;
 
 const TAKE_BACK: u32 = 2;

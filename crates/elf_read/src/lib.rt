@@ -83,6 +83,7 @@ pub struct Location {
 }
 
 // One number for an object of class 1, another for one of class 2.
+// Every class is named here, where it becomes a number, so that a new one has to be placed.
 pub fn by(class: Class, short: usize, long: usize) -> usize
     ensures { result ≡ by class short long }
 {
@@ -406,6 +407,7 @@ pub fn read_relocation(object: &[u8], h: Section, k: usize) -> Relocation
 }
 
 // The type of entry k of a RELA section, without its other fields.
+// Each class has its own call of `entry_place`, as in `read_relocation`.
 pub fn read_kind(object: &[u8], h: Section, k: usize) -> u32
     requires { EntryInside object.now h (relocation_entries (class_of object.now) h) k }
     ensures { result ≡ (relocation_at object.now h k).kind }
@@ -426,6 +428,7 @@ pub fn read_offset(object: &[u8], h: Section, k: usize) -> SectionOffset
 }
 
 // The same, for a caller that has the class.
+// Each class has its own call of `entry_place`, as in `read_relocation`.
 pub fn offset_in(class: Class, object: &[u8], h: Section, k: usize) -> SectionOffset
     requires { EntryInside object.now h (relocation_entries (class_of object.now) h) k × (class ≡ class_of object.now) }
     ensures { result ≡ (relocation_at object.now h k).offset }
@@ -437,6 +440,7 @@ pub fn offset_in(class: Class, object: &[u8], h: Section, k: usize) -> SectionOf
 }
 
 // Where relocation number k is. Relocations are numbered through all counting RELA sections.
+// Past the last one the section is the number of sections, as the definition `location_of` has it.
 pub fn locate(object: &[u8], k: usize) -> Location
     requires { TableInside object.now × (relocations_below object.now (section_count object.now) < 2 ^ 64) }
     ensures { result ≡ location_of object.now k }

@@ -43,6 +43,7 @@ fn make_call(call: Call<'_>, image: &mut [u8], ledger: &mut [u8]) -> u64
 }
 
 // Makes the n calls of a list one after the other, and puts their answers into the first places.
+// Image, ledger and answers are three buffers of the caller's.
 fn make_calls(calls: &[u8], n: usize, image: &mut [u8], ledger: &mut [u8], answers: &mut [u64])
     requires { (is_list calls.now ≡ true) × (n ≡ call_count calls.now) × (n ≤ length answers.old) }
     ensures { (files image.new ledger.new

@@ -83,6 +83,7 @@ pub fn read_cj(word: u64) -> u64
 }
 
 // A data field: all of its bytes, or the low six bits of one.
+// Every width is named, so that a new one has to be placed.
 #[tactic(auto, unfolding(instructions_fields::specs::Layouts::read))]
 pub fn read_data(width: Width, word: u64) -> u64
     ensures { result ≡ read (data_layout width) word }

@@ -29,7 +29,7 @@ pub fn reduce(class: Class, x: u64) -> u64
     x & last_address(class)
 }
 
-// The last address, whose bits are all ones.
+// The last address, whose bits are all ones. Every class is named, so that a new one has to be placed.
 fn last_address(class: Class) -> u64
     ensures { result ≡ 2 ^ bits class - 1 }
 {

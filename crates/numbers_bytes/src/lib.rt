@@ -31,6 +31,7 @@ pub trait Number: Sized {
     ghost determined: { (x y : Self) → value x ≡ value y → x ≡ y };
 }
 
+// Each type has an `impl` of its own, since `from_le_bytes` and `to_le_bytes` are methods of the types, and of no trait.
 impl Number for u8 {
     ghost size = { 1 };
 
@@ -141,6 +142,7 @@ pub fn read_address(class: Class, s: &[u8], at: usize) -> u64
 }
 
 // The number that n bytes spell, the lowest first.
+// n is the width of a number in a format, and not the length of the slice.
 pub fn read_bytes(s: &[u8], at: usize, n: usize) -> u64
     requires { (at + n ≤ length s.now) × (is_width n ≡ true) }
     ensures { result ≡ le_at n s.now at }
@@ -154,6 +156,7 @@ pub fn read_bytes(s: &[u8], at: usize, n: usize) -> u64
 }
 
 // Writes a number as n bytes, the lowest first.
+// n is that width here too.
 pub fn write_bytes(s: &mut [u8], at: usize, n: usize, x: u64)
     requires { (at + n ≤ length s.old) × (is_width n ≡ true) }
     ensures { s.new ≡ sets s.old at (bytes n x) }

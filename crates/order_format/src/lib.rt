@@ -32,6 +32,7 @@ pub struct OrderHeader {
 }
 
 // How many bytes an address takes.
+// Every class is named here, where it becomes a number, so that a new one has to be placed.
 fn address_size(class: Class) -> usize
     ensures { result ≡ address_bytes class }
 {
@@ -144,6 +145,7 @@ pub fn read_order(class: Class, order: &[u8]) -> Option<OrderHeader>
 }
 
 // An order that was read: its bytes, the class by which they were read, and their base and counts.
+// That the class is the object's stays a clause of those who have both: the definitions read it from the object.
 #[derive(Clone, Copy)]
 pub struct Order<'a> {
     pub bytes: &'a [u8],

@@ -109,6 +109,7 @@ fn ask(rt: HostRuntime, path: &[u8]) -> io::Result<Seen> {
 }
 
 // What is seen of the file at a path, if anything is. Why nothing is seen does not matter.
+// It is `look` of `program_modes` for a path as bytes.
 pub fn look(rt: HostRuntime, path: &[u8]) -> Option<Seen> {
     ask(rt, path).ok()
 }

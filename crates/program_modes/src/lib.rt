@@ -27,6 +27,7 @@ pub struct State {
 }
 
 // What was seen of a file. The permission bits are those of 0o7777.
+// `is_plain` is a field, and no Option: a file that is not plain is told from one that cannot be seen.
 #[derive(Clone, Copy)]
 pub struct Seen {
     pub is_plain: bool,

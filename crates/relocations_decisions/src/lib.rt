@@ -81,6 +81,7 @@ pub fn stack_bits(rule: Rule) -> u32
 }
 
 // The width of an ADD, SUB or SET in bits, or 0 for any other type.
+// It is no Option: the definition, by which it is promised, is a number.
 pub fn stack_width(decision: Decision) -> u32
     ensures { result ≡ stack_width decision }
 {

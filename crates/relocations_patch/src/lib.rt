@@ -121,6 +121,7 @@ fn call_reaches(class: Class, rvc: bool, v: u64) -> bool
 
 // What a relocation makes of its bytes: whether they have its form and the distance is in reach, as checks 11 and 13 ask, and the
 // bytes that it leaves.
+// It has two flags, and is no Result: check 12, which only the caller can answer, comes between the two.
 #[derive(Clone, Copy)]
 pub struct Applied {
     pub stands: bool,

@@ -9,6 +9,7 @@ use relocations_rela::sites::Site;
 use relocations_types::is_pairing;
 
 // How many high halves there are, and whether the offset of one is below that of the one before it.
+// It is no Option: where an offset falls, the count is needed too, for the sort.
 #[derive(Clone, Copy)]
 struct Gathered {
     count: usize,

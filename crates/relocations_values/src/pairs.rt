@@ -45,6 +45,7 @@ fn first_not_below(
 }
 
 // The one high half at an offset, or nothing if there is not exactly one.
+// The contract speaks of the whole array and of m, as `Listed` does. Offsets are compared by their numbers, as contracts do.
 pub fn pair_at(
     object: &[u8],
     site: Site,

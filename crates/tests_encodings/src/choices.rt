@@ -44,6 +44,7 @@ pub const OPCODES: [u8; 12] = [
 const JUMPS: [Field; 4] = [Field::B, Field::J, Field::Cb, Field::Cj];
 
 // The largest number of a width.
+// Every width is named.
 fn top(width: Width) -> u64 {
     match width {
         Width::W6 => 0x3f,

@@ -49,6 +49,7 @@ fn sections(out: &mut impl Write, object: &[u8], order: &Order<'_>, len: usize) 
 }
 
 // Check 6.
+// No check of this file is asked by `?`: each writes the line of its own number.
 fn placements(out: &mut impl Write, object: &[u8], order: &Order<'_>, len: usize) -> io::Result<()>
     requires { SoundObject object.now × (order.now.class ≡ class_of object.now) × (len ≤ max_image) }
 {

@@ -4,6 +4,7 @@ use std::io;
 use std::io::Write;
 
 // The letter of a line about an order or a window: for class 1 a small one, for class 2 a capital one.
+// Every class is named: the output has these letters.
 pub fn letter(class: Class, small: u8, capital: u8) -> u8 {
     match class {
         Class::Elf32 => small,
@@ -27,6 +28,7 @@ pub fn window(out: &mut impl Write, class: Class, base: Address, length: usize) 
     tests_harness::end(out)
 }
 
+// The number of check 3 in a line, or 0.
 fn number(is_allowed: bool) -> u64 {
     if is_allowed { 0 } else { 3 }
 }

@@ -73,7 +73,7 @@ fn case(
     answer(out, kind, image, book, span)
 }
 
-// The line of a case.
+// The line of a case. `kind` is the input's number: 1 asks for a save, 0 and 2 for a rollback.
 fn answer(
     out: &mut impl Write,
     kind: u32,
@@ -100,7 +100,7 @@ fn fill(input: &mut impl Read, s: &mut [u8], given: usize) -> io::Result<()> {
     }
 }
 
-// The number of a rollback's answer.
+// The number of a rollback's answer, as the output has it.
 fn rolled_back(image: &mut [u8], book: &mut [u8]) -> u64 {
     match journal_undo::rollback(image, book) {
         Ok(()) => 0,
