@@ -19,83 +19,64 @@ use order_lookup::Addresses;
 use placing_check::has_bytes;
 use relocations_apply::Rela;
 
-// Lays section t into the image from `at` on.
-fn lay_at(
-    object: &[u8],
-    order: &Order<'_>,
-    addresses: &[u64],
-    words: &[u64],
-    sizes: &[u8],
-    relas: &[Option<Rela>],
-    t: usize,
-    at: usize,
-    image: &mut [u8],
-)
-    requires { Fitting object.now order.now.bytes.now order.now.counts (length image.old) × (addresses.now ≡ addresses_for object.now order.now.bytes.now) × Worked object.now order.now.bytes.now addresses.now words.now sizes.now × (t < section_count object.now) × (loaded (section_at object.now t) ≡ true) × (at + (section_at object.now t).size ≤ length image.old) × (section_count object.now ≤ length addresses.now) × Indexed object.now relas.now }
-    ensures { image.new ≡ sets image.old at (relocated object.now order.now.bytes.now (addresses_for object.now order.now.bytes.now) t) }
-{
-    let h = elf_read::read_section(object, t);
-    let end = at + h.size as usize;
-    relocations_apply::lay_section(
-        object,
-        order.bytes,
-        addresses,
-        words,
-        sizes,
-        relas,
-        t,
-        &mut image[at..end],
-    );
+// What is laid: an object and an order, the address of each section, the words of all relocations and their sizes, and the RELA
+// section of each section.
+#[derive(Clone, Copy)]
+struct Laying<'a> {
+    object: &'a [u8],
+    order: &'a Order<'a>,
+    addresses: &'a [u64],
+    words: &'a [u64],
+    sizes: &'a [u8],
+    relas: &'a [Option<Rela>],
+    ghost addresses_are: { addresses.now ≡ addresses_for object.now order.now.bytes.now },
+    ghost worked: { Worked object.now order.now.bytes.now addresses.now words.now sizes.now },
+    ghost long: { section_count object.now ≤ length addresses.now },
+    ghost indexed: { Indexed object.now relas.now },
 }
 
-// Lays section t into the image, if it has bytes there.
-fn lay_one(
-    object: &[u8],
-    order: &Order<'_>,
-    addresses: &[u64],
-    words: &[u64],
-    sizes: &[u8],
-    relas: &[Option<Rela>],
-    t: usize,
-    image: &mut [u8],
-)
-    requires { Fitting object.now order.now.bytes.now order.now.counts (length image.old) × (addresses.now ≡ addresses_for object.now order.now.bytes.now) × Worked object.now order.now.bytes.now addresses.now words.now sizes.now × (t < section_count object.now) × (section_count object.now ≤ length addresses.now) × Indexed object.now relas.now }
-    ensures { image.new ≡ with_section object.now order.now.bytes.now t image.old }
-{
-    let h = elf_read::read_section(object, t);
-    if !has_bytes(h) {
-        return;
+impl Laying<'_> {
+    // Lays section t into the image from `at` on.
+    fn lay_at(&self, t: usize, at: usize, image: &mut [u8])
+        requires { Fitting self.now.object.now self.now.order.now.bytes.now self.now.order.now.counts (length image.old) × (t < section_count self.now.object.now) × (loaded (section_at self.now.object.now t) ≡ true) × (at + (section_at self.now.object.now t).size ≤ length image.old) }
+        ensures { image.new ≡ sets image.old at (relocated self.now.object.now self.now.order.now.bytes.now (addresses_for self.now.object.now self.now.order.now.bytes.now) t) }
+    {
+        let h = elf_read::read_section(self.object, t);
+        let end = at + h.size as usize;
+        relocations_apply::lay_section(
+            self.object,
+            self.order.bytes,
+            self.addresses,
+            self.words,
+            self.sizes,
+            self.relas,
+            t,
+            &mut image[at..end],
+        );
     }
-    let at = addresses[t] - order.counts.base.0;
-    lay_at(
-        object,
-        order,
-        addresses,
-        words,
-        sizes,
-        relas,
-        t,
-        at as usize,
-        image,
-    );
-}
 
-// Lays the loaded sections into the image.
-fn lay_all(
-    object: &[u8],
-    order: &Order<'_>,
-    addresses: &[u64],
-    words: &[u64],
-    sizes: &[u8],
-    relas: &[Option<Rela>],
-    image: &mut [u8],
-)
-    requires { Fitting object.now order.now.bytes.now order.now.counts (length image.old) × (addresses.now ≡ addresses_for object.now order.now.bytes.now) × Worked object.now order.now.bytes.now addresses.now words.now sizes.now × (section_count object.now ≤ length addresses.now) × Indexed object.now relas.now }
-    ensures { image.new ≡ overwritten image.old (plan_of object.now order.now.bytes.now) }
-{
-    let n = elf_read::section_count(object);
-    for t in 0..n {
-        lay_one(object, order, addresses, words, sizes, relas, t, image);
+    // Lays section t into the image, if it has bytes there.
+    fn lay_one(&self, t: usize, image: &mut [u8])
+        requires { Fitting self.now.object.now self.now.order.now.bytes.now self.now.order.now.counts (length image.old) × (t < section_count self.now.object.now) }
+        ensures { image.new ≡ with_section self.now.object.now self.now.order.now.bytes.now t image.old }
+    {
+        let h = elf_read::read_section(self.object, t);
+        if !has_bytes(h) {
+            return;
+        }
+        let at = self.addresses[t] - self.order.counts.base.0;
+        self.lay_at(t, at as usize, image);
+    }
+
+    // Lays the loaded sections into the image.
+    fn lay_all(&self, image: &mut [u8])
+        requires { Fitting self.now.object.now self.now.order.now.bytes.now self.now.order.now.counts (length image.old) }
+        ensures { image.new ≡ overwritten image.old (plan_of self.now.object.now self.now.order.now.bytes.now) }
+    {
+        let n = elf_read::section_count(self.object);
+        for t in 0..n {
+            self.lay_one(t, image);
+        }
     }
 }
 
@@ -113,5 +94,13 @@ pub fn lay(
 {
     let mut relas = [None; MAX_SECTIONS];
     relocations_apply::index_relas(object, &mut relas);
-    lay_all(object, order, &addresses, words, sizes, &relas, image);
+    let laying = Laying {
+        object,
+        order,
+        addresses: &addresses,
+        words,
+        sizes,
+        relas: &relas,
+    };
+    laying.lay_all(image);
 }

@@ -1,8 +1,0 @@
--- `calls_lay::lay_all` meets its contract. The invariant: the sections below `t` are laid.
-use mathlib.Core.Path.{◌≡◌}
-use lib.ListN.{length}
-use Rattle.calls_judgement.proofs.Laws.Laying.{laid_below}
-use Rattle.calls_lay.proofs.lay_all.Given as goal
-
-abbrev pub invariant-loop-t : goal.invariant-loop-t
-invariant-loop-t l = (length l.image ≡ length l.initial.image) × (l.image ≡ laid_below l.object l.order.bytes.now l.initial.image l.t)
