@@ -2,7 +2,7 @@
  * Aktinoph: lays RV32 and RV64 ELF objects into memory images, and takes installs back, byte for byte.
  *
  * The static library is target/staticlib/libfitter.a, which `tools/build library` writes, for x86-64 Linux.
- * It keeps no state, allocates nothing, and needs nothing but memory functions of the C library (memset).
+ * It keeps no state, allocates nothing, and needs nothing but memory functions of the C library (memcpy, memset).
  *
  * What a caller owes; all else is answered:
  *   - No pointer is null, that of an empty buffer neither. An empty buffer is never read or written.
@@ -42,7 +42,7 @@ extern "C" {
 
 /*
  * The bytes of stack that a call has to find, its own frames and scratch arrays among them. The largest frame is that of a fit,
- * of about 427,000 bytes, most of them scratch arrays for 32,768 relocations; one of about 77,000 bytes stands on it, most
+ * of about 431,000 bytes, most of them scratch arrays for 32,768 relocations; one of about 85,000 bytes stands on it, most
  * of them the values of 8,192 symbols.
  */
 #define AKTINOPH_STACK 524288

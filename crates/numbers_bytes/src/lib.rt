@@ -169,10 +169,13 @@ pub fn write_bytes(s: &mut [u8], at: usize, n: usize, x: u64)
     }
 }
 
-// Copies n bytes of `src`, from `from` on, to `dst`, from `at` on.
+// Copies n bytes of `src`, from `from` on, to `dst`, from `at` on. It is a loop, and no `copy_from_slice`: that calls `memmove`, which
+// callers in C would have to bring.
 pub fn copy(dst: &mut [u8], at: usize, src: &[u8], from: usize, n: usize)
     requires { (at + n ≤ length dst.old) × (from + n ≤ length src.now) }
     ensures { dst.new ≡ sets dst.old at (part src.now from n) }
 {
-    put(dst, at, &src[from..from + n]);
+    for i in 0..n {
+        dst[at + i] = src[from + i];
+    }
 }

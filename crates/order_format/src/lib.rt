@@ -4,7 +4,7 @@
 ghost use Rattle.std.specs.Prelude.{◌≡◌, ℕ, Some, None, MatchOption, ◌+◌, ◌*◌, ◌^◌, ◌≤◌, ◌<◌, length};
 ghost use Rattle.numbers_definitions.specs.Classes.{bits, address_bytes};
 ghost use Rattle.order_format.specs.Orders.{entry_size, empty_size, placements_start, externals_at, max_placements, max_externals, reading, entry_at, ascending, placement, external};
-ghost use Rattle.order_format.specs.Lists.{Listed};
+ghost use Rattle.order_format.specs.Lists.{Counted};
 ghost use Rattle.order_format.specs.Windows.{length_allowed, window_allowed};
 
 use numbers_definitions::{Address, Class};
@@ -99,11 +99,11 @@ fn ascends(class: Class, order: &[u8], at: usize, n: usize) -> bool
     true
 }
 
-// How many entries the list that starts at `at` has, or nothing where they are more than `most`, do not lie inside the order or do
-// not ascend. The count of a list is the four bytes before it.
-fn read_list(class: Class, order: &[u8], at: usize, most: usize) -> Option<usize>
+// How many entries the list that starts at `at` has, or nothing where they are more than `most` or do not lie inside the order. The
+// count of a list is the four bytes before it.
+fn read_count(class: Class, order: &[u8], at: usize, most: usize) -> Option<usize>
     requires { (4 ≤ at) × (at ≤ length order.now) × (most ≤ max_externals) }
-    ensures { MatchOption result ((n : ℕ) → Listed class order.now at most n → ⊥) (λ n. Listed class order.now at most n) }
+    ensures { MatchOption result ((n : ℕ) → Counted class order.now at most n → ⊥) (λ n. Counted class order.now at most n) }
 {
     let n = numbers_bytes::read::<u32>(order, at - 4) as usize;
     if most < n {
@@ -112,13 +112,11 @@ fn read_list(class: Class, order: &[u8], at: usize, most: usize) -> Option<usize
     if order.len() < entry_place(class, at, n) {
         return None;
     }
-    if !ascends(class, order, at, n) {
-        return None;
-    }
     Some(n)
 }
 
-// Check 2: the base and the counts of an order, or nothing where the bytes are not an order.
+// Check 2: the base and the counts of an order, or nothing where the bytes are not an order. Both counts and the length are looked
+// at before a list is gone over, so that bytes of a wrong length are refused at once.
 pub fn read_order(class: Class, order: &[u8]) -> Option<OrderHeader>
     ensures { result ≡ reading class order.now }
 {
@@ -128,13 +126,20 @@ pub fn read_order(class: Class, order: &[u8]) -> Option<OrderHeader>
     if numbers_bytes::read::<u32>(order, 0) != 1 {
         return None;
     }
-    let placements = read_list(class, order, placements_start(class), MAX_PLACEMENTS)?;
+    let first = placements_start(class);
+    let placements = read_count(class, order, first, MAX_PLACEMENTS)?;
     let start = externals_start(class, placements);
     if order.len() < start {
         return None;
     }
-    let externals = read_list(class, order, start, MAX_EXTERNALS)?;
+    let externals = read_count(class, order, start, MAX_EXTERNALS)?;
     if order.len() != entry_place(class, start, externals) {
+        return None;
+    }
+    if !ascends(class, order, first, placements) {
+        return None;
+    }
+    if !ascends(class, order, start, externals) {
         return None;
     }
     Some(OrderHeader {

@@ -127,7 +127,7 @@ pub fn symbols_of(object: &[u8]) -> Symbols
 
 // Works S out for every symbol, in one way through the table and through the order's external values. `addresses` is passed by
 // value and handed back. The states past the table stay as they come, which says that they are past it.
-// Values and states are two arrays: one array of Results would need 57 KB more stack, which the C header does not allow.
+// Values and states are two arrays: one array of Results would need 48 KB more stack, which the C header does not allow.
 pub fn symbol_values(
     object: &[u8],
     order: &Order<'_>,

@@ -56,6 +56,14 @@ fn apply_all(object: &[u8], site: Site, words: &[u64], sizes: &[u8], base: usize
     }
 }
 
+// Copies bytes into a part of the same length.
+fn copy(from: &[u8], part: &mut [u8])
+    requires { length from.now ≡ length part.old }
+    ensures { part.new ≡ from.now }
+{
+    numbers_bytes::copy(part, 0, from, 0, from.len());
+}
+
 // The RELA section of a section, and the number of its first relocation.
 #[derive(Clone, Copy)]
 pub struct Rela {
@@ -100,7 +108,7 @@ pub fn lay_section(
     ensures { part.new ≡ relocated object.now order.now addresses.now t }
 {
     let h = elf_read::read_section(object, t);
-    part.copy_from_slice(elf_read::section_bytes(object, h));
+    copy(elf_read::section_bytes(object, h), part);
     if let Some(rela) = relas[t] {
         let site = site_at(object, addresses, rela.section as usize);
         apply_all(object, site, words, sizes, rela.first as usize, part);

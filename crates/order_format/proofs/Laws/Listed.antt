@@ -23,17 +23,21 @@ module _ (c : Class) (s : List ℕ) (at : ℕ) where
     pub placements_listed : at ≡ placements_start c → Listed c s at max_placements h.placements
     placements_listed a =
         record {
-          count_is = k.placements_are ∙ ap (le_at 4 s) (omega arith);
-          few = k.few;
-          inside = omega (arith, k.room);
+          counted = record {
+            count_is = k.placements_are ∙ ap (le_at 4 s) (omega arith);
+            few = k.few;
+            inside = omega (arith, k.room);
+          };
           ascends = rw a k.placed;
         }
 
     pub externals_listed : at ≡ externals_at c h.placements → Listed c s at max_externals h.externals
     externals_listed a =
         record {
-          count_is = k.externals_are ∙ ap (le_at 4 s) (omega arith);
-          few = k.some;
-          inside = omega (arith, k.whole);
+          counted = record {
+            count_is = k.externals_are ∙ ap (le_at 4 s) (omega arith);
+            few = k.some;
+            inside = omega (arith, k.whole);
+          };
           ascends = rw a k.given;
         }

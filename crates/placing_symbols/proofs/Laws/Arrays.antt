@@ -93,16 +93,22 @@ module _ (object order addresses : List ℕ) where
       }
 
   module _ (values : List ℕ) (states : List State) (n : ℕ) (b : ValuedBelow values states n) (h : n < length states) where
+    -- one more symbol: its state is stored, and its value where the state asks for one
+    below_next : (after : List ℕ) → length after ≡ length values → ((k : ℕ) → k < n → get_or after k 0 ≡ get_or values k 0)
+        → (v : SymbolValue) → decoded (state_of v) (get_or after n 0) ≡ decoded (state_of v) (number_of v) → v ≡ symbol_value object order addresses n
+        → ValuedBelow after (set states n (state_of v)) (n + 1)
+    below_next after long before v stored is = below_set values after states n b h long before (state_of v) (stored ∙ decoded_stored v ∙ is)
+
     -- one more symbol, which resolves
     pub below_resolved : (a : Address) → Ok a ≡ symbol_value object order addresses n → ValuedBelow (set values n a.0) (set states n (Ok tt)) (n + 1)
     below_resolved a is =
         let there : n < length values = omega (arith, b.long.arrays.same_length) in
-        below_set values (set values n a.0) states n b h (length-set values n a.0) (λ k l. get_or-set_other values n k a.0 0 (λ z. omega arith)) (Ok tt)
-        (ap (λ v. decoded (Ok tt) v) (get_or-set_same values n a.0 0 there) ∙ is)
+        below_next (set values n a.0) (length-set values n a.0) (λ k l. get_or-set_other values n k a.0 0 (λ z. omega arith)) (Ok a)
+        (ap (λ m. decoded (Ok tt) m) (get_or-set_same values n a.0 0 there)) is
 
     -- one more symbol, which does not
     pub below_unresolved : (reason : Reason) → Err reason ≡ symbol_value object order addresses n → ValuedBelow values (set states n (Err reason)) (n + 1)
-    below_unresolved reason is = below_set values values states n b h refl (λ k l. refl) (Err reason) is
+    below_unresolved reason is = below_next values refl (λ k l. refl) (Err reason) refl is
 
   -- every symbol of the table
   pub below_all : (values : List ℕ) (states : List State) (n : ℕ) → ValuedBelow values states n → 0 < n → symbol_count object ≤ n

@@ -36,15 +36,15 @@ section_bytes-requires c =
     let f = c.requires in
     rw c.read_section-h.ensures (loaded_inside a.object.now f.0 a.t f.4 f.5)
 
-pub copy_from_slice-requires : goal.copy_from_slice-requires
+pub copy-requires : goal.copy-requires
 unfolding bytes_of
-copy_from_slice-requires c =
+copy-requires c =
     let a = c.args in
     let s = a.object.now in
     let f = c.requires in
     let inside = loaded_inside s f.0 a.t f.4 f.5 in
     let size : length (bytes_of s (section_at s a.t)) ≡ (section_at s a.t).size = length_part s (section_at s a.t).offset.0 (section_at s a.t).size inside.inside in
-    rw (c.section_bytes.ensures, c.read_section-h.ensures) (f.6 ∙ sym size)
+    rw (c.section_bytes.ensures, c.read_section-h.ensures) (size ∙ sym f.6)
 
 pub site_at-site-requires : goal.site_at-site-requires
 site_at-site-requires c =
@@ -79,7 +79,7 @@ apply_all-requires c =
     let counts = rela_found s a.t (rela_there at) in
     let fine : Checked s a.order.now a.addresses.now c.site_at-site.result =
     subst (Checked s a.order.now a.addresses.now) (sym (site_is at)) (checked s a.order.now a.addresses.now f.0 f.1 f.2 i (rela_there at) counts.0) in
-    let held = c.copy_from_slice.ensures.after ∙ c.section_bytes.ensures ∙ ap (bytes_of s) c.read_section-h.ensures ∙ sym (found_target s a.addresses.now a.t (rela_there at)) ∙ ap (found s) (sym (site_is at)) in
+    let held = c.copy.ensures ∙ c.section_bytes.ensures ∙ ap (bytes_of s) c.read_section-h.ensures ∙ sym (found_target s a.addresses.now a.t (rela_there at)) ∙ ap (found s) (sym (site_is at)) in
     let size = ap length held ∙ found_length s c.site_at-site.result fine.site in (
       f.0.table.header,
       omega (arith, room at, f.3.words_room.room),
@@ -102,4 +102,4 @@ pub returns-in_default : goal.returns-in_default
 returns-in_default c =
     let a = c.args in
     let s = a.object.now in
-    c.copy_from_slice.ensures.after ∙ c.section_bytes.ensures ∙ ap (bytes_of s) c.read_section-h.ensures ∙ sym (relocated_none s a.order.now a.addresses.now a.t (c.requires.8.none a.t c.requires.4 c.in_default.is))
+    c.copy.ensures ∙ c.section_bytes.ensures ∙ ap (bytes_of s) c.read_section-h.ensures ∙ sym (relocated_none s a.order.now a.addresses.now a.t (c.requires.8.none a.t c.requires.4 c.in_default.is))
