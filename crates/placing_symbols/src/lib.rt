@@ -6,7 +6,7 @@ ghost use Rattle.elf_read.specs.Headers.{class_of};
 ghost use Rattle.elf_check.specs.Requires.{SoundObject};
 ghost use Rattle.placing_symbols.specs.Reasons.{reason_number, because};
 ghost use Rattle.placing_symbols.specs.Values.{is_wrong_type, of_entry};
-ghost use Rattle.placing_symbols.specs.Arrays.{listed, ValueArrays, Blank, Valued};
+ghost use Rattle.placing_symbols.specs.Arrays.{state_of, number_of, listed, ValueArrays, Blank, Valued};
 ghost use Rattle.placing_symbols.specs.Requires.{SymbolsOf};
 
 use elf_read::{
@@ -125,6 +125,20 @@ pub fn symbols_of(object: &[u8]) -> Symbols
     }
 }
 
+// The state that is stored for S.
+fn state_of(value: SymbolValue) -> Result<(), Reason>
+    ensures { result ≡ state_of value }
+{
+    value.map(|_| ())
+}
+
+// The value that is stored for S: 0 if the symbol does not resolve.
+fn number_of(value: SymbolValue) -> u64
+    ensures { result ≡ number_of value }
+{
+    value.map_or(0, |s| s.0)
+}
+
 // Works S out for every symbol, in one way through the table and through the order's external values. `addresses` is passed by
 // value and handed back. The states past the table stay as they come, which says that they are past it.
 // Values and states are two arrays: one array of Results would need 48 KB more stack, which the C header does not allow.
@@ -153,12 +167,10 @@ pub fn symbol_values(
         let given = taken.value;
         let value = entry_value(object, given, start, symbol);
         next = taken.next;
-        match value {
-            Ok(s) => {
-                values[k] = s.0;
-                states[k] = Ok(());
-            }
-            Err(reason) => states[k] = Err(reason),
+        states[k] = state_of(value);
+        // The value of any other symbol is 0 already, and is not stored again.
+        if value.is_ok() {
+            values[k] = number_of(value);
         }
     }
     addresses

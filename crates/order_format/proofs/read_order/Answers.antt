@@ -52,12 +52,12 @@ second_ascends c = rw (← c.externals_start-start.ensures) c.ascends-2.ensures
 pub returns-then-not-ascends : goal.returns-then-not-ascends
 returns-then-not-ascends c =
     unsound_read _ _ _ _ (placements_are (goal.at.returns-then-not-ascends c).After-externals_start-start) (externals_are (goal.at.returns-then-not-ascends c).After-entry_place)
-    (λ k. not_both _ _ (ap not c.if-not-ascends.true) (first_ascends (goal.at.returns-then-not-ascends c).After-ascends) k.placed)
+    (λ k. not_both _ _ (ap not c.if-not-ascends.true) c.ascends.ensures (placements_listed _ _ _ _ k c.placements_start-first.ensures).ascends)
 
 pub returns-then-not-ascends-2 : goal.returns-then-not-ascends-2
 returns-then-not-ascends-2 c =
     unsound_read _ _ _ _ (placements_are (goal.at.returns-then-not-ascends-2 c).After-externals_start-start) (externals_are (goal.at.returns-then-not-ascends-2 c).After-entry_place)
-    (λ k. not_both _ _ (ap not c.if-not-ascends-2.true) (second_ascends (goal.at.returns-then-not-ascends-2 c).After-ascends-2) k.given)
+    (λ k. not_both _ _ (ap not c.if-not-ascends-2.true) c.ascends-2.ensures (externals_listed _ _ _ _ k c.externals_start-start.ensures).ascends)
 
 pub returns : goal.returns
 returns c =

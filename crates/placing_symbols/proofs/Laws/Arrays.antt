@@ -1,6 +1,7 @@
 -- The arrays of S, as they fill.
 use Rattle.std.specs.Prelude.{Err, Ok}
-use Rattle.numbers_definitions.specs.declared.Address.{Address}
+use Rattle.std.specs.Result.{is_ok}
+use Rattle.std.proofs.lemmas.Bool.{true≢false}
 use mathlib.Core.Path.{◌≡◌, refl, sym, ap, ◌∙◌}
 use mathlib.Core.Bool.{Bool, true, false, cond}
 use mathlib.Core.List.{List}
@@ -14,7 +15,6 @@ use borrow.Author.Tests.{ltb-true, ltb-false}
 use borrow.Author.Count.{below_more}
 use Rattle.numbers_definitions.proofs.Laws.Lists.{zeros_length, zeros_at}
 use Rattle.elf_read.specs.Entries.{symbol_count}
-use Rattle.placing_symbols.specs.declared.Reason.{Reason}
 use Rattle.placing_symbols.specs.declared.Reason.TheVariants.{PastTable}
 use Rattle.placing_symbols.specs.Reasons.{State, SymbolValue}
 use Rattle.placing_symbols.specs.Values.{symbol_value}
@@ -25,6 +25,11 @@ use Rattle.placing_symbols.proofs.Laws.Values.{value_past}
 decoded_stored : (v : SymbolValue) → decoded (state_of v) (number_of v) ≡ v
 decoded_stored (Ok a) = refl
 decoded_stored (Err reason) = refl
+
+-- no value is read of an S that does not resolve
+unused : (v : SymbolValue) → is_ok v ≡ false → (m : ℕ) → decoded (state_of v) m ≡ decoded (state_of v) (number_of v)
+unused (Ok a) e m = absurd (true≢false e)
+unused (Err reason) e m = refl
 
 zero_at : (l : List ℕ) → l ≡ no_values (length l) → (k : ℕ) → get_or l k 0 ≡ 0
 zero_at l e k = ap (λ s. get_or s k 0) e ∙ zeros_at (length l) k
@@ -93,22 +98,19 @@ module _ (object order addresses : List ℕ) where
       }
 
   module _ (values : List ℕ) (states : List State) (n : ℕ) (b : ValuedBelow values states n) (h : n < length states) where
-    -- one more symbol: its state is stored, and its value where the state asks for one
-    below_next : (after : List ℕ) → length after ≡ length values → ((k : ℕ) → k < n → get_or after k 0 ≡ get_or values k 0)
-        → (v : SymbolValue) → decoded (state_of v) (get_or after n 0) ≡ decoded (state_of v) (number_of v) → v ≡ symbol_value object order addresses n
-        → ValuedBelow after (set states n (state_of v)) (n + 1)
-    below_next after long before v stored is = below_set values after states n b h long before (state_of v) (stored ∙ decoded_stored v ∙ is)
-
-    -- one more symbol, which resolves
-    pub below_resolved : (a : Address) → Ok a ≡ symbol_value object order addresses n → ValuedBelow (set values n a.0) (set states n (Ok tt)) (n + 1)
-    below_resolved a is =
+    -- one more symbol
+    pub below_next : (v : SymbolValue) → v ≡ symbol_value object order addresses n
+        → ValuedBelow (set values n (number_of v)) (set states n (state_of v)) (n + 1)
+    below_next v is =
         let there : n < length values = omega (arith, b.long.arrays.same_length) in
-        below_next (set values n a.0) (length-set values n a.0) (λ k l. get_or-set_other values n k a.0 0 (λ z. omega arith)) (Ok a)
-        (ap (λ m. decoded (Ok tt) m) (get_or-set_same values n a.0 0 there)) is
+        below_set values (set values n (number_of v)) states n b h (length-set values n (number_of v)) (λ k l. get_or-set_other values n k (number_of v) 0 (λ z. omega arith))
+        (state_of v) (ap (λ m. decoded (state_of v) m) (get_or-set_same values n (number_of v) 0 there) ∙ decoded_stored v ∙ is)
 
-    -- one more symbol, which does not
-    pub below_unresolved : (reason : Reason) → Err reason ≡ symbol_value object order addresses n → ValuedBelow values (set states n (Err reason)) (n + 1)
-    below_unresolved reason is = below_next values refl (λ k l. refl) (Err reason) refl is
+    -- one more symbol, which does not resolve: its state is enough
+    pub below_unresolved : (v : SymbolValue) → is_ok v ≡ false → v ≡ symbol_value object order addresses n
+        → ValuedBelow values (set states n (state_of v)) (n + 1)
+    below_unresolved v unresolved is =
+        below_set values values states n b h refl (λ k l. refl) (state_of v) (unused v unresolved (get_or values n 0) ∙ decoded_stored v ∙ is)
 
   -- every symbol of the table
   pub below_all : (values : List ℕ) (states : List State) (n : ℕ) → ValuedBelow values states n → 0 < n → symbol_count object ≤ n
