@@ -155,23 +155,22 @@ pub fn symbol_values(
 {
     let table = symbols.table;
     let count = symbols.count;
+    // A local copy, so that nothing of it need be worked out again after each store.
+    let order = *order;
     // Symbol 0 resolves, to 0.
     states[0] = Ok(());
-    let first = take_external(order, 0, 0);
+    let first = take_external(&order, 0, 0);
     let mut next = first.next;
     for k in 1..count {
         let symbol = elf_read::read_symbol(object, table, k);
         let section = usize::from(symbol.section);
         let start = addresses.get(section).copied().unwrap_or(0);
-        let taken = take_external(order, next, k as u32);
+        let taken = take_external(&order, next, k as u32);
         let given = taken.value;
         let value = entry_value(object, given, start, symbol);
         next = taken.next;
+        values[k] = number_of(value);
         states[k] = state_of(value);
-        // The value of any other symbol is 0 already, and is not stored again.
-        if value.is_ok() {
-            values[k] = number_of(value);
-        }
     }
     addresses
 }

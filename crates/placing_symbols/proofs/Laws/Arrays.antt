@@ -1,7 +1,5 @@
 -- The arrays of S, as they fill.
 use Rattle.std.specs.Prelude.{Err, Ok}
-use Rattle.std.specs.Result.{is_ok}
-use Rattle.std.proofs.lemmas.Bool.{true≢false}
 use mathlib.Core.Path.{◌≡◌, refl, sym, ap, ◌∙◌}
 use mathlib.Core.Bool.{Bool, true, false, cond}
 use mathlib.Core.List.{List}
@@ -25,11 +23,6 @@ use Rattle.placing_symbols.proofs.Laws.Values.{value_past}
 decoded_stored : (v : SymbolValue) → decoded (state_of v) (number_of v) ≡ v
 decoded_stored (Ok a) = refl
 decoded_stored (Err reason) = refl
-
--- no value is read of an S that does not resolve
-unused : (v : SymbolValue) → is_ok v ≡ false → (m : ℕ) → decoded (state_of v) m ≡ decoded (state_of v) (number_of v)
-unused (Ok a) e m = absurd (true≢false e)
-unused (Err reason) e m = refl
 
 zero_at : (l : List ℕ) → l ≡ no_values (length l) → (k : ℕ) → get_or l k 0 ≡ 0
 zero_at l e k = ap (λ s. get_or s k 0) e ∙ zeros_at (length l) k
@@ -76,41 +69,27 @@ module _ (object order addresses : List ℕ) where
         rest = λ k h. get_or-set_other states 0 k (Ok tt) (Err PastTable) (λ z. omega arith) ∙ blank_at states b.states_are k;
       }
 
-  -- one more state, and the values as they then are
-  below_set : (values after : List ℕ) (states : List State) (n : ℕ) → ValuedBelow values states n → n < length states
-      → length after ≡ length values → ((k : ℕ) → k < n → get_or after k 0 ≡ get_or values k 0)
-      → (state : State) → decoded state (get_or after n 0) ≡ symbol_value object order addresses n
-      → ValuedBelow after (set states n state) (n + 1)
-  below_set values after states n b h long before state is =
+  -- one more symbol
+  pub below_next : (values : List ℕ) (states : List State) (n : ℕ) → ValuedBelow values states n → n < length states
+      → (v : SymbolValue) → v ≡ symbol_value object order addresses n
+      → ValuedBelow (set values n (number_of v)) (set states n (state_of v)) (n + 1)
+  below_next values states n b h v is =
       let l = b.long in
-      let same = length-set states n state in
+      let long : n < length values = omega (arith, l.arrays.same_length) in
+      let wider = length-set values n (number_of v) in
+      let same = length-set states n (state_of v) in
       record {
         long = record {
-          arrays = record { same_length = long ∙ l.arrays.same_length ∙ sym same };
+          arrays = record { same_length = wider ∙ l.arrays.same_length ∙ sym same };
           some = omega (arith, same, l.some);
           all = omega (arith, same, l.all);
         };
         below =
-            below_more (λ k. decoded (state_at (set states n state) k) (get_or after k 0) ≡ symbol_value object order addresses k) n
-            (λ k l. rw (get_or-set_other states n k state (Err PastTable) (λ z. omega arith), before k l) (b.below k l))
-            (rw (get_or-set_same states n state (Err PastTable) h) is);
-        rest = λ k l. get_or-set_other states n k state (Err PastTable) (λ z. omega arith) ∙ b.rest k (omega arith);
+            below_more (λ k. decoded (state_at (set states n (state_of v)) k) (get_or (set values n (number_of v)) k 0) ≡ symbol_value object order addresses k) n
+            (λ k l. rw (get_or-set_other states n k (state_of v) (Err PastTable) (λ z. omega arith), get_or-set_other values n k (number_of v) 0 (λ z. omega arith)) (b.below k l))
+            (rw (get_or-set_same states n (state_of v) (Err PastTable) h, get_or-set_same values n (number_of v) 0 long) (decoded_stored v ∙ is));
+        rest = λ k l. get_or-set_other states n k (state_of v) (Err PastTable) (λ z. omega arith) ∙ b.rest k (omega arith);
       }
-
-  module _ (values : List ℕ) (states : List State) (n : ℕ) (b : ValuedBelow values states n) (h : n < length states) where
-    -- one more symbol
-    pub below_next : (v : SymbolValue) → v ≡ symbol_value object order addresses n
-        → ValuedBelow (set values n (number_of v)) (set states n (state_of v)) (n + 1)
-    below_next v is =
-        let there : n < length values = omega (arith, b.long.arrays.same_length) in
-        below_set values (set values n (number_of v)) states n b h (length-set values n (number_of v)) (λ k l. get_or-set_other values n k (number_of v) 0 (λ z. omega arith))
-        (state_of v) (ap (λ m. decoded (state_of v) m) (get_or-set_same values n (number_of v) 0 there) ∙ decoded_stored v ∙ is)
-
-    -- one more symbol, which does not resolve: its state is enough
-    pub below_unresolved : (v : SymbolValue) → is_ok v ≡ false → v ≡ symbol_value object order addresses n
-        → ValuedBelow values (set states n (state_of v)) (n + 1)
-    below_unresolved v unresolved is =
-        below_set values values states n b h refl (λ k l. refl) (state_of v) (unused v unresolved (get_or values n 0) ∙ decoded_stored v ∙ is)
 
   -- every symbol of the table
   pub below_all : (values : List ℕ) (states : List State) (n : ℕ) → ValuedBelow values states n → 0 < n → symbol_count object ≤ n

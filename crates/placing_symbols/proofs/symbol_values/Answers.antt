@@ -1,6 +1,6 @@
 -- `placing_symbols::symbol_values` meets its contract.
 use Rattle.std.specs.Option.{unwrap_or}
-use mathlib.Core.Path.{◌≡◌, refl, sym, ap, ◌∙◌}
+use mathlib.Core.Path.{◌≡◌, refl, ap, ◌∙◌}
 use Prim.Native.Nat.{◌≤◌, ◌<◌}
 use native.Mathlib.Omega.{arith}
 use lib.ListN.{length, get_or}
@@ -11,9 +11,9 @@ use Rattle.elf_check.proofs.Laws.Bounds.{symbol_inside, symbols_few}
 use Rattle.order_lookup.specs.Values.{external_value}
 use Rattle.placing_symbols.specs.Values.{of_entry, symbol_value}
 use Rattle.placing_symbols.proofs.Laws.Values.{value_read}
-use Rattle.placing_symbols.proofs.Laws.Arrays.{below_one, below_next, below_unresolved, below_all}
+use Rattle.placing_symbols.proofs.Laws.Arrays.{below_one, below_next, below_all}
 use Rattle.placing_symbols.proofs.symbol_values.Goals as goal
-use Rattle.placing_symbols.proofs.symbol_values.Goals.{then-is_ok, else-is_ok, In-loop-k, After-unwrap_or-start}
+use Rattle.placing_symbols.proofs.symbol_values.Goals.{In-loop-k, After-unwrap_or-start}
 
 -- the symbol is one of the table, and both arrays have room for it
 in_table : (c : In-loop-k) → let h = c.loop-k in let s = c.args.object.now in
@@ -48,12 +48,8 @@ loop-k-preserved c =
     let is : c.entry_value-value.result ≡ symbol_value s c.args.order.now.bytes.now c.args.addresses k =
     c.entry_value-value.ensures
     ∙ ap (λ g. of_entry s g c.unwrap_or-start.result c.read_symbol-symbol.result) (c.take_external-taken.ensures.0 ∙ ap (λ n. external_value n c.args.order.now.bytes.now k) c.requires.1)
-    ∙ value_read s c.args.order.now.bytes.now c.args.addresses k (omega arith) (in_table (goal.at.loop-k-preserved c).In-loop-k).0 _ symbol _ (start_is (goal.at.loop-k-preserved c).After-unwrap_or-start) in
-    let room = (in_table (goal.at.loop-k-preserved c).In-loop-k).2 in (
-      elim c.if-is_ok.branch [
-        | then-is_ok w ↦ rw (w.values-is, w.number_of.ensures, c.state_of.ensures) (below_next _ _ _ _ _ _ c.loop-k.invariant.0 room _ is)
-        | else-is_ok w ↦ rw (w.values-is, c.state_of.ensures) (below_unresolved _ _ _ _ _ _ c.loop-k.invariant.0 room _ (sym c.is_ok.ensures.value ∙ w.if-is_ok.false) is)
-      ],
+    ∙ value_read s c.args.order.now.bytes.now c.args.addresses k (omega arith) (in_table (goal.at.loop-k-preserved c).In-loop-k).0 _ symbol _ (start_is (goal.at.loop-k-preserved c).After-unwrap_or-start) in (
+      rw (c.number_of.ensures, c.state_of.ensures) (below_next _ _ _ _ _ _ c.loop-k.invariant.0 (in_table (goal.at.loop-k-preserved c).In-loop-k).2 _ is),
       c.take_external-taken.ensures.1,
     )
 
